@@ -1,0 +1,31 @@
+-- Document 01, "Bounds": the figures that several layers share. Each stands here and nowhere else.
+use Prim.Native.Nat.{ℕ}
+
+-- bytes of an AF packet
+abbrev pub least-l : ℕ
+least-l = 12
+
+abbrev pub most-l : ℕ
+most-l = 8192
+
+-- fragments of a packet
+abbrev pub most-f : ℕ
+most-f = 256
+
+-- bytes of a place, in which the fragments of one packet are kept
+abbrev pub place : ℕ
+place = 12288
+
+-- data bytes of a chunk, and its parity bytes (clause 7.3.1: p = 48)
+abbrev pub most-k : ℕ
+most-k = 207
+
+abbrev pub parity : ℕ
+parity = 48
+
+-- losses that may be asked for, and bytes of a datagram
+abbrev pub most-m : ℕ
+most-m = 5
+
+abbrev pub most-mtu : ℕ
+most-mtu = 16384

@@ -1,0 +1,115 @@
+// What every layer shares: the bounds of document 01, big-endian numbers, and copying into a part of a buffer.
+ghost use mathlib.Core.Path.{_≡_};
+ghost use Prim.Native.Nat.{_<_};
+ghost use lib.ListN.{getD};
+ghost use Rattle.base.specs.Answer.{outcome};
+ghost use Rattle.base.specs.Bytes.{numberAt, bytesOf};
+ghost use Rattle.base.specs.Written.{numberOf, putOf};
+
+// The bounds; specs/Bounds.antt says what each is.
+pub const LEAST_L: usize = 12;
+
+pub const MOST_L: usize = 8192;
+
+pub const MOST_F: usize = 256;
+
+pub const PLACE: usize = 12288;
+
+pub const MOST_K: usize = 207;
+
+pub const PARITY: usize = 48;
+
+pub const MOST_M: usize = 5;
+
+pub const MOST_MTU: usize = 16384;
+
+// The answer of a call that writes: all was written, or the number of the refusal, and then nothing was.
+pub enum Written {
+    Done,
+    Refused(u8),
+}
+
+// The byte at i, and 0 past the end.
+pub fn byte_at(s: &[u8], i: usize) -> u8
+    ensures { λ r. ⌜ r ≡ getD (now (s .entry)) i 0 ⌝ }
+{
+    if i < s.len() { s[i] } else { 0 }
+}
+
+// The number in the two bytes from i on; a byte past the end counts as 0.
+pub fn read2(s: &[u8], i: usize) -> u16
+    ensures { λ r. ⌜ r ≡ numberAt 2 (now (s .entry)) i ⌝ }
+{
+    if i < s.len() {
+        byte_at(s, i) as u16 * 256 + byte_at(s, i + 1) as u16
+    } else {
+        0
+    }
+}
+
+// The same for three bytes.
+pub fn read3(s: &[u8], i: usize) -> u32
+    ensures { λ r. ⌜ (r ≡ numberAt 3 (now (s .entry)) i) × (r < 16777216) ⌝ }
+{
+    if i < s.len() {
+        read2(s, i) as u32 * 256 + byte_at(s, i + 2) as u32
+    } else {
+        0
+    }
+}
+
+// The same for four bytes.
+pub fn read4(s: &[u8], i: usize) -> u32
+    ensures { λ r. ⌜ r ≡ numberAt 4 (now (s .entry)) i ⌝ }
+{
+    if i < s.len() {
+        read3(s, i) * 256 + byte_at(s, i + 3) as u32
+    } else {
+        0
+    }
+}
+
+// The two bytes of a number.
+pub fn bytes2(x: u16) -> [u8; 2]
+    ensures { λ r. ⌜ r ≡ bytesOf 2 x ⌝ }
+{
+    [(x / 256 % 256) as u8, (x % 256) as u8]
+}
+
+// The three low bytes of a number.
+pub fn bytes3(x: u32) -> [u8; 3]
+    ensures { λ r. ⌜ r ≡ bytesOf 3 x ⌝ }
+{
+    [
+        (x / 65536 % 256) as u8,
+        (x / 256 % 256) as u8,
+        (x % 256) as u8,
+    ]
+}
+
+// The four bytes of a number.
+pub fn bytes4(x: u32) -> [u8; 4]
+    ensures { λ r. ⌜ r ≡ bytesOf 4 x ⌝ }
+{
+    [
+        (x / 16777216 % 256) as u8,
+        (x / 65536 % 256) as u8,
+        (x / 256 % 256) as u8,
+        (x % 256) as u8,
+    ]
+}
+
+// Copies s into d from `at` on; 1 ROOM where it would pass the end, and then d stays as it is.
+pub fn put(d: &mut [u8], at: usize, s: &[u8]) -> Written
+    ensures { λ r. ⌜ outcome (numberOf r) (now (d .exit)) ≡ putOf (now (d .entry)) at (now (s .entry)) ⌝ }
+{
+    if d.len() < at {
+        return Written::Refused(1);
+    }
+    if d.len() - at < s.len() {
+        return Written::Refused(1);
+    }
+    let end = at + s.len();
+    bytes::copy(s, &mut d[at..end]);
+    Written::Done
+}
