@@ -1,8 +1,10 @@
 pub mod Logic
+pub mod Ceil
 pub mod Xor
 pub mod Every
 pub mod Firsts
 pub mod Splice
 pub mod Answers
+pub mod Tables
 pub mod ByteLaws
 pub mod Numbers

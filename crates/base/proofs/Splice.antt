@@ -4,8 +4,8 @@ use mathlib.Core.List.{List, [], _∷_, _++_, append-assoc, append-nil}
 use Prim.Native.Nat.{ℕ, zero, suc, _+_, _-_, _<_, _≤_}
 use native.Mathlib.Nat.{add-zero, add-sub-cancel-left, min-le-left}
 use native.Mathlib.Omega.{arith}
-use lib.ListN.{length, getD, take, drop, length-append, length-take, length-drop, take-append-drop, drop-of-length-le, List·getD-append}
-use lib.Seq.{length-take-le, take-at, drop-at, take-length, drop-drop, drop-append-add, take-append-le, getD-take, getD-drop, getD-append-add}
+use lib.ListN.{length, getD, take, drop, set, length-append, length-take, length-drop, take-append-drop, drop-of-length-le}
+use lib.Seq.{length-take-le, take-at, drop-at, take-length, drop-drop, drop-append-add, drop-cons, set-at}
 use Rattle.base.specs.Bytes.{splice}
 
 -- nothing written
@@ -53,6 +53,22 @@ splice-next d a b n e =
     ap (λ (l : List ℕ). l ++ (b ++ drop (n + length b) (a ++ x))) (take-at a x n e)
     ∙ ap (λ (l : List ℕ). a ++ (b ++ l)) z
     ∙ sym (append-assoc a b (drop (0 + length (a ++ b)) d))
+
+-- one byte more
+pub splice-more : (d : List ℕ) (at : ℕ) (s : List ℕ) (v : ℕ) → at + length s < length d
+    → set (splice d at s) (at + length s) v ≡ splice d at (s ++ (v ∷ []))
+unfolding splice
+splice-more d at s v h =
+    let n : ℕ = at + length s in
+    let p : List ℕ = take at d ++ s in
+    let long : length p ≡ n = length-append (take at d) s ∙ ap (λ (x : ℕ). x + length s) (length-take-le at d (omega arith)) in
+    let longer : at + length (s ++ (v ∷ [])) ≡ suc n = omega (arith, length-append s (v ∷ [])) in
+    ap (λ (l : List ℕ). set l n v) (sym (append-assoc (take at d) s (drop n d)))
+    ∙ ap (λ (l : List ℕ). set (p ++ l) n v) (drop-cons d n 0 h)
+    ∙ set-at p (getD d n 0) (drop (suc n) d) v n long
+    ∙ append-assoc (take at d) s (v ∷ drop (suc n) d)
+    ∙ ap (λ (l : List ℕ). take at d ++ l) (sym (append-assoc s (v ∷ []) (drop (suc n) d)))
+    ∙ ap (λ (x : ℕ). take at d ++ ((s ++ (v ∷ [])) ++ drop x d)) (sym longer)
 
 -- what was written from the start
 pub splice-start : (d a : List ℕ) (n : ℕ) → length a ≡ n → take n (splice d 0 a) ≡ a

@@ -1,0 +1,76 @@
+-- Sums of a count, kept in a list, and what they say of chunks. Assumes nothing.
+use mathlib.Core.Path.{_≡_, refl, sym, ap, _∙_, subst}
+use mathlib.Core.Logic.{_⊎_, inl, inr}
+use mathlib.Core.List.{List}
+use mathlib.Core.Bool.{Bool, true, false, _&&_}
+use Prim.Native.Nat.{ℕ, zero, suc, _+_, _*_, _/_, _%_, _≤_, _<_}
+use native.Mathlib.Nat.{le-refl, zero-add, eq-or-lt-of-le, not-suc-le-zero, le-of-suc-le-suc, mod-lt}
+use native.Mathlib.Numerals.{add-one}
+use native.Mathlib.Omega.{arith}
+use borrow.Author.Tests.{le-leb, lt-leb}
+use lib.Dec.{leb}
+use lib.ListN.{length, getD, set}
+use lib.Seq.{getD-set-same, getD-set-other}
+use Rattle.base.specs.Bounds.{parity}
+use Rattle.base.proofs.Logic.{and-false}
+use Rattle.cut.specs.Missing.{bit, count, losses, gone, missing, suffice}
+use Rattle.cut.proofs.LossCounts.{count-add, upto}
+
+pub one-more : (p : ℕ → Bool) (i : ℕ) → count p 0 (i + 1) ≡ count p 0 i + bit (p i)
+unfolding count
+one-more p i = omega (arith, count-add p 0 i 1, ap (λ (x : ℕ). bit (p x)) (zero-add i))
+
+-- the sums up to i stand in the list
+pub record Sums (p : ℕ → Bool) (xs : List ℕ) (i : ℕ) : Type 0 where
+  pub at : (k : ℕ) → k ≤ i → getD xs k 0 ≡ count p 0 k
+
+pub sums-more : (p : ℕ → Bool) (xs : List ℕ) (i v : ℕ) → Sums p xs i → i + 1 < length xs → v ≡ count p 0 (i + 1) → Sums p (set xs (i + 1) v) (i + 1)
+sums-more p xs i v h l e = record { at = λ k (b : k ≤ i + 1). go k (eq-or-lt-of-le b) }
+  where
+    go : (k : ℕ) → (k ≡ i + 1) ⊎ (k < i + 1) → getD (set xs (i + 1) v) k 0 ≡ count p 0 k
+    go k (inl s) = subst (λ (x : ℕ). getD (set xs (i + 1) v) x 0 ≡ count p 0 x) (sym s) (getD-set-same xs (i + 1) v 0 l ∙ e)
+    go k (inr s) = getD-set-other xs (i + 1) k v 0 (λ (q : k ≡ i + 1). omega arith) ∙ h .at k (omega arith)
+
+pub sums-none : (p : ℕ → Bool) (xs : List ℕ) → getD xs 0 0 ≡ 0 → Sums p xs 0
+unfolding count
+sums-none p xs e =
+    record {
+      at = λ k (b : k ≤ 0).
+          let z : k ≡ 0 = omega arith in
+          subst (λ (x : ℕ). getD xs x 0 ≡ count p 0 x) (sym z) e;
+    }
+
+-- the cells gone before q, from the sums
+pub read : (lost : ℕ → Bool) (f : ℕ) → 0 < f → (xs : List ℕ) → Sums lost xs f
+    → (q : ℕ) → q / f * getD xs f 0 + getD xs (q % f) 0 ≡ count (gone lost f) 0 q
+unfolding losses
+read lost f some xs h q =
+    let all = h .at f (le-refl f) in
+    let last = h .at (q % f) (omega (arith, mod-lt q some)) in
+    omega (arith, ap (λ (x : ℕ). q / f * x) all, last, upto lost f some q)
+
+-- ---- chunks
+
+module _ (lost : ℕ → Bool) (f n : ℕ) where
+  -- what a chunk misses, as the difference of the counts at its ends
+  pub between : (j : ℕ) → count (gone lost f) 0 (j * n + n) ≡ count (gone lost f) 0 (j * n) + missing lost f n j
+  unfolding missing
+  between j = count-add (gone lost f) 0 (j * n) n ∙ ap (λ (x : ℕ). count (gone lost f) 0 (j * n) + count (gone lost f) x n) (zero-add (j * n))
+
+  pub suffice-yes : (j : ℕ) → suffice lost f n j ≡ true → missing lost f n j ≤ parity → suffice lost f n (j + 1) ≡ true
+  unfolding suffice
+  suffice-yes j e h = ap (λ (x : ℕ). suffice lost f n x) (add-one j) ∙ simp (e, le-leb (missing lost f n j) parity h)
+
+  pub suffice-no : (c j : ℕ) → j < c → parity < missing lost f n j → suffice lost f n c ≡ false
+  unfolding suffice
+  suffice-no zero j l h = absurd (not-suc-le-zero l)
+  suffice-no (suc c) j l h = go (eq-or-lt-of-le (le-of-suc-le-suc l)) (λ (k : j < c). suffice-no c j k h)
+    where
+      go : (j ≡ c) ⊎ (j < c) → (j < c → suffice lost f n c ≡ false) → suffice lost f n c && leb (missing lost f n c) parity ≡ false
+      go (inl e) ih = subst (λ (x : ℕ). suffice lost f n x && leb (missing lost f n x) parity ≡ false) e (simp (lt-leb (missing lost f n j) parity h, and-false))
+      go (inr k) ih = simp (ih k)
+
+  pub suffice-from : (c : ℕ) → ((j : ℕ) → j < c → missing lost f n j ≤ parity) → suffice lost f n c ≡ true
+  unfolding suffice
+  suffice-from zero h = refl
+  suffice-from (suc c) h = simp (suffice-from c (λ j (l : j < c). h j (omega arith)), le-leb (missing lost f n c) parity (h c (omega arith)))

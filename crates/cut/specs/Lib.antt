@@ -1,0 +1,8 @@
+pub mod Sizes
+pub mod Plan
+pub mod Block
+pub mod Cells
+pub mod Missing
+pub mod Calls
+pub mod Edge
+pub mod Claims
