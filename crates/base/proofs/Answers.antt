@@ -1,8 +1,10 @@
 -- Laws of answers: which case of a definition is which case of a call. Assumes nothing.
 use mathlib.Core.Path.{_≡_, refl}
 use mathlib.Core.List.{List, [], _∷_}
-use Prim.Native.Nat.{ℕ, suc, _+_, _<_, _≤_}
+use Prim.Native.Nat.{ℕ, zero, suc, _+_, _<_, _≤_}
+use native.Mathlib.Nat.{not-suc-le-zero}
 use borrow.Author.Tests.{lt-ltb, le-ltb}
+use lib.Dec.{lit<}
 use lib.ListN.{length}
 use Rattle.base.specs.Answer.{granted, refused, outcome, answered, settled}
 use Rattle.base.specs.Bytes.{splice}
@@ -16,9 +18,10 @@ pub grants : (fault : ℕ) (values : List ℕ) → 0 ≡ fault → granted value
 unfolding answered
 grants fault values e = rw (← e)
 
-pub refuses : (n fault : ℕ) (values : List ℕ) → suc n ≡ fault → refused (suc n) ≡ answered fault values
+pub refuses : (n fault : ℕ) (values : List ℕ) → 0 < n → n ≡ fault → refused n ≡ answered fault values
 unfolding answered
-refuses n fault values e = rw (← e)
+refuses zero fault values h e = absurd (not-suc-le-zero h)
+refuses (suc n) fault values h e = rw (← e)
 
 -- the same with lent bytes
 pub writes : (fault : ℕ) (values written before after : List ℕ) → 0 ≡ fault → after ≡ written
@@ -26,10 +29,11 @@ pub writes : (fault : ℕ) (values written before after : List ℕ) → 0 ≡ fa
 unfolding settled
 writes fault values written before after e w = rw (← e, w)
 
-pub leaves : (n fault : ℕ) (values written before : List ℕ) → suc n ≡ fault
-    → outcome (refused (suc n)) before ≡ settled fault values written before
+pub leaves : (n fault : ℕ) (values written before : List ℕ) → 0 < n → n ≡ fault
+    → outcome (refused n) before ≡ settled fault values written before
 unfolding settled
-leaves n fault values written before e = rw (← e)
+leaves zero fault values written before h e = absurd (not-suc-le-zero h)
+leaves (suc n) fault values written before h e = rw (← e)
 
 -- no second answer of a call that only writes has the same number
 pub one-written : (a b : Written) → numberOf a ≡ numberOf b → a ≡ b
@@ -43,7 +47,7 @@ one-written (Refused n) (Refused m) e = cc
 module _ (d s : List ℕ) (at : ℕ) where
   pub put-refused : length d < at + length s → outcome (numberOf (Refused 1)) d ≡ putOf d at s
   unfolding numberOf putOf putFault
-  put-refused h = leaves 0 _ _ _ _ (due 1 _ (lt-ltb (length d) (at + length s) h))
+  put-refused h = leaves 1 _ _ _ _ (lit< tt) (due 1 _ (lt-ltb (length d) (at + length s) h))
 
   pub put-done : (y : List ℕ) → at + length s ≤ length d → y ≡ splice d at s → outcome (numberOf Done) y ≡ putOf d at s
   unfolding numberOf putOf putFault

@@ -1,13 +1,13 @@
 -- Laws of `table`: its elements, its parts, and filling a buffer by it from the left. Assumes nothing.
 use mathlib.Core.Path.{_≡_, refl, sym, ap, ap₂, _∙_}
 use mathlib.Core.List.{List, [], _∷_, _++_}
-use Prim.Native.Nat.{ℕ, zero, suc, _+_, _<_}
+use Prim.Native.Nat.{ℕ, zero, suc, _+_, _≤_, _<_}
 use native.Mathlib.Nat.{add-zero, zero-add, suc-add, le-of-suc-le-suc, not-suc-le-zero}
 use native.Mathlib.Omega.{arith}
 use lib.ListN.{length, getD, set, replicate}
 use Rattle.base.specs.Table.{table}
 use Rattle.base.specs.Bytes.{splice}
-use Rattle.base.proofs.Splice.{splice-none, splice-more}
+use Rattle.base.proofs.Splice.{splice-none, splice-more, splice-length}
 
 module _ (rule : ℕ → ℕ) where
   pub length-table : (a n : ℕ) → length (table rule a n) ≡ n
@@ -46,13 +46,19 @@ module _ (rule : ℕ → ℕ) where
   unfolding table
   filled-none a d at = splice-none d at
 
-  -- and one more
-  pub filled-more : (a : ℕ) (d : List ℕ) (at n : ℕ) → at + n < length d
-      → set (splice d at (table rule a n)) (at + n) (rule (a + n)) ≡ splice d at (table rule a (n + 1))
-  filled-more a d at n h =
-      let long : at + length (table rule a n) ≡ at + n = ap (λ (x : ℕ). at + x) (length-table a n) in
+  -- its length all along,
+  pub filled-length : (a : ℕ) (d : List ℕ) (at n : ℕ) {x : List ℕ} → x ≡ splice d at (table rule a n) → at + n ≤ length d → length x ≡ length d
+  filled-length a d at n e h =
+      ap length e ∙ splice-length d at (table rule a n) (omega (arith, length-table a n))
+
+  -- and one more, stored at p
+  pub filled-more : (a : ℕ) (d : List ℕ) (at n : ℕ) {x : List ℕ} {p v : ℕ} → x ≡ splice d at (table rule a n) → p ≡ at + n → v ≡ rule (a + n)
+      → at + n < length d → set x p v ≡ splice d at (table rule a (n + 1))
+  filled-more a d at n {x} {p} {v} e is-p is-v h =
+      let long : p ≡ at + length (table rule a n) = omega (arith, length-table a n) in
       let longer : table rule a n ++ (rule (a + n) ∷ []) ≡ table rule a (n + 1) =
       ap (λ (l : List ℕ). table rule a n ++ l) (sym (table-one (a + n))) ∙ sym (table-add a n 1) in
-      ap (λ (x : ℕ). set (splice d at (table rule a n)) x (rule (a + n))) (sym long)
-      ∙ splice-more d at (table rule a n) (rule (a + n)) (omega arith)
+      ap (λ (l : List ℕ). set l p v) e
+      ∙ ap₂ (set (splice d at (table rule a n))) long is-v
+      ∙ splice-more d at (table rule a n) (rule (a + n)) (omega (arith, length-table a n))
       ∙ ap (splice d at) longer

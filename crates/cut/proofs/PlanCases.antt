@@ -6,7 +6,7 @@ use Prim.Native.Nat.{ℕ, zero, suc, _+_, _-_, _*_, _/_, _≤_, _<_, min}
 use native.Mathlib.Nat.{mul-pos, le-div-iff-mul-le}
 use native.Mathlib.Omega.{arith}
 use borrow.Author.Tests.{leb-true, ltb-true, ltb-false, eqb-true, eq-eqb, ne-eqb, lt-ltb, le-ltb, le-leb, lt-leb, not-false}
-use lib.Dec.{leb, ltb, eqb}
+use lib.Dec.{leb, ltb, eqb, lit<}
 use lib.ListN.{getD}
 use Rattle.base.specs.Bounds.{least-l, most-l, most-f, most-m, most-mtu, parity}
 use Rattle.base.specs.Answer.{granted, refused}
@@ -168,12 +168,12 @@ module _ (g : Settings) (l : ℕ) where
 
     pub plan-20 : l < least-l → refused 20 ≡ planOf g l
     unfolding planOf planFault
-    plan-20 short = refuses 19 _ _ (skip 40 _ fit-due (due 20 _ (lt-ltb l least-l short)))
+    plan-20 short = refuses 20 _ _ (lit< tt) (skip 40 _ fit-due (due 20 _ (lt-ltb l least-l short)))
 
     module _ (from : least-l ≤ l) where
       pub plan-22 : most-l < l → refused 22 ≡ planOf g l
       unfolding planOf planFault
-      plan-22 long = refuses 21 _ _ (skip 40 _ fit-due (skip 20 _ (le-ltb l least-l from) (due 22 _ (lt-ltb most-l l long))))
+      plan-22 long = refuses 22 _ _ (lit< tt) (skip 40 _ fit-due (skip 20 _ (le-ltb l least-l from) (due 22 _ (lt-ltb most-l l long))))
 
       module _ (to : l ≤ most-l) where
         last-due : (r : ℕ) → r ≡ first ((ltb most-f (f g l), 41) ∷ []) → r ≡ planFault g l
@@ -182,7 +182,7 @@ module _ (g : Settings) (l : ℕ) where
 
         pub plan-41 : most-f < f g l → refused 41 ≡ planOf g l
         unfolding planOf
-        plan-41 many = refuses 40 _ _ (last-due 41 (due 41 _ (lt-ltb most-f (f g l) many)))
+        plan-41 many = refuses 41 _ _ (lit< tt) (last-due 41 (due 41 _ (lt-ltb most-f (f g l) many)))
 
         pub plan-cut : f g l ≤ most-f → granted (figuresOf g l) ≡ planOf g l
         unfolding planOf
@@ -190,7 +190,7 @@ module _ (g : Settings) (l : ℕ) where
 
   pub plan-40 : fit g ≡ false → refused 40 ≡ planOf g l
   unfolding planOf planFault
-  plan-40 e = refuses 39 _ _ (due 40 _ (rw e))
+  plan-40 e = refuses 40 _ _ (lit< tt) (due 40 _ (rw e))
 
 -- ---- and what is known where nothing is refused
 

@@ -5,7 +5,6 @@ use mathlib.Core.List.{List}
 use mathlib.Core.Bool.{Bool, true, false, _&&_}
 use Prim.Native.Nat.{ℕ, zero, suc, _+_, _*_, _/_, _%_, _≤_, _<_}
 use native.Mathlib.Nat.{le-refl, zero-add, eq-or-lt-of-le, not-suc-le-zero, le-of-suc-le-suc, mod-lt}
-use native.Mathlib.Numerals.{add-one}
 use native.Mathlib.Omega.{arith}
 use borrow.Author.Tests.{le-leb, lt-leb}
 use lib.Dec.{leb}
@@ -14,7 +13,7 @@ use lib.Seq.{getD-set-same, getD-set-other}
 use Rattle.base.specs.Bounds.{parity}
 use Rattle.base.proofs.Logic.{and-false}
 use Rattle.cut.specs.Missing.{bit, count, losses, gone, missing, suffice}
-use Rattle.cut.proofs.LossCounts.{count-add, upto}
+use Rattle.cut.proofs.LossCounts.{count-le, count-add, upto}
 
 pub one-more : (p : ℕ → Bool) (i : ℕ) → count p 0 (i + 1) ≡ count p 0 i + bit (p i)
 unfolding count
@@ -40,9 +39,11 @@ sums-none p xs e =
           subst (λ (x : ℕ). getD xs x 0 ≡ count p 0 x) (sym z) e;
     }
 
--- the cells gone before q, from the sums
-pub read : (lost : ℕ → Bool) (f : ℕ) → 0 < f → (xs : List ℕ) → Sums lost xs f
-    → (q : ℕ) → q / f * getD xs f 0 + getD xs (q % f) 0 ≡ count (gone lost f) 0 q
+-- the cells gone before q, read off the sums: those of each whole turn of f, and those of the last turn
+abbrev pub reading : List ℕ → ℕ → ℕ → ℕ
+reading xs f q = q / f * getD xs f 0 + getD xs (q % f) 0
+
+pub read : (lost : ℕ → Bool) (f : ℕ) → 0 < f → (xs : List ℕ) → Sums lost xs f → (q : ℕ) → reading xs f q ≡ count (gone lost f) 0 q
 unfolding losses
 read lost f some xs h q =
     let all = h .at f (le-refl f) in
@@ -53,13 +54,9 @@ read lost f some xs h q =
 
 module _ (lost : ℕ → Bool) (f n : ℕ) where
   -- what a chunk misses, as the difference of the counts at its ends
-  pub between : (j : ℕ) → count (gone lost f) 0 (j * n + n) ≡ count (gone lost f) 0 (j * n) + missing lost f n j
+  between : (j : ℕ) → count (gone lost f) 0 (j * n + n) ≡ count (gone lost f) 0 (j * n) + missing lost f n j
   unfolding missing
   between j = count-add (gone lost f) 0 (j * n) n ∙ ap (λ (x : ℕ). count (gone lost f) 0 (j * n) + count (gone lost f) x n) (zero-add (j * n))
-
-  pub suffice-yes : (j : ℕ) → suffice lost f n j ≡ true → missing lost f n j ≤ parity → suffice lost f n (j + 1) ≡ true
-  unfolding suffice
-  suffice-yes j e h = ap (λ (x : ℕ). suffice lost f n x) (add-one j) ∙ simp (e, le-leb (missing lost f n j) parity h)
 
   pub suffice-no : (c j : ℕ) → j < c → parity < missing lost f n j → suffice lost f n c ≡ false
   unfolding suffice
@@ -74,3 +71,17 @@ module _ (lost : ℕ → Bool) (f n : ℕ) where
   unfolding suffice
   suffice-from zero h = refl
   suffice-from (suc c) h = simp (suffice-from c (λ j (l : j < c). h j (omega arith)), le-leb (missing lost f n c) parity (h c (omega arith)))
+
+  -- the same by the readings at the ends of each chunk
+  module _ (some : 0 < f) (xs : List ℕ) (sums : Sums lost xs f) where
+    pub reading-le : (q : ℕ) → reading xs f q ≤ q
+    reading-le q = omega (arith, read lost f some xs sums q, count-le (gone lost f) 0 q)
+
+    pub misses : (j : ℕ) → reading xs f (j * n + n) ≡ reading xs f (j * n) + missing lost f n j
+    misses j = omega (arith, read lost f some xs sums (j * n + n), read lost f some xs sums (j * n), between j)
+
+    pub suffice-read : (c : ℕ) → ((j : ℕ) → j < c → reading xs f (j * n + n) ≤ parity + reading xs f (j * n)) → true ≡ suffice lost f n c
+    suffice-read c h = sym (suffice-from c (λ j (l : j < c). omega (arith, misses j, h j l)))
+
+    pub suffice-fails : (c j : ℕ) → j < c → parity + reading xs f (j * n) < reading xs f (j * n + n) → false ≡ suffice lost f n c
+    suffice-fails c j l h = sym (suffice-no c j l (omega (arith, misses j)))
