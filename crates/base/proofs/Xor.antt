@@ -1,10 +1,11 @@
 -- The exclusive or of two numbers: laws that the library lacks. Assumes nothing.
 use mathlib.Core.Path.{_≡_, refl, sym, ap, ap₂, _∙_}
-use Prim.Native.Nat.{ℕ, zero, suc, _+_, _*_, _/_, _%_, _<_}
+use Prim.Native.Nat.{ℕ, zero, suc, _+_, _*_, _/_, _%_, _^_, _<_}
 use native.Mathlib.Nat.{not-suc-le-zero, le-of-suc-le-suc, mod-lt, zero-lt-suc, add-zero}
 use native.Mathlib.Omega.{arith}
 use lib.Arith.{bin-ind, digits-mod}
 use lib.Dec.{lit<}
+use lib.Pow.{pow-pos}
 use lib.Bits.{bitXor, differ, xor-zero-l, xor-zero-r, xor-comm, xor-self, xor-step, xor-shr, xor-block}
 
 -- what holds of 0 and of 1 holds of a bit
@@ -61,7 +62,11 @@ pub eq-of-xor-zero : (a b : ℕ) → bitXor a b ≡ 0 → a ≡ b
 eq-of-xor-zero a b e =
     sym (xor-zero-r a) ∙ ap (bitXor a) (sym (xor-self b)) ∙ sym (xor-assoc a b b) ∙ ap (λ x. bitXor x b) e ∙ xor-zero-l b
 
+-- a sum moved up by any number of places
+pub xor-scaled : (k a b : ℕ) → bitXor a b * 2 ^ k ≡ bitXor (a * 2 ^ k) (b * 2 ^ k)
+xor-scaled k a b =
+    sym (add-zero (bitXor a b * 2 ^ k)) ∙ sym (xor-block k a b 0 0 (pow-pos k) (pow-pos k))
+    ∙ ap₂ bitXor (add-zero (a * 2 ^ k)) (add-zero (b * 2 ^ k))
+
 pub xor-double : (a b : ℕ) → bitXor a b * 2 ≡ bitXor (a * 2) (b * 2)
-xor-double a b =
-    sym (add-zero (bitXor a b * 2)) ∙ sym (xor-block 1 a b 0 0 (lit< tt) (lit< tt))
-    ∙ ap₂ bitXor (add-zero (a * 2)) (add-zero (b * 2))
+xor-double a b = xor-scaled 1 a b

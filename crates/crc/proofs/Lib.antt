@@ -1,0 +1,4 @@
+pub mod Linear
+pub mod Over
+pub mod Residue
+pub mod Halves

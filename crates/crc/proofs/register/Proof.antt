@@ -1,0 +1,23 @@
+-- `register` is `registerOf` either way: the table is right at every entry. Assumes nothing.
+use borrow.Author.Needs.{needs}
+use Rattle.crc.specs.Crc.{shift, shift8}
+use Rattle.crc.specs.Halves.{rounds}
+use Rattle.crc.proofs.Halves.{halves}
+use Rattle.crc.proofs.register.Statement.{statement}
+use Rattle.crc.proofs.register.Tie as tie
+
+by-bytes-requires : tie.Need-by-bytes-requires
+by-bytes-requires c κs = search needs
+
+returns : tie.Need-returns
+returns c = search needs
+
+by-eights-requires : tie.Need-by-eights-requires
+unfolding rounds shift8 shift
+by-eights-requires c κs = halves _ tt
+
+returns-2 : tie.Need-returns-2
+returns-2 c = search needs
+
+pub register-spec : {M : Type 1} → statement M
+register-spec = tie.close (tie.spec by-bytes-requires returns by-eights-requires returns-2)
