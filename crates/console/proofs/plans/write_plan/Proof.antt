@@ -1,0 +1,68 @@
+-- `plans::write_plan` meets its contract: at each turn the figures so far stand behind the word. Assumes nothing.
+use Prim.Native.Nat.{_≤_, _-_}
+use borrow.Author.Needs.{needs}
+use Rattle.console.specs.Wrote.{Wrote}
+use Rattle.console.proofs.Writing.{chain}
+use Rattle.console.proofs.plans.write_plan.Statement.{statement}
+use Rattle.console.proofs.plans.write_plan.Tie as tie
+
+abbrev Inv-loop : tie.InvT-loop
+Inv-loop out₀ names values at₀ i₀ out at i = (i ≤ 9) × Wrote out₀ at₀ at out
+
+abbrev μ-loop : tie.MeasureT-loop
+μ-loop out₀ names values at₀ i₀ out at i = 9 - i
+
+slice-aggregate-plain : tie.Need-slice-aggregate-plain Inv-loop μ-loop
+slice-aggregate-plain c = search needs
+
+plain-requires : tie.Need-plain-requires Inv-loop μ-loop
+plain-requires c κs = search needs
+
+loop-holds : tie.Need-loop-holds Inv-loop μ-loop
+loop-holds c = search needs
+
+array-read-figure : tie.Need-array-read-figure Inv-loop μ-loop
+array-read-figure c = search needs
+
+mul-figure : tie.Need-mul-figure Inv-loop μ-loop
+mul-figure c = search needs
+
+array-read-figure-2 : tie.Need-array-read-figure-2 Inv-loop μ-loop
+array-read-figure-2 c = search needs
+
+figure-requires : tie.Need-figure-requires Inv-loop μ-loop
+figure-requires c κs = search needs
+
+add-i : tie.Need-add-i Inv-loop μ-loop
+add-i c = search needs
+
+loop-less : tie.Need-loop-less Inv-loop μ-loop
+loop-less c = search needs
+
+loop-again : tie.Need-loop-again Inv-loop μ-loop
+loop-again c = search (chain, needs)
+
+same-length : tie.Need-same-length Inv-loop μ-loop
+same-length c = search needs
+
+returns : tie.Need-returns Inv-loop μ-loop
+returns c = search (chain, needs)
+
+pub write-plan-spec : {M : Type 1} → statement M
+write-plan-spec =
+    tie.close
+    (tie.spec
+    Inv-loop
+    μ-loop
+    slice-aggregate-plain
+    plain-requires
+    loop-holds
+    array-read-figure
+    mul-figure
+    array-read-figure-2
+    figure-requires
+    add-i
+    loop-less
+    loop-again
+    same-length
+    returns)

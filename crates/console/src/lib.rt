@@ -1,0 +1,43 @@
+// The console: one question line in, one answer line out. What is asked and what is answered is
+// tested by the program over this library; that no answer reads or writes out of bounds, that each
+// call ends, and that nothing behind the answer changes, is proved.
+mod plans;
+mod sums;
+mod text;
+mod words;
+
+ghost use Rattle.console.specs.Wrote.{Wrote};
+
+// A line as long as this, or longer, is no question: the longest has the most bytes, two digits
+// each, and some other words. So a program collects a line in a buffer of this length and drops
+// what does not fit: a full buffer is answered `unknown`.
+pub const LINE: usize = 2 * words::BYTES + 512;
+
+// A buffer as long as this holds every answer, and a program lends one: the longest is `plan` with
+// nine figures of at most twenty digits. Of an answer that does not fit a shorter buffer, what fits
+// is written.
+pub const ANSWER: usize = 256;
+
+// Answers one line, without its newline, at the front of out, without a newline, and says how many
+// bytes the answer has: 0 for an empty line and for a comment.
+pub fn answer(line: &[u8], out: &mut [u8]) -> usize
+    ensures { λ r. ⌜ Wrote (now (out .entry)) 0 r (now (out .exit)) ⌝ }
+{
+    if line.len() == 0 {
+        return 0;
+    }
+    if line[0] == b'#' {
+        return 0;
+    }
+    if LINE <= line.len() {
+        return text::unknown(out);
+    }
+    let name = words::nth(line, 0);
+    if words::is(name, b"crc") {
+        return sums::answer_crc(line, out);
+    }
+    if words::is(name, b"plan") {
+        return plans::answer_plan(line, out);
+    }
+    text::unknown(out)
+}

@@ -1,0 +1,174 @@
+// Taking a line apart: the words between its blanks, and what a word says. An empty word says
+// nothing of any kind, so two blanks in a row and a blank at an end make a line malformed.
+ghost use Prim.Native.Nat.{_≤_};
+ghost use lib.ListN.{length};
+ghost use Rattle.console.specs.Sized.{sizeOf};
+
+// The most bytes that one word of a question gives.
+pub(crate) const BYTES: usize = 32768;
+
+// What a word says where a number is asked, or how many bytes it gave where bytes are asked.
+pub(crate) enum Number {
+    Of(usize),
+    Malformed,
+}
+
+// What a word says where an address is asked.
+pub(crate) enum Pair {
+    Of(cut::Address),
+    Malformed,
+}
+
+// How many words the line has: one more than it has blanks.
+pub(crate) fn count(line: &[u8]) -> usize {
+    let mut blanks = 0;
+    let mut i = 0;
+    while i < line.len() {
+        if line[i] == b' ' {
+            blanks += 1;
+        }
+        i += 1;
+    }
+    blanks + 1
+}
+
+// The word with that number, counted from 0; it is empty where the line has fewer.
+pub(crate) fn nth(line: &[u8], number: usize) -> &[u8] {
+    let start = start_of(line, number);
+    let end = bytes::scan::find(line, start, line.len(), b' ');
+    &line[start..end]
+}
+
+// Where the word with that number starts, or the line's length where the line has fewer.
+fn start_of(line: &[u8], number: usize) -> usize
+    ensures { λ r. ⌜ r ≤ length (now (line .entry)) ⌝ }
+{
+    let mut start = 0;
+    let mut left = number;
+    while left > 0 {
+        let end = bytes::scan::find(line, start, line.len(), b' ');
+        if end == line.len() {
+            return end;
+        }
+        start = end + 1;
+        left -= 1;
+    }
+    start
+}
+
+// Whether the word is that name.
+pub(crate) fn is(word: &[u8], name: &[u8]) -> bool {
+    if word.len() != name.len() {
+        return false;
+    }
+    let mut i = 0;
+    while i < word.len() {
+        if word[i] != name[i] {
+            return false;
+        }
+        i += 1;
+    }
+    true
+}
+
+// The number that a word of decimal digits says; zeros in front change nothing. A word that has
+// another letter or none, or says a number too large, is malformed.
+pub(crate) fn decimal(word: &[u8]) -> Number {
+    if word.len() == 0 {
+        return Number::Malformed;
+    }
+    let mut value: usize = 0;
+    let mut i = 0;
+    while i < word.len() {
+        let Number::Of(more) = with_digit(value, word[i]) else {
+            return Number::Malformed;
+        };
+        value = more;
+        i += 1;
+    }
+    Number::Of(value)
+}
+
+// A number with one decimal digit more at its end.
+fn with_digit(value: usize, letter: u8) -> Number {
+    if letter < b'0' || b'9' < letter {
+        return Number::Malformed;
+    }
+    let digit = (letter - b'0') as usize;
+    if value <= (usize::MAX - digit) / 10 {
+        Number::Of(value * 10 + digit)
+    } else {
+        Number::Malformed
+    }
+}
+
+// The bytes that a word of hex digits says are put at the front of buffer, and counted; `-` stands
+// for none. Bytes that do not fit buffer are malformed too, and what was put there is left.
+pub(crate) fn bytes_of(word: &[u8], buffer: &mut [u8]) -> Number
+    ensures { λ r. ⌜ sizeOf r ≤ length (now (buffer .exit)) ⌝ }
+{
+    if is(word, b"-") {
+        return Number::Of(0);
+    }
+    let count = word.len() / 2;
+    if 2 * count != word.len() {
+        return Number::Malformed;
+    }
+    if count == 0 {
+        return Number::Malformed;
+    }
+    if buffer.len() < count {
+        return Number::Malformed;
+    }
+    let mut i = 0;
+    while i < count {
+        let high = nibble(word[2 * i]);
+        let low = nibble(word[2 * i + 1]);
+        if 15 < high {
+            return Number::Malformed;
+        }
+        if 15 < low {
+            return Number::Malformed;
+        }
+        buffer[i] = 16 * high + low;
+        i += 1;
+    }
+    Number::Of(count)
+}
+
+// What a hex digit in lower case stands for; 16 for any other letter.
+fn nibble(letter: u8) -> u8
+    ensures { λ r. ⌜ r ≤ 16 ⌝ }
+{
+    if letter < b'0' {
+        return 16;
+    }
+    if letter <= b'9' {
+        return letter - b'0';
+    }
+    if letter < b'a' {
+        return 16;
+    }
+    if letter <= b'f' {
+        return letter - b'a' + 10;
+    }
+    16
+}
+
+// The address that a word says: four bytes, source and then destination, or `-` for none.
+pub(crate) fn address(word: &[u8]) -> Pair {
+    let mut four = [0u8; 4];
+    let Number::Of(n) = bytes_of(word, &mut four) else {
+        return Pair::Malformed;
+    };
+    if n == 0 {
+        return Pair::Of(cut::Address::None);
+    }
+    if n != 4 {
+        return Pair::Malformed;
+    }
+    Pair::Of(cut::Address::Pair {
+        source: base::read2(&four, 0),
+        dest: base::read2(&four, 2),
+    })
+}

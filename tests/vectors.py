@@ -1,0 +1,231 @@
+"""Writes the questions and the answers that the gate compares: crates/ask/stdin and crates/ask/stdout.
+
+    python3 tests/vectors.py
+
+The answers come from crc.txt (made by a peer), from plans.py (computed from document 01) and from the lists below.
+None is taken from the program. Running this again gives the same bytes.
+"""
+import pathlib
+import sys
+
+sys.dont_write_bytecode = True
+import plans
+
+HERE = pathlib.Path(__file__).resolve().parent
+ASK = HERE.parent / "crates" / "ask"
+MOST_BYTES = 32768  # bytes of the longest BYTES
+LINE = 66048  # a line of this many characters, or more, is no question
+
+questions = []
+answers = []
+
+
+def ask(question, answer):
+    questions.append(question if isinstance(question, bytes) else question.encode())
+    if answer is not None:
+        answers.append(answer)
+
+
+def silent(line):
+    ask(line, None)
+
+
+def ask_plan(fec, m, mtu, address, l):
+    words = (str(fec), str(m), str(mtu), address, str(l))
+    ask("plan " + " ".join(words), plans.answer(words))
+
+
+def crc(data):
+    # for the one length that crc.txt lacks; the same sum is first held against every line of crc.txt
+    register = 0xFFFF
+    for byte in data:
+        register ^= byte << 8
+        for _ in range(8):
+            register = ((register << 1) ^ (0x1021 if register & 0x8000 else 0)) & 0xFFFF
+    return f"{register ^ 0xFFFF:04x}"
+
+
+def sums():
+    for line in (HERE / "crc.txt").read_text().splitlines():
+        if line.startswith("#"):
+            silent("# crc.txt:" + line[1:])
+            continue
+        data, word = line.split()
+        assert crc(bytes.fromhex(data.replace("-", ""))) == word, line
+        ask("crc " + data, "crc " + word)
+    silent("# the longest BYTES, and one byte more")
+    longest = bytes(i * i % 251 for i in range(MOST_BYTES))
+    ask("crc " + longest.hex(), "crc " + crc(longest))
+    ask("crc " + longest.hex() + "00", "unknown")
+
+
+NONE, PAIR = "-", "00010002"
+SHAPES = [(fec, address, plans.header(fec == 1, address != "-")) for fec in (0, 1) for address in (NONE, PAIR)]
+
+
+def sizes():
+    silent("# plans: the sizes of document 01, on each side of the edge")
+    for l in (12, 207, 208):
+        ask_plan(1, 2, 1400, NONE, l)
+    ask_plan(1, 5, 1400, NONE, 414)
+    ask_plan(1, 2, 1400, NONE, 415)
+    ask_plan(1, 2, 1400, NONE, 8192)
+    for l in (1386, 1387):
+        ask_plan(0, 0, 1400, NONE, l)
+    silent("# plans: lengths")
+    for l in (0, 11, 12, 206, 207, 208, 413, 414, 415, 621, 622, 8073, 8074, 8191, 8192, 8193, 65536, 2**63, 2**64 - 2, 2**64 - 1):
+        ask_plan(1, 2, 1400, NONE, l)
+        ask_plan(0, 0, 1400, PAIR, l)
+
+
+def settings():
+    silent("# plans: the bounds of m")
+    for m in (0, 1, 2, 3, 4, 5, 6, 7, 256, 2**64 - 1):
+        ask_plan(1, m, 1400, NONE, 415)
+    for m in (0, 1, 5, 6):
+        ask_plan(0, m, 1400, NONE, 415)
+    silent("# plans: the bounds of MTU, for each of the four header lengths")
+    for fec, address, h in SHAPES:
+        for mtu in (0, h - 1, h, h + 1, h + 2, 16384, 16385, 2**64 - 1):
+            ask_plan(fec, 0, mtu, address, 207)
+
+
+def counts():
+    silent("# plans: 256 fragments and 257 without FEC")
+    for address, h in ((NONE, 14), (PAIR, 18)):
+        for room, l in ((1, 255), (1, 256), (1, 257), (31, 7936), (31, 7937), (32, 8191), (32, 8192)):
+            ask_plan(0, 0, h + room, address, l)
+    silent("# plans: 255 and 257 with FEC; 256 does not occur: with S at least c there are at most 255, with a smaller S more than 256")
+    for address, h in ((NONE, 16), (PAIR, 20)):
+        for room, l in ((1, 207), (1, 208), (2, 414), (2, 415), (28, 5796), (28, 5797), (32, 6624), (32, 6625), (39, 8073), (39, 8080), (40, 8192)):
+            ask_plan(1, 0, h + room, address, l)
+    silent("# plans: where two refusals apply, the first of 40, 20 or 22, 41 is given")
+    for fec, m, mtu, l in ((1, 6, 1400, 11), (1, 6, 1400, 8193), (0, 1, 1400, 0), (0, 1, 15, 8192), (1, 2, 16, 11), (1, 2, 16385, 8193),
+                           (1, 6, 17, 8192), (0, 0, 14, 8193), (0, 0, 15, 11), (0, 0, 15, 8193), (1, 0, 17, 8193), (1, 0, 17, 0)):
+        ask_plan(fec, m, mtu, NONE, l)
+
+
+def ordinary():
+    silent("# plans: a spread of ordinary ones")
+    for l in (13, 100, 300, 1000, 1024, 2000, 4096, 5000, 8000):
+        for m, mtu in ((0, 1400), (1, 576), (3, 280), (5, 9000)):
+            ask_plan(1, m, mtu, PAIR if l % 200 else NONE, l)
+        ask_plan(0, 0, 128 + l // 7, "ffff0000", l)
+    silent("# leading zeros change no number")
+    ask("plan 01 002 0001400 - 00000000000000000000000415", plans.answer(("1", "2", "1400", "-", "415")))
+    ask("plan 0 0 1400 - " + "0" * 1000 + "18446744073709551615", "refused 22")
+
+
+MALFORMED = """\
+hello
+crc
+plan
+CRC 00
+Crc 00
+crcs 00
+cr 00
+crc:00
+c
+-
+0
+unknown
+refused 40
+crc 0
+crc 000
+crc 0g
+crc g0
+crc FF
+crc fF
+crc --
+crc -0
+crc 0-
+crc 00-
+crc 0x00
+crc 00 00
+crc 00 -
+crc - -
+crc 00,00
+plan 1 2 1400 -
+plan 1 2 1400 12
+plan 1 2 1400 - 12 0
+plan 1 2 1400 - 12 -
+plans 1 2 1400 - 12
+pla 1 2 1400 - 12
+Plan 1 2 1400 - 12
+plan 2 2 1400 - 12
+plan 10 2 1400 - 12
+plan - 2 1400 - 12
+plan x 2 1400 - 12
+plan 18446744073709551617 2 1400 - 12
+plan 1 - 1400 - 12
+plan 1 -2 1400 - 12
+plan 1 +2 1400 - 12
+plan 1 2.0 1400 - 12
+plan 1 0x2 1400 - 12
+plan 1 a 1400 - 12
+plan 1 / 1400 - 12
+plan 1 : 1400 - 12
+plan 1 2 1,400 - 12
+plan 1 2 18446744073709551616 - 12
+plan 1 2 1400 - 18446744073709551616
+plan 1 2 1400 - 18446744073709551620
+plan 1 2 1400 - 99999999999999999999
+plan 1 2 1400 - 100000000000000000000000000000
+plan 1 2 1400 - 00018446744073709551616
+plan 1 2 1400 - -
+plan 1 2 1400 - 12c
+plan 1 2 1400 -- 12
+plan 1 2 1400 0 12
+plan 1 2 1400 0000 12
+plan 1 2 1400 000000 12
+plan 1 2 1400 0000000 12
+plan 1 2 1400 000000000 12
+plan 1 2 1400 0000000000 12
+plan 1 2 1400 0000000g 12
+plan 1 2 1400 0000000A 12
+plan 1 2 1400 0000000` 12
+plan 1 2 1400 0000:000 12
+plan 1 2 1400 0000/000 12"""
+
+
+def malformed():
+    silent("# malformed lines")
+    for number, line in enumerate(MALFORMED.split("\n")):
+        if number % 20 == 7:
+            silent("")
+        ask(line, "unknown")
+    silent("# blanks too many, carriage returns, tabs, bytes that are no letters")
+    for line in (b" ", b"  ", b" crc 00", b"crc ", b"crc  00", b"crc 00 ", b"crc  ", b"crc\t00", b"crc 00\r", b"\r", b" # no comment",
+                 b"crc 00\x00", b"\x00", b"\xff\xfe", b"crc \xb0\xb0", b" plan 1 2 1400 - 12", b"plan  1 2 1400 - 12", b"plan 1 2  1400 - 12",
+                 b"plan 1 2 1400  12", b"plan 1 2 1400 -  12", b"plan 1 2 1400 - 12 ", b"plan 1 2 1400 - 12\r", b"plan 1 2 1400 - "):
+        ask(line, "unknown")
+    silent("")
+    silent("#")
+
+
+def long_lines():
+    silent("# a line one character short of too long, then lines that are too long: one answer each, and the next line is read as ever")
+    zeros = "plan 1 2 1400 - "
+    ask(zeros + "12".rjust(LINE - 1 - len(zeros), "0"), plans.answer(("1", "2", "1400", "-", "12")))
+    ask(zeros + "12".rjust(LINE - len(zeros), "0"), "unknown")
+    ask("crc " + "00" * (LINE // 2), "unknown")
+    ask("crc 00", "crc 1e0f")
+    silent("#" + "-" * LINE)
+    ask("crc -", "crc 0000")
+    silent("# the last question has no newline behind it")
+    ask_plan(1, 2, 1400, NONE, 8192)
+
+
+def main():
+    for part in (sums, sizes, settings, counts, ordinary, malformed, long_lines):
+        part()
+        silent("")
+    questions.pop()
+    (ASK / "stdin").write_bytes(b"\n".join(questions))
+    (ASK / "stdout").write_text("".join(answer + "\n" for answer in answers))
+    plain = sum(a == "unknown" for a in answers)
+    print(f"{len(questions)} lines, {len(answers)} answers, {plain} of them unknown")
+
+
+if __name__ == "__main__":
+    main()
