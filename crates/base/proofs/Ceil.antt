@@ -1,6 +1,5 @@
 -- Rounding up: the four laws from which all others follow. Assumes nothing.
-use mathlib.Core.Path.{_≡_}
-use Prim.Native.Nat.{ℕ, suc, _+_, _-_, _*_, _/_, _≤_, _<_}
+use Prim.Native.Nat.{ℕ, suc, _+_, _-_, _*_, _≤_, _<_}
 use native.Mathlib.Nat.{mul-div-le, lt-mul-div-succ, lt-of-mul-lt-mul-left, le-of-suc-le-suc}
 use native.Mathlib.Omega.{arith}
 use Rattle.base.specs.Round.{ceil}

@@ -4,7 +4,6 @@ use Prim.Native.Nat.{ℕ, zero, suc, _+_, _*_, _/_, _%_, _^_, _<_}
 use native.Mathlib.Nat.{not-suc-le-zero, le-of-suc-le-suc, mod-lt, zero-lt-suc, add-zero}
 use native.Mathlib.Omega.{arith}
 use lib.Arith.{bin-ind, digits-mod}
-use lib.Dec.{lit<}
 use lib.Pow.{pow-pos}
 use lib.Bits.{bitXor, differ, xor-zero-l, xor-zero-r, xor-comm, xor-self, xor-step, xor-shr, xor-block}
 

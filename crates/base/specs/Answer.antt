@@ -1,5 +1,5 @@
 -- What a call leaves: its answer as document 01 numbers it, and the bytes that were lent to it.
-use mathlib.Core.List.{List, []}
+use mathlib.Core.List.{List}
 use Prim.Native.Nat.{ℕ, zero, suc}
 
 -- an answer: nothing is refused, with the values that it carries; or the number of the refusal, alone

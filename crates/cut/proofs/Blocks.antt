@@ -1,6 +1,6 @@
 -- The n cells of a block from j n on are chunk j and its parity. Assumes nothing.
-use mathlib.Core.Path.{_≡_, refl, sym, ap, ap₂, _∙_}
-use mathlib.Core.List.{List, [], _∷_, _++_}
+use mathlib.Core.Path.{_≡_, sym, ap, ap₂, _∙_}
+use mathlib.Core.List.{List, _++_}
 use Prim.Native.Nat.{ℕ, zero, suc, _+_, _*_, _≤_, _<_}
 use native.Mathlib.Nat.{suc-mul, zero-mul, not-suc-le-zero, le-of-suc-le-suc, add-comm}
 use native.Mathlib.Omega.{arith}

@@ -1,18 +1,17 @@
 -- The calls on fragments: what their tests tell, and which answer is which case. Assumes nothing.
-use mathlib.Core.Path.{_≡_, refl, sym, ap, ap₂, _∙_}
+use mathlib.Core.Path.{_≡_, refl, sym, ap, _∙_}
 use mathlib.Core.Bool.{Bool, true, false, _||_}
 use mathlib.Core.List.{List, [], _∷_, _++_}
-use Prim.Native.Nat.{ℕ, zero, suc, _+_, _-_, _*_, _/_, _≤_, _<_}
+use Prim.Native.Nat.{ℕ, _+_, _-_, _*_, _/_, _≤_, _<_}
 use native.Mathlib.Nat.{pos-of-ne-zero, zero-add, mul-div-le, lt-mul-div-succ, mul-le-mul-left, mul-le-mul-right}
 use native.Mathlib.Omega.{arith}
 use borrow.Author.Tests.{ltb-false, eqb-false, le-leb, lt-leb, lt-ltb, le-ltb}
-use lib.Dec.{leb, ltb, eqb, lit<}
+use lib.Dec.{ltb, eqb, lit<}
 use lib.ListN.{length, getD, replicate, List·getD-eq-default}
 use Rattle.base.specs.Answer.{granted, refused, outcome}
 use Rattle.base.specs.Bounds.{most-f, most-k, place, parity}
 use Rattle.base.specs.Bytes.{splice}
 use Rattle.base.specs.Table.{table}
-use Rattle.base.specs.Tests.{first}
 use Rattle.base.proofs.Answers.{grants, refuses, writes, leaves}
 use Rattle.base.proofs.Firsts.{due, skip, none-due}
 use Rattle.base.proofs.Logic.{or-left, or-right}

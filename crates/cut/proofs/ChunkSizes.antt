@@ -1,9 +1,9 @@
 -- The chunks of a packet: at most 207 bytes each, all alike, the last filled up with z zeros. Assumes nothing.
 use mathlib.Core.Path.{_≡_, ap}
-use Prim.Native.Nat.{ℕ, suc, _+_, _-_, _*_, _≤_, _<_}
-use native.Mathlib.Nat.{mul-le-mul-left, le-mul-of-pos-right}
-use native.Mathlib.Omega.{arith, by-contra}
-use Rattle.base.specs.Bounds.{least-l, most-l, most-k, parity}
+use Prim.Native.Nat.{ℕ, _+_, _-_, _*_, _≤_, _<_}
+use native.Mathlib.Nat.{le-mul-of-pos-right}
+use native.Mathlib.Omega.{arith}
+use Rattle.base.specs.Bounds.{most-l, most-k, parity}
 use Rattle.base.specs.Round.{ceil}
 use Rattle.base.proofs.Ceil as ceils
 use Rattle.cut.specs.Sizes.{most-c, c, k, z, n}

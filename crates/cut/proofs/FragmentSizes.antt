@@ -1,7 +1,7 @@
 -- A cut of L bytes into f fragments of s, at most S to a fragment: laws of any L and S. Assumes nothing.
 use mathlib.Core.Path.{_≡_, ap}
 use Prim.Native.Nat.{ℕ, suc, _+_, _-_, _*_, _/_, _≤_, _<_}
-use native.Mathlib.Nat.{mul-le-mul-left, mul-le-mul-right, mul-le-mul, mul-pos, div-eq-of-lt-le, le-div-iff-mul-le}
+use native.Mathlib.Nat.{mul-le-mul-left, mul-le-mul-right, mul-le-mul, mul-pos, div-eq-of-lt-le}
 use native.Mathlib.Omega.{arith, by-contra}
 use Rattle.base.specs.Round.{ceil}
 use Rattle.base.proofs.Ceil as ceils

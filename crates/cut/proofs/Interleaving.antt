@@ -1,13 +1,12 @@
 -- Interleaving: cells and fragments are one to one, and a place that holds the fragments has the block's bytes. Assumes nothing.
-use mathlib.Core.Path.{_≡_, refl, sym, ap, _∙_}
+use mathlib.Core.Path.{_≡_, sym, ap, _∙_}
 use mathlib.Core.List.{List}
-use Prim.Native.Nat.{ℕ, suc, _+_, _-_, _*_, _/_, _%_, _≤_, _<_, min}
-use native.Mathlib.Nat.{zero-add, mod-add-div, div-add-mod', div-lt-iff-lt-mul, mod-lt, mul-comm, add-comm}
+use Prim.Native.Nat.{ℕ, _+_, _-_, _*_, _/_, _%_, _<_, min}
+use native.Mathlib.Nat.{zero-add, mod-add-div, div-add-mod', div-lt-iff-lt-mul, mod-lt}
 use native.Mathlib.Omega.{arith}
 use lib.Arith.{digits-lt, digits-div, digits-mod}
 use lib.ListN.{length, getD, take, drop, length-take, length-drop}
 use lib.Seq.{getD-take, getD-drop}
-use Rattle.base.specs.Table.{table}
 use Rattle.base.proofs.Tables.{length-table, at-table}
 use Rattle.cut.specs.Cells.{fragmentOf, partOf, cellOf}
 use Rattle.cut.specs.Claims.{Woven, Joined}

@@ -126,7 +126,7 @@ module _ (g : Settings) (l : ℕ) where
       le-div-iff-mul-le {k = divisor g} (divisor-some g ok e) .1 (omega (arith, chunk.c-some l (omega arith), divisor-most g ok)) in
       omega (arith, S-both e, ok .room, some))
 
--- ---- L, with FEC and without
+  -- ---- L, with FEC and without
 
   pub L-fec : g .fec ≡ true → L g l ≡ c l * n l
   unfolding L
@@ -151,7 +151,7 @@ module _ (g : Settings) (l : ℕ) where
       (λ e. omega (arith, L-fec e, chunk.filled l some, chunk.z-less l some, chunk.k-most l some, chunk.c-most l to))
       (λ e. omega (arith, L-plain e))
 
--- ---- the figures, as they are worked out
+  -- ---- the figures, as they are worked out
 
   module _ (p : Figures) (x y : ℕ) (is-c : x ≡ c l) (is-k : y ≡ k l) where
     pub figured : p .c ≡ cond (g .fec) x 0 → p .k ≡ cond (g .fec) y 0 → p .z ≡ cond (g .fec) (x * y - l) 0 → p .n ≡ cond (g .fec) (y + parity) 0
@@ -160,7 +160,7 @@ module _ (g : Settings) (l : ℕ) where
     unfolding valuesOf figuresOf withFec z n s
     figured e₁ e₂ e₃ e₄ e₅ e₆ e₇ e₈ e₉ e₁₀ = cc
 
--- ---- the answers, case by case
+  -- ---- the answers, case by case
 
   module _ (ok : fit g ≡ true) where
     fit-due : not (fit g) ≡ false
@@ -231,7 +231,7 @@ figuresFrom v =
       total = getD v 6 0;
       f = getD v 7 0;
       s = getD v 8 0;
-      assured = getD v 9 0
+      assured = getD v 9 0;
     }
 
 read-back : (p : Figures) → figuresFrom (valuesOf p) ≡ p

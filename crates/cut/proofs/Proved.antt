@@ -1,15 +1,14 @@
 -- The claims of specs/Claims.antt, each by citation. Assumes nothing.
 use mathlib.Core.Path.{_≡_, refl, ap}
-use mathlib.Core.Bool.{Bool, true, false}
+use mathlib.Core.Bool.{Bool, false}
 use mathlib.Core.List.{List, map}
-use Prim.Native.Nat.{ℕ, _+_, _-_, _*_, _/_, _≤_, _<_}
+use Prim.Native.Nat.{ℕ, _+_, _-_, _*_, _≤_, _<_}
 use native.Mathlib.Nat.{mul-le-mul-right}
 use native.Mathlib.Omega.{arith}
 use lib.ListN.{length}
 use Rattle.base.specs.Bounds.{parity}
 use Rattle.base.specs.Round.{ceil}
-use Rattle.cut.specs.Cells.{partOf}
-use Rattle.cut.specs.Claims.{Taken, C2, C3, C4, C5, C6, AnyThree, NoFour, Windows, Parted}
+use Rattle.cut.specs.Claims.{Taken, C2, C3, C4, C5, C6, AnyThree, NoFour, Parted}
 use Rattle.cut.specs.Edge.{Row, rows, fec}
 use Rattle.cut.specs.Missing.{losses, missing, worst}
 use Rattle.cut.specs.Sizes as size

@@ -1,6 +1,6 @@
 -- The block that is cut with FEC (clause 7.3; document 01): c chunks of k bytes, each followed by its parity.
 -- What the parity of a chunk is, another layer says: here it is a parameter.
-use mathlib.Core.List.{List, [], _∷_, _++_}
+use mathlib.Core.List.{List, [], _++_}
 use Prim.Native.Nat.{ℕ, zero, suc, _*_}
 use lib.ListN.{take, drop, replicate}
 

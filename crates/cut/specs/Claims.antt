@@ -1,7 +1,7 @@
 -- The theorems of the cut, C2 to C6, as they can be held against document 01. Each is proved in proofs/Proved.antt.
 use mathlib.Core.Path.{_≡_}
 use mathlib.Core.Bool.{Bool, true, false}
-use mathlib.Core.List.{List, [], _++_}
+use mathlib.Core.List.{List}
 use Prim.Native.Nat.{ℕ, _+_, _-_, _*_, _/_, _%_, _≤_, _<_}
 use lib.ListN.{length, getD, take, drop}
 use Rattle.base.specs.Bounds.{most-k, place, parity}
@@ -10,7 +10,7 @@ use Rattle.cut.specs.Cells.{fragmentOf, cellOf, partOf}
 use Rattle.cut.specs.Edge.{fec}
 use Rattle.cut.specs.Missing.{losses, missing, suffice, worst, firsts}
 use Rattle.cut.specs.Plan.{planFault}
-use Rattle.cut.specs.Sizes.{c, k, z, n, h, S, L, f, s, assured, receivedC}
+use Rattle.cut.specs.Sizes.{c, k, z, n, S, L, f, s, assured, receivedC}
 use Rattle.cut.specs.declared.Settings.{Settings}
 
 -- a cut of l bytes at g that is not refused

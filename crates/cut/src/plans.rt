@@ -1,4 +1,8 @@
 // The plan of a cut: one small function for each size, so that a change of one rule moves one function.
+use crate::Address;
+use crate::Figures;
+use crate::Planned;
+use crate::Settings;
 use base::LEAST_L;
 use base::MOST_F;
 use base::MOST_K;
@@ -6,10 +10,6 @@ use base::MOST_L;
 use base::MOST_M;
 use base::MOST_MTU;
 use base::PARITY;
-use crate::Address;
-use crate::Figures;
-use crate::Planned;
-use crate::Settings;
 ghost use mathlib.Core.Path.{_≡_};
 ghost use mathlib.Core.Bool.{true, cond, _&&_};
 ghost use Prim.Native.Nat.{_+_, _≤_, _<_};

@@ -1,14 +1,14 @@
 // What the lost fragments take from each chunk, without a visit to every cell.
-use base::MOST_F;
-use base::MOST_K;
-use base::PARITY;
 use crate::Held;
 use crate::bad_count;
 use crate::too_much;
+use base::MOST_F;
+use base::MOST_K;
+use base::PARITY;
 ghost use mathlib.Core.Path.{_≡_};
 ghost use mathlib.Core.Bool.{not};
 ghost use Prim.Native.Nat.{ℕ, _+_, _*_, _≤_, _<_};
-ghost use lib.ListN.{length, getD};
+ghost use lib.ListN.{getD};
 ghost use Rattle.base.specs.Bounds.{most-f, place};
 ghost use Rattle.cut.specs.Calls.{badChunk, notKept, enoughOf, numberOf};
 ghost use Rattle.cut.specs.Missing.{bit, count, suffice};

@@ -1,7 +1,7 @@
 // Interleaving: a block's bytes to fragments, and fragments to a block's cells again. No byte costs a division.
-use base::Written;
 use crate::bad_count;
 use crate::too_much;
+use base::Written;
 ghost use mathlib.Core.Path.{_≡_};
 ghost use Prim.Native.Nat.{ℕ, _+_, _-_, _*_, _≤_, _<_};
 ghost use lib.ListN.{length, replicate};

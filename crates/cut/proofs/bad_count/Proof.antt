@@ -2,15 +2,11 @@ use borrow.Author.Tests.{eq-eqb, ne-eqb}
 use Rattle.cut.specs.Calls.{badCount}
 use Rattle.cut.proofs.bad_count.Statement.{statement}
 use Rattle.cut.proofs.bad_count.Tie as tie
-use Rattle.cut.proofs.bad_count.Reads as reads
-use Rattle.cut.proofs.bad_count.Lts as lts
 
--- src/lib.rt:63:9
 returns : tie.Need-returns
 unfolding badCount
 returns c = rw (eq-eqb (c .before .args .f) 0 (c .if1 .taken))
 
--- src/lib.rt:59:1
 returns-2 : tie.Need-returns-2
 unfolding badCount
 returns-2 c = rw (ne-eqb (c .before .args .f) 0 (c .if1 .left))

@@ -1,17 +1,13 @@
-use native.Mathlib.Omega.{arith}
 use mathlib.Core.Path.{refl}
+use native.Mathlib.Omega.{arith}
+use Rattle.cut.proofs.plans.divided.Statement.{statement}
 use Rattle.cut.specs.Sizes as size
 use Rattle.cut.proofs.PlanCases as cases
-use Rattle.cut.proofs.plans.divided.Statement.{statement}
 use Rattle.cut.proofs.plans.divided.Tie as tie
-use Rattle.cut.proofs.plans.divided.Reads as reads
-use Rattle.cut.proofs.plans.divided.Lts as lts
 
--- src/plans.rt:118:5
 add-result : tie.Need-add-result
 add-result c = omega (arith, cases.fitted (c .before .args .g) (c .before .pre) .m-most)
 
--- src/plans.rt:114:1
 returns : tie.Need-returns
 unfolding size.divisor
 returns c = refl

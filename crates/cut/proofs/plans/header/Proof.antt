@@ -1,29 +1,21 @@
 use native.Mathlib.Omega.{arith}
-use Rattle.cut.proofs.PlanCases as cases
 use borrow.Author.Needs.{needs}
 use Rattle.cut.proofs.plans.header.Statement.{statement}
+use Rattle.cut.proofs.PlanCases as cases
 use Rattle.cut.proofs.plans.header.Tie as tie
-use Rattle.cut.proofs.plans.header.Reads as reads
-use Rattle.cut.proofs.plans.header.Lts as lts
-use Rattle.cut.proofs.plans.address_bytes.Reads as address-bytes-reads
 
--- src/plans.rt:58:9
 address-bytes-requires : tie.Need-address-bytes-requires
 address-bytes-requires c κs = search needs
 
--- src/plans.rt:59:16
 add-result : tie.Need-add-result
 add-result c = search needs
 
--- src/plans.rt:59:38
 add-result-2 : tie.Need-add-result-2
 add-result-2 c = search needs
 
--- src/plans.rt:54:1
 returns : tie.Need-returns
 returns c = let e = cases.h-fec (c .before .before .args .g) (c .if1 .taken) in (omega (arith, e), omega arith)
 
--- src/plans.rt:54:1
 returns-2 : tie.Need-returns-2
 returns-2 c = let e = cases.h-plain (c .before .before .args .g) (c .if1 .left) in (omega (arith, e), omega arith)
 

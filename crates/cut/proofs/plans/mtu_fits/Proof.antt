@@ -1,22 +1,16 @@
 use native.Mathlib.Omega.{arith}
 use borrow.Author.Tests.{lt-ltb, le-ltb}
-use Rattle.cut.specs.Sizes as size
 use borrow.Author.Needs.{needs}
 use Rattle.cut.proofs.plans.mtu_fits.Statement.{statement}
+use Rattle.cut.specs.Sizes as size
 use Rattle.cut.proofs.plans.mtu_fits.Tie as tie
-use Rattle.cut.proofs.plans.mtu_fits.Reads as reads
-use Rattle.cut.proofs.plans.mtu_fits.Lts as lts
-use Rattle.cut.proofs.plans.header.Reads as header-reads
 
--- src/plans.rt:66:8
 header-requires : tie.Need-header-requires
 header-requires c κs = search needs
 
--- src/plans.rt:63:1
 returns : tie.Need-returns
 returns c = let g = c .before .before .before .before .args .g in rw (lt-ltb (size.h g) (g .mtu) (omega arith))
 
--- src/plans.rt:63:1
 returns-2 : tie.Need-returns-2
 returns-2 c = let g = c .before .before .before .args .g in rw (le-ltb (size.h g) (g .mtu) (omega arith))
 

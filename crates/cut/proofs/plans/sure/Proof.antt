@@ -1,11 +1,8 @@
 use mathlib.Core.Path.{refl}
-use Rattle.cut.specs.Sizes as size
 use Rattle.cut.proofs.plans.sure.Statement.{statement}
+use Rattle.cut.specs.Sizes as size
 use Rattle.cut.proofs.plans.sure.Tie as tie
-use Rattle.cut.proofs.plans.sure.Reads as reads
-use Rattle.cut.proofs.plans.sure.Lts as lts
 
--- src/plans.rt:122:1
 returns : tie.Need-returns
 unfolding size.assured
 returns c = refl

@@ -1,20 +1,14 @@
-use Rattle.cut.specs.Missing.{missing, suffice}
-use lib.ListN.{getD}
+use mathlib.Core.Path.{_≡_, ap, sym}
+use Prim.Native.Nat.{ℕ, _+_, _*_, _-_, _≤_, _<_}
 use native.Mathlib.Omega.{arith}
 use native.Mathlib.Nat.{mod-lt, mul-le-mul-right, zero-mul, not-suc-le-zero}
-use mathlib.Core.Path.{_≡_, refl, ap, _∙_, sym}
 use borrow.Author.Count.{below-more}
-use borrow.Author.Needs.{needs}
-use Prim.Native.Nat.{ℕ, _+_, _*_, _-_, _/_, _%_, _≤_, _<_}
 use Rattle.base.specs.Bounds.{parity, place}
+use Rattle.cut.specs.Missing.{missing}
 use Rattle.cut.specs.Calls.{notKept}
-use Rattle.cut.specs.Missing.{suffice}
 use Rattle.cut.proofs.PrefixSums.{Sums, reading, reading-le, misses, suffice-read, suffice-fails}
 use Rattle.cut.proofs.tally.suffices.Statement.{statement}
 use Rattle.cut.proofs.tally.suffices.Tie as tie
-use Rattle.cut.proofs.tally.suffices.Reads as reads
-use Rattle.cut.proofs.tally.suffices.Lts as lts
-use Rattle.cut.proofs.tally.sums_of.Reads as sums-of-reads
 
 abbrev Inv-loop : tie.InvT-loop
 Inv-loop f n c sums w before₀ q₀ j₀ before q j = (j ≤ c) × (q ≡ j * n) × (before ≡ reading sums f (j * n)) × ((i : ℕ) → i < j → reading sums f (i * n + n) ≤ parity + reading sums f (i * n))
@@ -50,73 +44,57 @@ small : (c : tie.In-loop Inv-loop μ-loop)
     ≤ c .before .loop .q + c .before .before .before .args .n
 small c = let a = c .before .before .before .args in reading-le (notKept (a .kept)) (a .f) (a .n) (omega arith) (c .before .before .sums-of .result) (known c) _
 
--- src/tally.rt:47:16
 sums-of-requires : tie.Need-sums-of-requires Inv-loop μ-loop
 sums-of-requires c κs = omega arith
 
--- src/tally.rt:48:13
 mul-w : tie.Need-mul-w Inv-loop μ-loop
 mul-w c = omega arith
 
--- src/tally.rt:48:13
 array-read-w : tie.Need-array-read-w Inv-loop μ-loop
 array-read-w c = omega arith
 
--- src/tally.rt:52:5
 loop-holds : tie.Need-loop-holds Inv-loop μ-loop
 loop-holds c = let a = c .before .args in
     let z : 0 * a .n ≡ 0 = zero-mul (a .n) in
     let sums : Sums (notKept (a .kept)) (c .sums-of .result) (a .f) = record { at = c .sums-of .ensures } in
     (omega arith, sym z, omega (arith, z, reading-le (notKept (a .kept)) (a .f) (a .n) (omega arith) (c .sums-of .result) sums (0 * a .n)), λ i (h : i < 0). absurd (not-suc-le-zero h))
 
--- src/tally.rt:53:9
 add-q : tie.Need-add-q Inv-loop μ-loop
 add-q c = omega (arith, next c)
 
--- src/tally.rt:54:20
 div-upto : tie.Need-div-upto Inv-loop μ-loop
 div-upto c = omega arith
 
--- src/tally.rt:54:20
 mul-upto : tie.Need-mul-upto Inv-loop μ-loop
 mul-upto c = omega (arith, small c, next c)
 
--- src/tally.rt:54:37
 rem-upto : tie.Need-rem-upto Inv-loop μ-loop
 rem-upto c = omega arith
 
--- src/tally.rt:54:32
 mul-upto-2 : tie.Need-mul-upto-2 Inv-loop μ-loop
 mul-upto-2 c = let a = c .before .before .before .args in omega (arith, mod-lt (c .before .loop .q + a .n) {m = a .f} (omega arith))
 
--- src/tally.rt:54:32
 array-read-upto : tie.Need-array-read-upto Inv-loop μ-loop
 array-read-upto c = let a = c .before .before .before .args in omega (arith, mod-lt (c .before .loop .q + a .n) {m = a .f} (omega arith))
 
--- src/tally.rt:54:20
 add-upto : tie.Need-add-upto Inv-loop μ-loop
 add-upto c = omega (arith, small c, next c)
 
--- src/tally.rt:55:21
 sub-if1 : tie.Need-sub-if1 Inv-loop μ-loop
 sub-if1 c = omega (arith, step c)
 
--- src/tally.rt:56:13
 returns : tie.Need-returns Inv-loop μ-loop
 returns c = let d = c .before in
     let a = d .before .before .before .args in
     let e = ap (reading (d .before .before .sums-of .result) (a .f)) (next d .0) in
     suffice-fails (notKept (a .kept)) (a .f) (a .n) (omega arith) (d .before .before .sums-of .result) (known d) (a .c) (d .before .loop .j) (d .loop-test .taken) (omega (arith, e, d .before .loop .inv .2, c .if1 .taken))
 
--- src/tally.rt:59:9
 add-j : tie.Need-add-j Inv-loop μ-loop
 add-j c = omega arith
 
--- src/tally.rt:52:5
 loop-less : tie.Need-loop-less Inv-loop μ-loop
 loop-less c = omega arith
 
--- src/tally.rt:52:5
 loop-again : tie.Need-loop-again Inv-loop μ-loop
 loop-again c = let d = c .before in
     let a = d .before .before .before .args in
@@ -126,7 +104,6 @@ loop-again c = let d = c .before in
     let on : d .before .loop .q + a .n ≡ (d .before .loop .j + 1) * a .n = omega (arith, i .1) in
     (omega arith, on, ap (reading sums (a .f)) on, below-more _ _ (i .3) (omega (arith, e, i .2, c .if1 .left)))
 
--- src/tally.rt:43:1
 returns-2 : tie.Need-returns-2 Inv-loop μ-loop
 returns-2 c = let a = c .before .before .before .args in
     let i = c .before .loop .inv in

@@ -1,21 +1,15 @@
+use mathlib.Core.Path.{_≡_, refl, ap, _∙_}
+use Prim.Native.Nat.{ℕ, _+_, _-_, _≤_}
 use native.Mathlib.Omega.{arith}
-use mathlib.Core.Path.{_≡_, refl, ap, _∙_, sym}
-use Prim.Native.Nat.{ℕ, _+_, _*_, _-_, _≤_, _<_}
-use lib.ListN.{length, getD}
 use Rattle.base.specs.Bytes.{splice}
 use Rattle.base.specs.Table.{table}
 use Rattle.base.proofs.Tables as tables
-use lib.ListN.{replicate}
 use Rattle.cut.proofs.weave.blank.Statement.{statement}
 use Rattle.cut.proofs.weave.blank.Tie as tie
-use Rattle.cut.proofs.weave.blank.Reads as reads
-use Rattle.cut.proofs.weave.blank.Lts as lts
 
--- BEGIN LEMMAS
 -- zeros all along
 abbrev rule : ℕ → ℕ
 rule t = 0
--- END LEMMAS
 
 abbrev Inv-loop : tie.InvT-loop
 Inv-loop out₀ from to t₀ out t = (from ≤ t) × (t ≤ to) × (out ≡ splice out₀ from (table rule 0 (t - from)))
@@ -23,35 +17,28 @@ Inv-loop out₀ from to t₀ out t = (from ≤ t) × (t ≤ to) × (out ≡ spli
 abbrev μ-loop : tie.MeasureT-loop
 μ-loop out₀ from to t₀ out t = to - t
 
--- src/weave.rt:48:5
 loop-holds : tie.Need-loop-holds Inv-loop μ-loop
 loop-holds c = let a = c .args in
     (omega arith, omega arith, tables.filled-none rule 0 (a .out .now) (a .from) ∙ ap (λ (x : ℕ). splice (a .out .now) (a .from) (table rule 0 x)) (omega arith))
 
--- src/weave.rt:49:9
 slice-write-out : tie.Need-slice-write-out Inv-loop μ-loop
 slice-write-out c = omega (arith, tables.filled-length _ 0 _ _ _ (c .before .loop .inv .2) (omega arith))
 
--- src/weave.rt:50:9
 add-t : tie.Need-add-t Inv-loop μ-loop
 add-t c = omega arith
 
--- src/weave.rt:48:5
 loop-less : tie.Need-loop-less Inv-loop μ-loop
 loop-less c = omega arith
 
--- src/weave.rt:48:5
 loop-again : tie.Need-loop-again Inv-loop μ-loop
 loop-again c = let a = c .before .before .args in
     let n : ℕ = c .before .loop .t - a .from in
     let e : n + 1 ≡ c .before .loop .t + 1 - a .from = omega arith in
     (omega arith, omega arith, tables.filled-more rule 0 (a .out .now) (a .from) n (c .before .loop .inv .2) (omega arith) refl (omega arith) ∙ ap (λ (x : ℕ). splice (a .out .now) (a .from) (table rule 0 x)) e)
 
--- src/weave.rt:43:1
 same-length : tie.Need-same-length Inv-loop μ-loop
 same-length c = tables.filled-length _ 0 _ _ _ (c .before .loop .inv .2) (omega arith)
 
--- src/weave.rt:43:1
 returns : tie.Need-returns Inv-loop μ-loop
 returns c = let a = c .before .before .args in
     let e : c .before .loop .t ≡ a .to = omega arith in

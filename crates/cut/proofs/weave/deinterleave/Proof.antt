@@ -1,60 +1,69 @@
+use mathlib.Core.Path.{_≡_}
+use mathlib.Core.Bool.{false}
 use native.Mathlib.Omega.{arith}
+use borrow.Author.Needs.{needs}
 use Rattle.base.proofs.Logic.{told}
 use Rattle.base.specs.Written.{numberOf}
-use Rattle.cut.proofs.CallCases as cases
-use borrow.Author.Needs.{needs}
+use Rattle.cut.specs.Calls.{badCount, tooMuch}
 use Rattle.cut.proofs.weave.deinterleave.Statement.{statement}
+use Rattle.cut.proofs.CallCases as cases
 use Rattle.cut.proofs.weave.deinterleave.Tie as tie
-use Rattle.cut.proofs.weave.deinterleave.Reads as reads
-use Rattle.cut.proofs.weave.deinterleave.Lts as lts
-use Rattle.cut.proofs.bad_count.Reads as bad-count-reads
-use Rattle.cut.proofs.too_much.Reads as too-much-reads
-use Rattle.cut.proofs.weave.lay.Reads as lay-reads
 
--- src/weave.rt:107:8
+-- what the branches passed have told
+counted : (c : tie.Else1) → badCount (c .before .before .before .before .args .f) ≡ false
+counted c = told (c .before .bad-count .ensures) (c .if1 .left)
+
+placed : (c : tie.Else2) → tooMuch (c .before .before .before .before .before .before .args .f) (c .before .before .before .before .before .before .args .s) ≡ false
+placed c = told (c .before .too-much .ensures) (c .if2 .left)
+
 bad-count-requires : tie.Need-bad-count-requires
 bad-count-requires c κs = search needs
 
--- src/weave.rt:108:9
 returns : tie.Need-returns
 unfolding numberOf
-returns c = cases.cells-7 (c .before .before .before .before .args .held .now) (c .before .before .before .before .args .out .now) (c .before .before .before .before .args .f) (c .before .before .before .before .args .s) (told (c .before .bad-count .ensures) (c .if1 .taken))
+returns c =
+    let a = c .before .before .before .before .args in
+    cases.cells-7 (a .held .now) (a .out .now) (a .f) (a .s) (told (c .before .bad-count .ensures) (c .if1 .taken))
 
--- src/weave.rt:110:8
 too-much-requires : tie.Need-too-much-requires
-too-much-requires c κs = told (c .before .bad-count .ensures) (c .if1 .left)
+too-much-requires c κs = counted c
 
--- src/weave.rt:111:9
 returns-2 : tie.Need-returns-2
 unfolding numberOf
-returns-2 c = cases.cells-8 (c .before .before .before .before .before .before .args .held .now) (c .before .before .before .before .before .before .args .out .now) (c .before .before .before .before .before .before .args .f) (c .before .before .before .before .before .before .args .s) (told (c .before .before .before .bad-count .ensures) (c .before .before .if1 .left)) (told (c .before .too-much .ensures) (c .if2 .taken))
+returns-2 c =
+    let a = c .before .before .before .before .before .before .args in
+    cases.cells-8 (a .held .now) (a .out .now) (a .f) (a .s) (counted (c .before .before)) (told (c .before .too-much .ensures) (c .if2 .taken))
 
--- src/weave.rt:113:15
 mul-all : tie.Need-mul-all
-mul-all c = omega (arith, cases.fits-place (c .before .before .before .before .before .before .args .f) (c .before .before .before .before .before .before .args .s) (told (c .before .too-much .ensures) (c .if2 .left)))
+mul-all c =
+    let a = c .before .before .before .before .before .before .args in
+    omega (arith, cases.fits-place (a .f) (a .s) (placed c))
 
--- src/weave.rt:115:9
 returns-3 : tie.Need-returns-3
 unfolding numberOf
-returns-3 c = cases.cells-held (c .before .before .before .before .before .before .before .args .held .now) (c .before .before .before .before .before .before .before .args .out .now) (c .before .before .before .before .before .before .before .args .f) (c .before .before .before .before .before .before .before .args .s) (told (c .before .before .before .before .bad-count .ensures) (c .before .before .before .if1 .left)) (told (c .before .before .too-much .ensures) (c .before .if2 .left)) (c .if3 .taken)
+returns-3 c =
+    let a = c .before .before .before .before .before .before .before .args in
+    cases.cells-held (a .held .now) (a .out .now) (a .f) (a .s) (counted (c .before .before .before)) (placed (c .before)) (c .if3 .taken)
 
--- src/weave.rt:118:9
 returns-4 : tie.Need-returns-4
 unfolding numberOf
-returns-4 c = cases.cells-room (c .before .before .before .before .before .before .before .before .args .held .now) (c .before .before .before .before .before .before .before .before .args .out .now) (c .before .before .before .before .before .before .before .before .args .f) (c .before .before .before .before .before .before .before .before .args .s) (told (c .before .before .before .before .before .bad-count .ensures) (c .before .before .before .before .if1 .left)) (told (c .before .before .before .too-much .ensures) (c .before .before .if2 .left)) (c .before .if3 .left) (c .if4 .taken)
+returns-4 c =
+    let a = c .before .before .before .before .before .before .before .before .args in
+    cases.cells-room (a .held .now) (a .out .now) (a .f) (a .s) (counted (c .before .before .before .before)) (placed (c .before .before)) (c .before .if3 .left) (c .if4 .taken)
 
--- src/weave.rt:120:5
 lay-requires : tie.Need-lay-requires
-lay-requires c κs = (cases.fits-place (c .before .before .before .before .before .before .before .before .before .args .f) (c .before .before .before .before .before .before .before .before .before .args .s) (told (c .before .before .before .before .too-much .ensures) (c .before .before .before .if2 .left)), c .before .before .if3 .left, c .before .if4 .left)
+lay-requires c κs =
+    let a = c .before .before .before .before .before .before .before .before .before .args in
+    (cases.fits-place (a .f) (a .s) (placed (c .before .before .before)), c .before .before .if3 .left, c .before .if4 .left)
 
--- src/weave.rt:104:1
 same-length : tie.Need-same-length
 same-length c = search needs
 
--- src/weave.rt:104:1
 returns-5 : tie.Need-returns-5
 unfolding numberOf
-returns-5 c = cases.cells-done (c .before .before .before .before .before .before .before .before .before .before .before .before .args .held .now) (c .before .before .before .before .before .before .before .before .before .before .before .before .args .out .now) (c .before .before .before .before .before .before .before .before .before .before .before .before .args .f) (c .before .before .before .before .before .before .before .before .before .before .before .before .args .s) (told (c .before .before .before .before .before .before .before .before .before .bad-count .ensures) (c .before .before .before .before .before .before .before .before .if1 .left)) (told (c .before .before .before .before .before .before .before .too-much .ensures) (c .before .before .before .before .before .before .if2 .left)) (c .before .before .before .before .before .if3 .left) _ (c .before .before .before .before .if4 .left) (c .before .before .lay .ensures)
+returns-5 c =
+    let a = c .before .before .before .before .before .before .before .before .before .before .before .before .args in
+    cases.cells-done (a .held .now) (a .out .now) (a .f) (a .s) (counted (c .before .before .before .before .before .before .before .before)) (placed (c .before .before .before .before .before .before)) (c .before .before .before .before .before .if3 .left) _ (c .before .before .before .before .if4 .left) (c .before .before .lay .ensures)
 
 pub deinterleave-spec : {M : Type 1} → statement M
 deinterleave-spec =

@@ -1,39 +1,30 @@
+use Prim.Native.Nat.{ℕ, _≤_, _<_, _-_}
 use native.Mathlib.Omega.{arith}
 use native.Mathlib.Nat.{div-le-self}
-use Prim.Native.Nat.{ℕ, _≤_, _<_, _-_}
-use Rattle.cut.proofs.CallCases.{row-inside, row-outside}
 use borrow.Author.Needs.{needs}
+use Rattle.cut.proofs.CallCases.{row-inside, row-outside}
 use Rattle.cut.proofs.weave.rows_within.Statement.{statement}
 use Rattle.cut.proofs.weave.rows_within.Tie as tie
-use Rattle.cut.proofs.weave.rows_within.Reads as reads
-use Rattle.cut.proofs.weave.rows_within.Lts as lts
 
--- src/weave.rt:22:9
 returns : tie.Need-returns
 returns c = search needs
 
--- src/weave.rt:24:17
 sub-rows : tie.Need-sub-rows
 sub-rows c = search needs
 
--- src/weave.rt:24:17
 sub-rows-2 : tie.Need-sub-rows-2
 sub-rows-2 c = search needs
 
--- src/weave.rt:24:16
 div-rows : tie.Need-div-rows
 div-rows c = search needs
 
--- src/weave.rt:24:16
 add-rows : tie.Need-add-rows
 add-rows c = let a = c .before .args in omega (arith, div-le-self (a .len - a .i - 1) (a .f))
 
--- src/weave.rt:17:1
 returns-2 : tie.Need-returns-2
 returns-2 c = let a = c .before .before .args in
     (omega arith, row-inside (a .len) (a .f) (a .i) (c .before .before .pre) (c .before .if1 .left), λ (t : ℕ) h l. row-outside (a .len) (a .f) (a .i) (c .before .before .pre) (c .before .if1 .left) t h)
 
--- src/weave.rt:17:1
 returns-3 : tie.Need-returns-3
 returns-3 c = let a = c .before .before .args in
     (omega arith, λ (t : ℕ) (h : t < a .s). row-inside (a .len) (a .f) (a .i) (c .before .before .pre) (c .before .if1 .left) t (omega arith), λ (t : ℕ) (h : a .s ≤ t) (l : t < a .s). absurd (omega arith))
