@@ -1,10 +1,9 @@
 pub mod ChunkSizes
 pub mod FragmentSizes
 pub mod LossCounts
-pub mod PrefixSums
+pub mod Sufficing
 pub mod Interleaving
 pub mod Blocks
 pub mod PlanCases
 pub mod Bearing
-pub mod CallCases
 pub mod Proved

@@ -18,7 +18,7 @@ use Rattle.cut.proofs.Blocks.{window}
 use Rattle.cut.proofs.Interleaving.{woven, joined, part-byte, length-part}
 use Rattle.cut.proofs.LossCounts.{most, fewest, firsts-lost, firsts-take, worst-more}
 use Rattle.cut.proofs.PlanCases.{within, L-plain}
-use Rattle.cut.proofs.PrefixSums.{suffice-from, suffice-no}
+use Rattle.cut.proofs.Sufficing.{suffice-from, suffice-no}
 
 pub c2 : C2
 c2 g l taken = bearing.sized g l (within g l taken)

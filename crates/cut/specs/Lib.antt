@@ -3,6 +3,5 @@ pub mod Plan
 pub mod Block
 pub mod Cells
 pub mod Missing
-pub mod Calls
 pub mod Edge
 pub mod Claims

@@ -1,18 +1,9 @@
-// The cut of an AF packet into PFT fragments (clause 7): its settings and sizes, interleaving, and what lost fragments take.
+// The cut of an AF packet into PFT fragments (clause 7): its settings, its sizes and its plan. What the specs say of interleaving
+// and of losses, the crate above does.
 mod plans;
-mod tally;
-mod weave;
 
 pub use plans::house;
 pub use plans::plan;
-pub use tally::enough;
-pub use weave::deinterleave;
-pub use weave::interleave;
-ghost use mathlib.Core.Path.{_≡_};
-ghost use mathlib.Core.Bool.{false};
-ghost use Rattle.cut.specs.Calls.{badCount, tooMuch};
-use base::MOST_F;
-use base::PLACE;
 
 // The pair of addresses that a header carries, or none.
 pub enum Address {
@@ -46,32 +37,4 @@ pub struct Figures {
 pub enum Planned {
     Cut(Figures),
     Refused(u8),
-}
-
-// Whether the fragments held suffice.
-pub enum Held {
-    Enough,
-    NotEnough,
-    Refused(u8),
-}
-
-// Whether f is no count of fragments.
-fn bad_count(f: usize) -> bool
-    ensures { λ r. ⌜ r ≡ badCount f ⌝ }
-{
-    if f == 0 {
-        return true;
-    }
-    MOST_F < f
-}
-
-// Whether f fragments of s bytes are more than a place holds; s is looked at first, so that the product fits.
-fn too_much(f: usize, s: usize) -> bool
-    requires { ⌜ badCount f ≡ false ⌝ }
-    ensures { λ r. ⌜ r ≡ tooMuch f s ⌝ }
-{
-    if PLACE < s {
-        return true;
-    }
-    PLACE < f * s
 }

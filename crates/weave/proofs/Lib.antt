@@ -1,0 +1,2 @@
+pub mod PrefixSums
+pub mod CallCases

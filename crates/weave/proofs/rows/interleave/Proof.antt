@@ -1,0 +1,86 @@
+use mathlib.Core.Path.{_≡_}
+use mathlib.Core.Bool.{false}
+use native.Mathlib.Omega.{arith}
+use borrow.Author.Needs.{needs}
+use Rattle.base.proofs.Logic.{told}
+use Rattle.base.specs.Written.{numberOf}
+use Rattle.weave.specs.Calls.{badCount, tooMuch}
+use Rattle.weave.proofs.rows.interleave.Statement.{statement}
+use Rattle.weave.proofs.CallCases as cases
+use Rattle.weave.proofs.rows.interleave.Tie as tie
+
+-- what the branches passed have told
+counted : (c : tie.Else1) → badCount (c .before .before .before .before .args .f) ≡ false
+counted c = told (c .before .bad-count .ensures) (c .if1 .left)
+
+placed : (c : tie.Else2) → tooMuch (c .before .before .before .before .before .before .args .f) (c .before .before .before .before .before .before .args .s) ≡ false
+placed c = told (c .before .too-much .ensures) (c .if2 .left)
+
+bad-count-requires : tie.Need-bad-count-requires
+bad-count-requires c κs = search needs
+
+returns : tie.Need-returns
+unfolding numberOf
+returns c =
+    let a = c .before .before .before .before .args in
+    cases.weave-7 (a .block .now) (a .out .now) (a .f) (a .s) (a .i) (told (c .before .bad-count .ensures) (c .if1 .taken))
+
+too-much-requires : tie.Need-too-much-requires
+too-much-requires c κs = counted c
+
+returns-2 : tie.Need-returns-2
+unfolding numberOf
+returns-2 c =
+    let a = c .before .before .before .before .before .before .args in
+    cases.weave-8 (a .block .now) (a .out .now) (a .f) (a .s) (a .i) (counted (c .before .before)) (told (c .before .too-much .ensures) (c .if2 .taken))
+
+returns-3 : tie.Need-returns-3
+unfolding numberOf
+returns-3 c =
+    let a = c .before .before .before .before .before .before .before .args in
+    cases.weave-42 (a .block .now) (a .out .now) (a .f) (a .s) (a .i) (counted (c .before .before .before)) (placed (c .before)) (c .if3 .taken)
+
+returns-4 : tie.Need-returns-4
+unfolding numberOf
+returns-4 c =
+    let a = c .before .before .before .before .before .before .before .before .args in
+    cases.weave-1 (a .block .now) (a .out .now) (a .f) (a .s) (a .i) (counted (c .before .before .before .before)) (placed (c .before .before)) (c .before .if3 .left) (c .if4 .taken)
+
+rows-within-requires : tie.Need-rows-within-requires
+rows-within-requires c κs = search needs
+
+pick-requires : tie.Need-pick-requires
+pick-requires c κs =
+    let d = c .before .before .before in
+    (cases.f-most (d .before .before .before .before .before .before .before .args .f) (counted (d .before .before .before)), omega (arith, c .before .rows-within .ensures .0, c .before .before .if4 .left), c .before .rows-within .ensures .1)
+
+blank-requires : tie.Need-blank-requires
+blank-requires c κs = search needs
+
+same-length : tie.Need-same-length
+same-length c = search needs
+
+returns-5 : tie.Need-returns-5
+unfolding numberOf
+returns-5 c =
+    let d = c .before .before .before .before .before .before .before .before in
+    let a = d .before .before .before .before .before .before .before .before .before .args in
+    let rows = d .rows-within in
+    cases.weave-done (a .block .now) (a .out .now) (a .f) (a .s) (a .i) (counted (d .before .before .before .before .before)) (placed (d .before .before .before)) (d .before .before .if3 .left) _ (d .before .if4 .left)
+    (cases.both-written (a .block .now) (a .f) (a .s) (a .i) (rows .result) (rows .ensures .0) (rows .ensures .2) (a .out .now) _ _ (c .before .before .before .before .before .before .pick .ensures) (c .before .before .blank .ensures))
+
+pub interleave-spec : {M : Type 1} → statement M
+interleave-spec =
+    tie.close
+    (tie.spec
+    bad-count-requires
+    returns
+    too-much-requires
+    returns-2
+    returns-3
+    returns-4
+    rows-within-requires
+    pick-requires
+    blank-requires
+    same-length
+    returns-5)

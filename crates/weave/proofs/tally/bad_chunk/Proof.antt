@@ -1,0 +1,31 @@
+use borrow.Author.Tests.{eq-eqb, ne-eqb, lt-ltb, le-ltb}
+use borrow.Author.Needs.{needs}
+use Rattle.base.specs.Bounds.{most-k}
+use Rattle.weave.specs.Calls.{badChunk}
+use Rattle.weave.proofs.tally.bad_chunk.Statement.{statement}
+use Rattle.weave.proofs.tally.bad_chunk.Tie as tie
+
+returns : tie.Need-returns
+unfolding badChunk
+returns c = rw (eq-eqb (c .before .args .k) 0 (c .if1 .taken))
+
+returns-2 : tie.Need-returns-2
+unfolding badChunk
+returns-2 c =
+    let a = c .before .before .args in
+    rw (ne-eqb (a .k) 0 (c .before .if1 .left), lt-ltb most-k (a .k) (c .if2 .taken))
+
+mul-result : tie.Need-mul-result
+mul-result c = search needs
+
+add-result : tie.Need-add-result
+add-result c = search needs
+
+returns-3 : tie.Need-returns-3
+unfolding badChunk
+returns-3 c =
+    let a = c .before .before .args in
+    rw (ne-eqb (a .k) 0 (c .before .if1 .left), le-ltb most-k (a .k) (c .if2 .left))
+
+pub bad-chunk-spec : {M : Type 1} → statement M
+bad-chunk-spec = tie.close (tie.spec returns returns-2 mul-result add-result returns-3)
