@@ -1,6 +1,6 @@
 // What every layer shares: the bounds of document 01, big-endian numbers, and copying into a part of a buffer.
 ghost use mathlib.Core.Path.{_≡_};
-ghost use Prim.Native.Nat.{_<_};
+ghost use Prim.Native.Nat.{_%_, _<_};
 ghost use lib.ListN.{getD};
 ghost use Rattle.base.specs.Answer.{outcome};
 ghost use Rattle.base.specs.Bytes.{numberAt, bytesOf};
@@ -76,27 +76,25 @@ pub fn bytes2(x: u16) -> [u8; 2]
     [(x / 256 % 256) as u8, (x % 256) as u8]
 }
 
+// The low byte of a number.
+fn low(x: u32) -> u8
+    ensures { λ r. ⌜ r ≡ x % 256 ⌝ }
+{
+    (x % 256) as u8
+}
+
 // The three low bytes of a number.
 pub fn bytes3(x: u32) -> [u8; 3]
     ensures { λ r. ⌜ r ≡ bytesOf 3 x ⌝ }
 {
-    [
-        (x / 65536 % 256) as u8,
-        (x / 256 % 256) as u8,
-        (x % 256) as u8,
-    ]
+    [low(x / 65536), low(x / 256), low(x)]
 }
 
 // The four bytes of a number.
 pub fn bytes4(x: u32) -> [u8; 4]
     ensures { λ r. ⌜ r ≡ bytesOf 4 x ⌝ }
 {
-    [
-        (x / 16777216 % 256) as u8,
-        (x / 65536 % 256) as u8,
-        (x / 256 % 256) as u8,
-        (x % 256) as u8,
-    ]
+    [low(x / 16777216), low(x / 65536), low(x / 256), low(x)]
 }
 
 // Copies s into d from `at` on; 1 ROOM where it would pass the end, and then d stays as it is.

@@ -67,17 +67,8 @@ fn write_plan(out: &mut [u8], f: cut::Figures) -> usize
     let mut at = text::plain(out, 0, b"plan");
     let mut i = 0;
     while i < 9 {
-        at = figure(out, at, names[i], values[i]);
+        at = text::labelled(out, at, &[b' ', names[i], b'='], values[i]);
         i += 1;
     }
     at
-}
-
-// One figure, with its name.
-fn figure(out: &mut [u8], at: usize, name: u8, value: usize) -> usize
-    requires { ⌜ at ≤ length (now out) ⌝ }
-    ensures { λ r. ⌜ Wrote (now (out .entry)) at r (now (out .exit)) ⌝ }
-{
-    let to = text::plain(out, at, &[b' ', name, b'=']);
-    text::decimal(out, to, value)
 }

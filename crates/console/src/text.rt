@@ -17,40 +17,46 @@ fn put(out: &mut [u8], at: usize, byte: u8) -> usize
     }
 }
 
-// Bytes as they are.
-pub(crate) fn plain(out: &mut [u8], at: usize, letters: &[u8]) -> usize
+// One byte as it is, or in hex, two digits.
+fn one(out: &mut [u8], at: usize, byte: u8, in_hex: bool) -> usize
     requires { ⌜ at ≤ length (now out) ⌝ }
     ensures { λ r. ⌜ Wrote (now (out .entry)) at r (now (out .exit)) ⌝ }
 {
-    let mut to = at;
-    let mut i = 0;
-    while i < letters.len() {
-        to = put(out, to, letters[i]);
-        i += 1;
+    if in_hex {
+        let to = put(out, at, digit(byte / 16));
+        return put(out, to, digit(byte % 16));
     }
-    to
+    put(out, at, byte)
 }
 
-// Bytes in hex, two digits each.
-pub(crate) fn hex(out: &mut [u8], at: usize, raw: &[u8]) -> usize
+// All of some bytes, one after another.
+fn all(out: &mut [u8], at: usize, raw: &[u8], in_hex: bool) -> usize
     requires { ⌜ at ≤ length (now out) ⌝ }
     ensures { λ r. ⌜ Wrote (now (out .entry)) at r (now (out .exit)) ⌝ }
 {
     let mut to = at;
     let mut i = 0;
     while i < raw.len() {
-        to = hex_byte(out, to, raw[i]);
+        to = one(out, to, raw[i], in_hex);
         i += 1;
     }
     to
 }
 
-// One byte in hex.
-fn hex_byte(out: &mut [u8], at: usize, byte: u8) -> usize
+// Bytes as they are.
+pub(crate) fn plain(out: &mut [u8], at: usize, letters: &[u8]) -> usize
     requires { ⌜ at ≤ length (now out) ⌝ }
     ensures { λ r. ⌜ Wrote (now (out .entry)) at r (now (out .exit)) ⌝ }
 {
-    plain(out, at, &[digit(byte / 16), digit(byte % 16)])
+    all(out, at, letters, false)
+}
+
+// Bytes in hex.
+pub(crate) fn hex(out: &mut [u8], at: usize, raw: &[u8]) -> usize
+    requires { ⌜ at ≤ length (now out) ⌝ }
+    ensures { λ r. ⌜ Wrote (now (out .entry)) at r (now (out .exit)) ⌝ }
+{
+    all(out, at, raw, true)
 }
 
 // A number in decimal, with no zeros in front.
@@ -61,6 +67,15 @@ pub(crate) fn decimal(out: &mut [u8], at: usize, value: usize) -> usize
     let digits = digits_of(value);
     let first = first_digit(&digits);
     plain(out, at, &digits[first..])
+}
+
+// A number behind a label.
+pub(crate) fn labelled(out: &mut [u8], at: usize, label: &[u8], value: usize) -> usize
+    requires { ⌜ at ≤ length (now out) ⌝ }
+    ensures { λ r. ⌜ Wrote (now (out .entry)) at r (now (out .exit)) ⌝ }
+{
+    let to = plain(out, at, label);
+    decimal(out, to, value)
 }
 
 // A line that is no question.
@@ -74,8 +89,7 @@ pub(crate) fn unknown(out: &mut [u8]) -> usize
 pub(crate) fn refused(out: &mut [u8], number: u8) -> usize
     ensures { λ r. ⌜ Wrote (now (out .entry)) 0 r (now (out .exit)) ⌝ }
 {
-    let at = plain(out, 0, b"refused ");
-    decimal(out, at, number as usize)
+    labelled(out, 0, b"refused ", number as usize)
 }
 
 // The letter of a hex digit.

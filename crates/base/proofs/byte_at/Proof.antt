@@ -1,3 +1,4 @@
+-- `byte_at` meets its contract: past the end a list reads as 0. Assumes nothing.
 use mathlib.Core.Path.{sym}
 use borrow.Author.Needs.{needs}
 use lib.ListN.{List·getD-eq-default}

@@ -1,3 +1,4 @@
+-- `bytes2` meets its contract by computing. Assumes nothing.
 use mathlib.Core.Path.{refl}
 use borrow.Author.Needs.{needs}
 use Rattle.base.specs.Bytes.{bytesOf}

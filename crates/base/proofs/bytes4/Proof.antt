@@ -1,24 +1,26 @@
+-- `bytes4` meets its contract, as `bytes3` does. Assumes nothing.
 use native.Mathlib.Nat.{div-div-eq-div-mul}
 use borrow.Author.Needs.{needs}
 use Rattle.base.specs.Bytes.{bytesOf}
 use Rattle.base.proofs.bytes4.Statement.{statement}
 use Rattle.base.proofs.bytes4.Tie as tie
 
-cast-t4 : tie.Need-cast-t4
-cast-t4 c = search needs
+low-requires : tie.Need-low-requires
+low-requires c κs = search needs
 
-cast-t7 : tie.Need-cast-t7
-cast-t7 c = search needs
+low-requires-2 : tie.Need-low-requires-2
+low-requires-2 c κs = search needs
 
-cast-t10 : tie.Need-cast-t10
-cast-t10 c = search needs
+low-requires-3 : tie.Need-low-requires-3
+low-requires-3 c κs = search needs
 
-cast-t12 : tie.Need-cast-t12
-cast-t12 c = search needs
+low-requires-4 : tie.Need-low-requires-4
+low-requires-4 c κs = search needs
 
 returns : tie.Need-returns
 unfolding bytesOf
-returns c = simp div-div-eq-div-mul
+returns c = simp (c .before .before .before .low .ensures, c .before .before .low2 .ensures, c .before .low3 .ensures, c .low4 .ensures, div-div-eq-div-mul)
 
 pub bytes4-spec : {M : Type 1} → statement M
-bytes4-spec = tie.close (tie.spec cast-t4 cast-t7 cast-t10 cast-t12 returns)
+bytes4-spec =
+    tie.close (tie.spec low-requires low-requires-2 low-requires-3 low-requires-4 returns)

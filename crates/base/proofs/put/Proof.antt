@@ -1,3 +1,4 @@
+-- `put` meets its contract: what the copy leaves in the part lent to it is s spliced in. Assumes nothing.
 use native.Mathlib.Omega.{arith}
 use borrow.Author.Needs.{needs}
 use Rattle.base.proofs.Answers.{put-refused, put-done}

@@ -1,3 +1,4 @@
+-- `read2` meets its contract: the second byte follows the first, and past the end there are zeros. Assumes nothing.
 use borrow.Author.Needs.{needs}
 use Rattle.base.proofs.Numbers.{number-one, number-more, number-past}
 use Rattle.base.proofs.read2.Statement.{statement}

@@ -1,3 +1,4 @@
+-- `read3` meets its contract: the third byte follows the two. Assumes nothing.
 use native.Mathlib.Omega.{arith}
 use borrow.Author.Needs.{needs}
 use Rattle.base.proofs.Numbers.{number-more, number-past}

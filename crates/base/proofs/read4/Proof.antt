@@ -1,3 +1,4 @@
+-- `read4` meets its contract: the fourth byte follows the three. Assumes nothing.
 use native.Mathlib.Omega.{arith}
 use borrow.Author.Needs.{needs}
 use Rattle.base.proofs.Numbers.{number-more, number-past}

@@ -1,3 +1,4 @@
+-- `bad_count` meets its contract. Assumes nothing.
 use borrow.Author.Tests.{eq-eqb, ne-eqb}
 use Rattle.weave.specs.Calls.{badCount}
 use Rattle.weave.proofs.bad_count.Statement.{statement}

@@ -1,3 +1,4 @@
+-- `too_much` meets its contract: a fragment longer than a place is too much by itself. Assumes nothing.
 use mathlib.Core.Path.{refl}
 use native.Mathlib.Omega.{arith}
 use native.Mathlib.Nat.{mul-le-mul}

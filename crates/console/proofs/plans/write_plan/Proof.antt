@@ -1,8 +1,8 @@
 -- `plans::write_plan` meets its contract: at each turn the figures so far stand behind the word. Assumes nothing.
 use Prim.Native.Nat.{_≤_, _-_}
 use borrow.Author.Needs.{needs}
-use Rattle.console.specs.Wrote.{Wrote}
 use Rattle.console.proofs.Writing.{chain}
+use Rattle.console.specs.Wrote.{Wrote}
 use Rattle.console.proofs.plans.write_plan.Statement.{statement}
 use Rattle.console.proofs.plans.write_plan.Tie as tie
 
@@ -21,17 +21,20 @@ plain-requires c κs = search needs
 loop-holds : tie.Need-loop-holds Inv-loop μ-loop
 loop-holds c = search needs
 
-array-read-figure : tie.Need-array-read-figure Inv-loop μ-loop
-array-read-figure c = search needs
+array-read-t18 : tie.Need-array-read-t18 Inv-loop μ-loop
+array-read-t18 c = search needs
 
-mul-figure : tie.Need-mul-figure Inv-loop μ-loop
-mul-figure c = search needs
+slice-aggregate-labelled : tie.Need-slice-aggregate-labelled Inv-loop μ-loop
+slice-aggregate-labelled c = search needs
 
-array-read-figure-2 : tie.Need-array-read-figure-2 Inv-loop μ-loop
-array-read-figure-2 c = search needs
+mul-labelled : tie.Need-mul-labelled Inv-loop μ-loop
+mul-labelled c = search needs
 
-figure-requires : tie.Need-figure-requires Inv-loop μ-loop
-figure-requires c κs = search needs
+array-read-labelled : tie.Need-array-read-labelled Inv-loop μ-loop
+array-read-labelled c = search needs
+
+labelled-requires : tie.Need-labelled-requires Inv-loop μ-loop
+labelled-requires c κs = search needs
 
 add-i : tie.Need-add-i Inv-loop μ-loop
 add-i c = search needs
@@ -57,10 +60,11 @@ write-plan-spec =
     slice-aggregate-plain
     plain-requires
     loop-holds
-    array-read-figure
-    mul-figure
-    array-read-figure-2
-    figure-requires
+    array-read-t18
+    slice-aggregate-labelled
+    mul-labelled
+    array-read-labelled
+    labelled-requires
     add-i
     loop-less
     loop-again

@@ -1,8 +1,8 @@
 -- `sums::answer_crc` meets its contract: the bytes read fit the buffer, and the digits go on behind the word. Assumes nothing.
-use native.Mathlib.Omega.{arith}
 use mathlib.Core.Path.{ap, sym}
-use lib.Seq.{length-take-le}
+use native.Mathlib.Omega.{arith}
 use borrow.Author.Needs.{needs}
+use lib.Seq.{length-take-le}
 use Rattle.console.specs.Sized.{sizeOf}
 use Rattle.console.proofs.Writing.{chain}
 use Rattle.console.proofs.sums.answer_crc.Statement.{statement}

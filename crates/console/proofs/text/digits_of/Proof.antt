@@ -1,8 +1,8 @@
 -- `text::digits_of` is safe and ends: the place of the next digit falls. Assumes nothing.
-use Prim.Native.Nat.{_≤_}
 use mathlib.Core.Path.{_≡_}
-use lib.ListN.{length}
+use Prim.Native.Nat.{_≤_}
 use borrow.Author.Needs.{needs}
+use lib.ListN.{length}
 use Rattle.console.proofs.text.digits_of.Statement.{statement}
 use Rattle.console.proofs.text.digits_of.Tie as tie
 

@@ -1,8 +1,8 @@
 -- `words::bytes_of` meets its contract: the buffer keeps its length, and the bytes counted fit it. Assumes nothing.
-use Prim.Native.Nat.{_≤_, _-_}
 use mathlib.Core.Path.{_≡_}
-use lib.ListN.{length}
+use Prim.Native.Nat.{_≤_, _-_}
 use borrow.Author.Needs.{needs}
+use lib.ListN.{length}
 use Rattle.console.proofs.words.bytes_of.Statement.{statement}
 use Rattle.console.proofs.words.bytes_of.Tie as tie
 

@@ -1,9 +1,9 @@
 -- `words::count` is safe and ends: there are no more blanks than letters. Assumes nothing.
+use mathlib.Core.Logic.{⊎-elim}
 use Prim.Native.Nat.{_≤_, _-_}
 use native.Mathlib.Omega.{arith}
-use mathlib.Core.Logic.{⊎-elim}
-use lib.ListN.{length}
 use borrow.Author.Needs.{needs}
+use lib.ListN.{length}
 use Rattle.console.proofs.words.count.Statement.{statement}
 use Rattle.console.proofs.words.count.Tie as tie
 

@@ -1,7 +1,7 @@
 -- `words::decimal` is safe and ends. Assumes nothing.
 use Prim.Native.Nat.{_≤_, _-_}
-use lib.ListN.{length}
 use borrow.Author.Needs.{needs}
+use lib.ListN.{length}
 use Rattle.console.proofs.words.decimal.Statement.{statement}
 use Rattle.console.proofs.words.decimal.Tie as tie
 

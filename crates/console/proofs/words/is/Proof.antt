@@ -1,8 +1,8 @@
 -- `words::is` is safe and ends: both words have the same length in the loop. Assumes nothing.
-use Prim.Native.Nat.{_≤_, _-_}
 use mathlib.Core.Path.{_≡_}
-use lib.ListN.{length}
+use Prim.Native.Nat.{_≤_, _-_}
 use borrow.Author.Needs.{needs}
+use lib.ListN.{length}
 use Rattle.console.proofs.words.is.Statement.{statement}
 use Rattle.console.proofs.words.is.Tie as tie
 

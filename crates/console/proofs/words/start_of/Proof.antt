@@ -1,7 +1,7 @@
 -- `words::start_of` meets its contract: each start is within the line, and the words to pass fall. Assumes nothing.
 use Prim.Native.Nat.{_≤_}
-use lib.ListN.{length}
 use borrow.Author.Needs.{needs}
+use lib.ListN.{length}
 use Rattle.console.proofs.words.start_of.Statement.{statement}
 use Rattle.console.proofs.words.start_of.Tie as tie
 

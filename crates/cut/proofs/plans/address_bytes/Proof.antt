@@ -1,3 +1,4 @@
+-- `address_bytes` meets its contract, case by case. Assumes nothing.
 use mathlib.Core.Path.{ap, sym}
 use borrow.Author.Needs.{needs}
 use lib.Dec.{lit≤}

@@ -1,3 +1,4 @@
+-- `chunks` meets its contract: it is c, and c is in its bounds. Assumes nothing.
 use native.Mathlib.Omega.{arith}
 use borrow.Author.Needs.{needs}
 use Rattle.cut.proofs.plans.chunks.Statement.{statement}

@@ -1,3 +1,4 @@
+-- `divided` meets its contract: m is small, so m + 1 fits. Assumes nothing.
 use mathlib.Core.Path.{refl}
 use native.Mathlib.Omega.{arith}
 use Rattle.cut.proofs.plans.divided.Statement.{statement}

@@ -1,3 +1,4 @@
+-- `figures` meets its contract: each figure is worked out from the same c and k. Assumes nothing.
 use mathlib.Core.Path.{ap₂}
 use Prim.Native.Nat.{ℕ, _*_, _≤_}
 use native.Mathlib.Nat.{mul-le-mul}

@@ -1,3 +1,4 @@
+-- `fits` meets its contract: each return is the law for the tests passed so far. Assumes nothing.
 use borrow.Author.Needs.{needs}
 use Rattle.cut.proofs.plans.fits.Statement.{statement}
 use Rattle.cut.proofs.PlanCases as cases

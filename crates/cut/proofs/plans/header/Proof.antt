@@ -1,3 +1,4 @@
+-- `header` meets its contract, with FEC and without. Assumes nothing.
 use native.Mathlib.Omega.{arith}
 use borrow.Author.Needs.{needs}
 use Rattle.cut.proofs.plans.header.Statement.{statement}

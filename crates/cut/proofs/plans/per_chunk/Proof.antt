@@ -1,3 +1,4 @@
+-- `per_chunk` meets its contract: it is k, and k is at most 207. Assumes nothing.
 use mathlib.Core.Path.{_≡_, ap, _∙_}
 use native.Mathlib.Omega.{arith}
 use borrow.Author.Needs.{needs}

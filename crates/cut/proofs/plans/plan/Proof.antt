@@ -1,3 +1,4 @@
+-- `plan` meets its contract: each return is the law for its number, and the last the law of a cut. Assumes nothing.
 use mathlib.Core.Path.{_≡_, ap, ap₂, _∙_, sym}
 use mathlib.Core.Bool.{true}
 use Prim.Native.Nat.{_<_}

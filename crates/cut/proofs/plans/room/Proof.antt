@@ -1,3 +1,4 @@
+-- `room` meets its contract: it is S, where m is 0 and where the share or the MTU is the smaller. Assumes nothing.
 use Prim.Native.Nat.{_-_}
 use native.Mathlib.Omega.{arith}
 use borrow.Author.Needs.{needs}

@@ -1,3 +1,4 @@
+-- `round_up` meets its contract by computing. Assumes nothing.
 use mathlib.Core.Path.{refl}
 use borrow.Author.Needs.{needs}
 use Rattle.base.specs.Round.{ceil}

@@ -1,3 +1,4 @@
+-- `sure` meets its contract by computing. Assumes nothing.
 use mathlib.Core.Path.{refl}
 use Rattle.cut.proofs.plans.sure.Statement.{statement}
 use Rattle.cut.specs.Sizes as size

@@ -1,3 +1,4 @@
+-- `total` meets its contract, with FEC and without. Assumes nothing.
 use mathlib.Core.Path.{_≡_, ap₂, _∙_, sym}
 use Prim.Native.Nat.{ℕ, _+_, _*_, _≤_}
 use native.Mathlib.Omega.{arith}

@@ -1,3 +1,4 @@
+-- `interleave` meets its contract: each return is the law for its number; the bytes picked and the zeros are the fragment. Assumes nothing.
 use mathlib.Core.Path.{_≡_}
 use mathlib.Core.Bool.{false}
 use native.Mathlib.Omega.{arith}
@@ -38,7 +39,7 @@ returns-3 : tie.Need-returns-3
 unfolding numberOf
 returns-3 c =
     let a = c .before .before .before .before .before .before .before .args in
-    cases.weave-42 (a .block .now) (a .out .now) (a .f) (a .s) (a .i) (counted (c .before .before .before)) (placed (c .before)) (c .if3 .taken)
+    cases.weave-42 (a .block .now) (a .out .now) (a .f) (a .s) (a .i) (counted (c .before .before .before)) (placed (c .before)) (omega arith)
 
 returns-4 : tie.Need-returns-4
 unfolding numberOf

@@ -1,3 +1,4 @@
+-- `lay` meets its contract: after o turns the first o rows are written. Assumes nothing.
 use mathlib.Core.List.{List}
 use mathlib.Core.Path.{_≡_, ap, _∙_, sym}
 use Prim.Native.Nat.{ℕ, _*_, _-_, _≤_}

@@ -1,3 +1,4 @@
+-- `lay_row` meets its contract: after r turns the first r cells of the row are written, and p is r s + o. Assumes nothing.
 use mathlib.Core.Path.{_≡_, refl, ap, _∙_, sym}
 use Prim.Native.Nat.{ℕ, _+_, _*_, _-_, _≤_, _<_}
 use native.Mathlib.Omega.{arith}

@@ -1,3 +1,4 @@
+-- `pick` meets its contract: after t turns the first t bytes of the fragment are written, and q is i + f t. Assumes nothing.
 use mathlib.Core.Path.{_≡_, ap, _∙_}
 use mathlib.Core.List.{List}
 use Prim.Native.Nat.{ℕ, _+_, _*_, _-_, _≤_}

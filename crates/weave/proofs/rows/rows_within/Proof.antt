@@ -1,3 +1,4 @@
+-- `rows_within` meets its contract: the last row within the block is floor((len - i - 1) / f). Assumes nothing.
 use Prim.Native.Nat.{ℕ, _≤_, _<_, _-_}
 use native.Mathlib.Omega.{arith}
 use native.Mathlib.Nat.{div-le-self}

@@ -1,3 +1,4 @@
+-- `bad_chunk` meets its contract. Assumes nothing.
 use borrow.Author.Tests.{eq-eqb, ne-eqb, lt-ltb, le-ltb}
 use borrow.Author.Needs.{needs}
 use Rattle.base.specs.Bounds.{most-k}

@@ -1,3 +1,4 @@
+-- `suffices` meets its contract: after j turns the first j chunks bear what is lost, as the readings at their ends tell. Assumes nothing.
 use mathlib.Core.Path.{_≡_, ap, sym}
 use Prim.Native.Nat.{ℕ, _+_, _*_, _-_, _≤_, _<_}
 use native.Mathlib.Omega.{arith}

@@ -1,3 +1,4 @@
+-- `sums_of` meets its contract: after i turns the sums up to i stand in the array. Assumes nothing.
 use mathlib.Core.Path.{_≡_, refl, _∙_}
 use Prim.Native.Nat.{_+_, _-_, _≤_}
 use native.Mathlib.Omega.{arith}

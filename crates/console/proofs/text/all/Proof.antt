@@ -1,26 +1,26 @@
--- `text::hex` meets its contract, as `text::plain` does. Assumes nothing.
+-- `text::all` meets its contract: at each turn what was written so far is as one writer wrote it. Assumes nothing.
 use Prim.Native.Nat.{_≤_, _-_}
-use lib.ListN.{length}
 use borrow.Author.Needs.{needs}
-use Rattle.console.specs.Wrote.{Wrote}
+use lib.ListN.{length}
 use Rattle.console.proofs.Writing.{chain}
-use Rattle.console.proofs.text.hex.Statement.{statement}
-use Rattle.console.proofs.text.hex.Tie as tie
+use Rattle.console.specs.Wrote.{Wrote}
+use Rattle.console.proofs.text.all.Statement.{statement}
+use Rattle.console.proofs.text.all.Tie as tie
 
 abbrev Inv-loop : tie.InvT-loop
-Inv-loop out₀ at raw to₀ i₀ out to i = (i ≤ length raw) × Wrote out₀ at to out
+Inv-loop out₀ at raw in-hex to₀ i₀ out to i = (i ≤ length raw) × Wrote out₀ at to out
 
 abbrev μ-loop : tie.MeasureT-loop
-μ-loop out₀ at raw to₀ i₀ out to i = length raw - i
+μ-loop out₀ at raw in-hex to₀ i₀ out to i = length raw - i
 
 loop-holds : tie.Need-loop-holds Inv-loop μ-loop
 loop-holds c = search needs
 
-shared-slice-read-hex-byte : tie.Need-shared-slice-read-hex-byte Inv-loop μ-loop
-shared-slice-read-hex-byte c = search needs
+shared-slice-read-one : tie.Need-shared-slice-read-one Inv-loop μ-loop
+shared-slice-read-one c = search needs
 
-hex-byte-requires : tie.Need-hex-byte-requires Inv-loop μ-loop
-hex-byte-requires c κs = search needs
+one-requires : tie.Need-one-requires Inv-loop μ-loop
+one-requires c κs = search needs
 
 add-i : tie.Need-add-i Inv-loop μ-loop
 add-i c = search needs
@@ -37,15 +37,15 @@ same-length c = search needs
 returns : tie.Need-returns Inv-loop μ-loop
 returns c = search needs
 
-pub hex-spec : {M : Type 1} → statement M
-hex-spec =
+pub all-spec : {M : Type 1} → statement M
+all-spec =
     tie.close
     (tie.spec
     Inv-loop
     μ-loop
     loop-holds
-    shared-slice-read-hex-byte
-    hex-byte-requires
+    shared-slice-read-one
+    one-requires
     add-i
     loop-less
     loop-again

@@ -1,0 +1,20 @@
+-- `text::labelled` meets its contract: the number goes on where the label stopped. Assumes nothing.
+use borrow.Author.Needs.{needs}
+use Rattle.console.proofs.Writing.{chain}
+use Rattle.console.proofs.text.labelled.Statement.{statement}
+use Rattle.console.proofs.text.labelled.Tie as tie
+
+plain-requires : tie.Need-plain-requires
+plain-requires c κs = search needs
+
+decimal-requires : tie.Need-decimal-requires
+decimal-requires c κs = search needs
+
+same-length : tie.Need-same-length
+same-length c = search needs
+
+returns : tie.Need-returns
+returns c = search (chain, needs)
+
+pub labelled-spec : {M : Type 1} → statement M
+labelled-spec = tie.close (tie.spec plain-requires decimal-requires same-length returns)
