@@ -45,6 +45,16 @@ unfolding bytesOf
 length-bytes zero x = refl
 length-bytes (suc w) x = length-append (bytesOf w (x / 256)) (x % 256 ∷ []) ∙ omega (arith, length-bytes w (x / 256))
 
+-- one byte more behind the bytes of the number without it
+pub bytes-more : (w x : ℕ) {s : List ℕ} {b : ℕ} → s ≡ bytesOf w (x / 256) → b ≡ x % 256 → s ++ (b ∷ []) ≡ bytesOf (suc w) x
+unfolding bytesOf
+bytes-more w x e q = ap₂ (λ (l : List ℕ) (y : ℕ). l ++ (y ∷ [])) e q
+
+-- no bytes
+pub bytes-none : (x : ℕ) → [] ≡ bytesOf 0 x
+unfolding bytesOf
+bytes-none x = refl
+
 -- a number that was written is read back, whatever follows it,
 pub number-back : (w x : ℕ) (rest : List ℕ) → x < 256 ^ w → numberAt w (bytesOf w x ++ rest) 0 ≡ x
 unfolding numberAt bytesOf

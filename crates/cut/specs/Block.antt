@@ -1,22 +1,22 @@
--- The block that is cut with FEC (clause 7.3; document 01): c chunks of k bytes, each followed by its parity.
+-- The block that is cut with FEC (clause 7.3.1; document 01, "PFT layer"): c chunks of k bytes, each followed by its parity.
 -- What the parity of a chunk is, another layer says: here it is a parameter.
 use mathlib.Core.List.{List, [], _++_}
 use Prim.Native.Nat.{ℕ, zero, suc, _*_}
 use lib.ListN.{take, drop, replicate}
 
--- the packet and z zeros
+-- clause 7.3.1: the packet and z zeros
 unfoldable pub padded : List ℕ → ℕ → List ℕ
 padded packet z = packet ++ replicate z 0
 
--- chunk j of k bytes
+-- clause 7.3.1: chunk j of k bytes
 unfoldable pub chunkOf : List ℕ → ℕ → ℕ → List ℕ
 chunkOf xs k j = take k (drop (j * k) xs)
 
--- a chunk and its parity
+-- clause 7.3.1: a chunk and its parity
 unfoldable pub wordOf : (List ℕ → List ℕ) → List ℕ → List ℕ
 wordOf parityOf chunk = chunk ++ parityOf chunk
 
--- c of them, one behind the other
+-- clause 7.3.1: c of them, one behind the other
 unfoldable pub blockOf : (List ℕ → List ℕ) → List ℕ → ℕ → ℕ → List ℕ
 blockOf parityOf xs k zero = []
 blockOf parityOf xs k (suc c) = wordOf parityOf (take k xs) ++ blockOf parityOf (drop k xs) k c

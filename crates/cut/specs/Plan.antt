@@ -13,11 +13,11 @@ use Rattle.cut.specs.declared.Figures.{Figures}
 use Rattle.cut.specs.declared.Planned.{Planned}
 use Rattle.cut.specs.declared.Planned.the-variants.{Cut, Refused}
 
--- "House default: FEC on, m = 2, MTU 1,400, no address"
+-- document 01, "Bounds": "FEC on, m = 2, MTU 1,400, no address"
 abbrev pub houseOf : Settings
 houseOf = record { fec = true; m = 2; mtu = 1400; address = None }
 
--- m at most 5, and 0 without FEC; MTU above h and at most 16,384
+-- document 01, 40 SETTINGS: m at most 5, and 0 without FEC; MTU above h and at most 16,384
 unfoldable pub fit : Settings → Bool
 fit g = leb (g .m) most-m && (cond (g .fec) true (eqb (g .m) 0) && (ltb (h g) (g .mtu) && leb (g .mtu) most-mtu))
 
@@ -25,20 +25,20 @@ fit g = leb (g .m) most-m && (cond (g .fec) true (eqb (g .m) 0) && (ltb (h g) (g
 unfoldable pub planFault : Settings → ℕ → ℕ
 planFault g l = first ((not (fit g), 40) ∷ (ltb l least-l, 20) ∷ (ltb most-l l, 22) ∷ (ltb most-f (f g l), 41) ∷ [])
 
--- a figure of chunks: 0 without FEC
+-- clause 7.2.2: c, k and z are zero if Reed Solomon is not in use, and so is n
 unfoldable pub withFec : Settings → ℕ → ℕ
 withFec g x = cond (g .fec) x 0
 
--- the figures of a cut, in the order of `valuesOf`
+-- the figures of clause 7.2 that a plan is answered with, in the order of `valuesOf`
 unfoldable pub figuresOf : Settings → ℕ → List ℕ
 figuresOf g l =
     withFec g (c l) ∷ withFec g (k l) ∷ withFec g (z l) ∷ withFec g (n l) ∷ h g ∷ S g l ∷ L g l ∷ f g l ∷ s g l ∷ assured g l ∷ []
 
--- the answer to a plan
+-- what a plan is answered: the first number that is due, else the figures
 unfoldable pub planOf : Settings → ℕ → Answer
 planOf g l = answered (planFault g l) (figuresOf g l)
 
--- the values that the answer carries
+-- the values that the answer carries, in the order of `figuresOf`
 unfoldable pub valuesOf : Figures → List ℕ
 valuesOf p = p .c ∷ p .k ∷ p .z ∷ p .n ∷ p .h ∷ p .room ∷ p .total ∷ p .f ∷ p .s ∷ p .assured ∷ []
 
