@@ -1,4 +1,4 @@
-// The CRC of Annex A: bit by bit over short data, and eight bytes a step over long ones.
+// The CRC of Annex A: byte by byte over short data, and eight bytes a step over the rest.
 ghost use mathlib.Core.Path.{_≡_};
 ghost use Prim.Native.Nat.{_-_, _*_, _/_, _<_};
 ghost use lib.Dec.{eqb};
@@ -14,8 +14,8 @@ const POLYNOMIAL: u16 = 4129;
 const ONES: u16 = 65535;
 // The register after data and their CRC as sent: 1D0F hex.
 const RESIDUE: u16 = 7439;
-// Data below this length go bit by bit: the table would cost more than it saves.
-const SHORT: usize = 16;
+// Data below this length go byte by byte: there is no step of eight to take.
+const SHORT: usize = 8;
 
 // One shift of the register.
 fn shifted(r: u16) -> u16
