@@ -14,7 +14,7 @@ same-length : tie.Need-same-length
 same-length c = search needs
 
 returns : tie.Need-returns
-returns c = search (chain, needs)
+returns c = chain (c .before .before .before .before .before .before .plain .ensures) (c .before .before .decimal .ensures)
 
 pub labelled-spec : {M : Type 1} → statement M
 labelled-spec = tie.close (tie.spec plain-requires decimal-requires same-length returns)
