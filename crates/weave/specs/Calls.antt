@@ -1,4 +1,4 @@
--- What the calls on fragments answer: each has f fragments of s bytes, and 7 and 8 are the receiver's numbers for such figures.
+-- What the calls on fragments answer. Each takes f fragments of s bytes; document 01, "Numbers given back", has the numbers.
 use mathlib.Core.Bool.{Bool, false, not, _||_}
 use mathlib.Core.List.{List, [], _∷_}
 use Prim.Native.Nat.{ℕ, _+_, _*_}
@@ -14,40 +14,43 @@ use Rattle.cut.specs.Missing.{bit, suffice}
 use Rattle.weave.specs.declared.Held.{Held}
 use Rattle.weave.specs.declared.Held.the-variants.{Enough, NotEnough, Refused}
 
--- 7 COUNT: Fcount 0 or over 256
+-- document 01, 7 COUNT: Fcount 0 or over 256
 unfoldable pub badCount : ℕ → Bool
 badCount f = eqb f 0 || ltb most-f f
 
--- 8 SIZE: Fcount x Plen over 12,288
+-- document 01, 8 SIZE: Fcount x Plen over 12,288
 unfoldable pub tooMuch : ℕ → ℕ → Bool
 tooMuch f s = ltb place (f * s)
 
--- 8 SIZE with FEC: k 0 or over 207, Fcount x Plen below k + 48
+-- document 01, 8 SIZE with FEC: k 0 or over 207, Fcount x Plen below k + 48
 unfoldable pub badChunk : ℕ → ℕ → ℕ → Bool
 badChunk f s k = eqb k 0 || (ltb most-k k || ltb (f * s) (k + parity))
 
--- fragment i of a block, written at the front of out: 7, 8, 42 INDEX, ROOM
+-- what an interleaving is refused for, with `room` bytes lent: 7, 8, 42 INDEX, ROOM
 unfoldable pub interleaveFault : ℕ → ℕ → ℕ → ℕ → ℕ
 interleaveFault f s i room = first ((badCount f, 7) ∷ (tooMuch f s, 8) ∷ (leb f i, 42) ∷ (ltb room s, 1) ∷ [])
 
+-- else fragment i of the block stands at the front of out
 unfoldable pub interleaveOf : List ℕ → ℕ → ℕ → ℕ → List ℕ → Outcome
 interleaveOf block f s i out = settled (interleaveFault f s i (length out)) [] (splice out 0 (fragmentOf block f s i)) out
 
--- the cells of a place, written at the front of out: 7, 8, ROOM where place or out has fewer than f s bytes
+-- what the reverse is refused for: 7, 8, ROOM where the fragments held or the bytes lent are fewer than f s
 unfoldable pub deinterleaveFault : ℕ → ℕ → ℕ → ℕ → ℕ
 deinterleaveFault f s held room = first ((badCount f, 7) ∷ (tooMuch f s, 8) ∷ (ltb held (f * s) || ltb room (f * s), 1) ∷ [])
 
+-- else the cells stand at the front of out, in the block's order
 unfoldable pub deinterleaveOf : List ℕ → ℕ → ℕ → List ℕ → Outcome
 deinterleaveOf place f s out = settled (deinterleaveFault f s (length place) (length out)) [] (splice out 0 (cellsOf place f s)) out
 
--- a fragment is lost where it is not kept
+-- document 01, "The four places": a fragment is lost where it is not kept
 abbrev pub notKept : List Bool → ℕ → Bool
 notKept kept i = not (getD kept i false)
 
--- whether the kept fragments suffice for every chunk that the receiver takes
+-- what the test of sufficing is refused for: 7, 8
 unfoldable pub enoughFault : ℕ → ℕ → ℕ → ℕ
 enoughFault f s k = first ((badCount f, 7) ∷ (tooMuch f s, 8) ∷ (badChunk f s k, 8) ∷ [])
 
+-- else 1 where no chunk that the receiver takes misses more than 48 bytes, and 0 where one does
 unfoldable pub enoughOf : List Bool → ℕ → ℕ → ℕ → Answer
 enoughOf kept f s k = answered (enoughFault f s k) (bit (suffice (notKept kept) f (k + parity) (receivedC f s k)) ∷ [])
 
