@@ -2,13 +2,14 @@
 
     python3 tests/vectors.py
 
-The answers come from crc.txt (made by a peer), from plans.py (computed from document 01) and from the lists below.
+The answers come from crc.txt (made by a peer), from plans.py and fields.py (computed from document 01) and from the lists below.
 None is taken from the program. Running this again gives the same bytes.
 """
 import pathlib
 import sys
 
 sys.dont_write_bytecode = True
+import fields
 import plans
 
 HERE = pathlib.Path(__file__).resolve().parent
@@ -116,7 +117,52 @@ def ordinary():
     ask("plan 0 0 1400 - " + "0" * 1000 + "18446744073709551615", "refused 22")
 
 
+def ask_field(question):
+    ask(question, fields.answer(question))
+
+
+def elements():
+    silent("# products, at the edges and a spread")
+    for a in (0, 1, 2, 3, 128, 142, 254, 255):
+        for b in (0, 1, 2, 29, 128, 255):
+            ask_field(f"mul {a} {b}")
+    for i in range(40):
+        ask_field(f"mul {(i * 37 + 11) % 256} {(i * 91 + 5) % 256}")
+    silent("# quotients; by zero is 44, and zero by zero too")
+    for a in (0, 1, 2, 29, 128, 255):
+        for b in (0, 1, 2, 3, 142, 255):
+            ask_field(f"div {a} {b}")
+    silent("# logarithms; that of zero is 44")
+    for a in (0, 1, 2, 3, 4, 29, 58, 127, 128, 142, 143, 254, 255):
+        ask_field(f"log {a}")
+    silent("# powers of alpha: document 01 has 8 and 9; the exponent counts modulo 255")
+    for e in (0, 1, 2, 7, 8, 9, 10, 127, 253, 254, 255, 256, 509, 510, 511, 65535, 2**32, 2**64 - 1):
+        ask_field(f"pow {e}")
+
+
 MALFORMED = """\
+mul
+mul 1
+mul 1 2 3
+mul 1 256
+mul 256 1
+mul 1 -
+mul 01 0x2
+muls 1 2
+div 1
+div 1 256
+div 999 1
+div a 1
+log
+log 256
+log -
+log 1 1
+log -1
+pow
+pow -1
+pow 1 1
+pow 18446744073709551616
+pow 2.5
 hello
 crc
 plan
@@ -217,7 +263,7 @@ def long_lines():
 
 
 def main():
-    for part in (sums, sizes, settings, counts, ordinary, malformed, long_lines):
+    for part in (sums, sizes, settings, counts, ordinary, elements, malformed, long_lines):
         part()
         silent("")
     questions.pop()

@@ -1,6 +1,7 @@
 // The console: one question line in, one answer line out. What is asked and what is answered is
 // tested by the program over this library; that no answer reads or writes out of bounds, that each
 // call ends, and that nothing behind the answer changes, is proved.
+mod fields;
 mod plans;
 mod sums;
 mod text;
@@ -38,6 +39,18 @@ pub fn answer(line: &[u8], out: &mut [u8]) -> usize
     }
     if words::is(name, b"plan") {
         return plans::answer_plan(line, out);
+    }
+    if words::is(name, b"mul") {
+        return fields::answer_mul(line, out);
+    }
+    if words::is(name, b"div") {
+        return fields::answer_div(line, out);
+    }
+    if words::is(name, b"log") {
+        return fields::answer_log(line, out);
+    }
+    if words::is(name, b"pow") {
+        return fields::answer_pow(line, out);
     }
     text::unknown(out)
 }

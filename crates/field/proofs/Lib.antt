@@ -1,0 +1,5 @@
+pub mod Sums
+pub mod Products
+pub mod Powers
+pub mod Rules
+pub mod Answers

@@ -1,0 +1,121 @@
+// The field of 256 elements (clause 7.3.1 of TS 102 821), by its powers and logarithms.
+use tables::EXP;
+use tables::LOG;
+ghost use mathlib.Core.Path.{_≡_};
+ghost use Prim.Native.Nat.{_<_};
+ghost use Rattle.field.specs.Field.{_⊕_, _⊗_, alpha, logOf};
+ghost use Rattle.field.specs.Tables.{Logs, Logged};
+ghost use Rattle.field.specs.Calls.{numberOf, quotientOf, logarithmOf};
+
+mod tables;
+
+// Document 01's number for a division by 0 and for the logarithm of 0.
+const ZERO: u8 = 44;
+
+// The answer of a call that has none at 0.
+pub enum Element {
+    Value(u8),
+    Refused(u8),
+}
+
+// The logarithms of two elements.
+struct Pair {
+    a: usize,
+    b: usize,
+}
+
+// A byte as an index: the function spares the caller a proof that it fits.
+fn wide(x: u8) -> usize
+    ensures { λ q. ⌜ q ≡ x ⌝ }
+{
+    x as usize
+}
+
+// The power alpha^e, from the table.
+fn raised(e: usize) -> u8
+    requires { ⌜ e < 255 ⌝ }
+    ensures { λ r. ⌜ r ≡ alpha e ⌝ }
+{
+    EXP[e]
+}
+
+// The logarithm of an element but 0, from the lent table.
+fn entry(t: &[u8; 256], x: u8) -> u8
+    requires { ⌜ (0 < x) × Logs (now t) ⌝ }
+    ensures { λ r. ⌜ r ≡ logOf x ⌝ }
+{
+    t[wide(x)]
+}
+
+// The logarithms of two elements but 0.
+fn logs(a: u8, b: u8) -> Pair
+    requires { ⌜ (0 < a) × (0 < b) ⌝ }
+    ensures { λ r. ⌜ Logged a (r .a) × Logged b (r .b) ⌝ }
+{
+    // Named once for both, and lent: each naming lays all of it out anew.
+    let t = LOG;
+    both(&t, a, b)
+}
+
+// The same from the lent table.
+fn both(t: &[u8; 256], a: u8, b: u8) -> Pair
+    requires { ⌜ (0 < a) × (0 < b) × Logs (now t) ⌝ }
+    ensures { λ r. ⌜ Logged a (r .a) × Logged b (r .b) ⌝ }
+{
+    let i = wide(entry(t, a));
+    let j = wide(entry(t, b));
+    Pair { a: i, b: j }
+}
+
+// The sum of two elements, and their difference.
+pub fn sum(a: u8, b: u8) -> u8
+    ensures { λ r. ⌜ r ≡ a ⊕ b ⌝ }
+{
+    a ^ b
+}
+
+// The product of two elements: the power whose exponent is the sum of their logarithms.
+pub fn product(a: u8, b: u8) -> u8
+    ensures { λ r. ⌜ r ≡ a ⊗ b ⌝ }
+{
+    if a == 0 {
+        return 0;
+    }
+    if b == 0 {
+        return 0;
+    }
+    let l = logs(a, b);
+    raised((l.a + l.b) % 255)
+}
+
+// An element divided by an element but 0.
+pub fn quotient(a: u8, b: u8) -> Element
+    ensures { λ r. ⌜ numberOf r ≡ quotientOf a b ⌝ }
+{
+    if b == 0 {
+        return Element::Refused(ZERO);
+    }
+    if a == 0 {
+        return Element::Value(0);
+    }
+    let l = logs(a, b);
+    Element::Value(raised((l.a + 255 - l.b) % 255))
+}
+
+// The power alpha^e.
+pub fn power(e: usize) -> u8
+    ensures { λ r. ⌜ r ≡ alpha e ⌝ }
+{
+    raised(e % 255)
+}
+
+// The logarithm of an element but 0.
+pub fn logarithm(x: u8) -> Element
+    ensures { λ r. ⌜ numberOf r ≡ logarithmOf x ⌝ }
+{
+    if x == 0 {
+        return Element::Refused(ZERO);
+    }
+    let t = LOG;
+    Element::Value(entry(&t, x))
+}
