@@ -1,0 +1,11 @@
+pub mod Poly
+pub mod Encoder
+pub mod Generator
+pub mod Vandermonde
+pub mod Erasure
+pub mod Chunk
+pub mod Masks
+pub mod Places
+pub mod Positions
+pub mod Systematic
+pub mod Proved

@@ -1,0 +1,49 @@
+-- The claims of specs/Claims.antt, each by citation. Assumes nothing.
+use mathlib.Core.Path.{refl, sym, ap, _∙_}
+use Prim.Native.Nat.{_+_}
+use native.Mathlib.Nat.{zero-add}
+use Rattle.base.specs.Bounds.{parity}
+use Rattle.codeword.specs.Claims.{Places, Roots, R1, R2, R3, Systematic}
+use Rattle.codeword.specs.Erasure.{maskOf}
+use Rattle.codeword.proofs.Chunk.{length-full, one-chunk}
+use Rattle.codeword.proofs.Encoder.{product-root, encode-codeword, length-encode, length-parity, bytes-encode, bytes-parity}
+use Rattle.codeword.proofs.Places.{full-data, full-gap, full-parity}
+use Rattle.codeword.proofs.Positions.{length-maskOf, erase-same}
+use Rattle.codeword.proofs.Systematic.{is-encoded}
+use Rattle.codeword.proofs.Vandermonde.{vanish}
+
+pub places : Places
+places k w short size =
+    record {
+      places = length-full 0 k w short size;
+      data-at = full-data k w short size;
+      zero-at = full-gap k w short size;
+      parity-at = full-parity k w short size;
+    }
+
+pub roots : Roots
+roots j h = product-root parity j h
+
+pub r1 : R1
+r1 =
+    record {
+      coded = λ d short bytes. record { size = length-encode d; bytes = bytes-encode d bytes; word = encode-codeword d _ refl };
+      size = length-parity;
+      bytes = bytes-parity;
+    }
+
+pub r2 : R2
+r2 = vanish
+
+pub r3 : R3
+r3 =
+    record {
+      masked = λ k mask v w short size few cv cw same.
+          one-chunk k mask v w short (cv .size) (cw .size) size few (cv .bytes) (cw .bytes) (cv .word) (cw .word) same;
+      placed = λ k there v w short few cv cw same.
+          one-chunk k (maskOf there 0 (k + parity)) v w short (cv .size) (cw .size) (length-maskOf there 0 (k + parity)) few (cv .bytes) (cw .bytes) (cv .word) (cw .word)
+          (erase-same there 0 (k + parity) v w (cv .size) (cw .size) (λ i h t. same i h (ap there (sym (zero-add i)) ∙ t)));
+    }
+
+pub systematic : Systematic
+systematic = is-encoded

@@ -1,0 +1,22 @@
+-- Missing bytes (clause 7.4.4; document 01, "The four places"). A mask has a truth value for each place of a word: true where the byte is missing.
+use mathlib.Core.Bool.{Bool, true, false, not}
+use mathlib.Core.List.{List, [], _∷_}
+use Prim.Native.Nat.{ℕ, zero, suc}
+
+-- clause 7.4.4: the word with 0 at each missing place
+unfoldable pub erase : List Bool → List ℕ → List ℕ
+erase [] w = w
+erase (m ∷ mask) [] = []
+erase (true ∷ mask) (c ∷ w) = 0 ∷ erase mask w
+erase (false ∷ mask) (c ∷ w) = c ∷ erase mask w
+
+-- document 01: how many bytes a chunk misses
+unfoldable pub count : List Bool → ℕ
+count [] = 0
+count (true ∷ mask) = suc (count mask)
+count (false ∷ mask) = count mask
+
+-- document 01: the mask of the n places from a on, of which `there` says which bytes are there
+unfoldable pub maskOf : (ℕ → Bool) → ℕ → ℕ → List Bool
+maskOf there a zero = []
+maskOf there a (suc n) = not (there a) ∷ maskOf there (suc a) n

@@ -1,0 +1,4 @@
+pub mod Code
+pub mod Erasure
+pub mod Locators
+pub mod Claims
