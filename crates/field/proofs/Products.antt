@@ -89,7 +89,7 @@ additive-0 : (f : ℕ → ℕ) → Additive f → f 0 ≡ 0
 unfolding Additive
 additive-0 f h = ap f (sym (add-self 0)) ∙ h 0 0 ∙ add-self (f 0)
 
-split-add : (a k : ℕ) → a / 2 ^ k * 2 ^ k ⊕ a % 2 ^ k ≡ a
+pub split-add : (a k : ℕ) → a / 2 ^ k * 2 ^ k ⊕ a % 2 ^ k ≡ a
 unfolding _⊕_
 split-add a k = xor-shifted (a / 2 ^ k) k (a % 2 ^ k) (mod-lt a (pow-pos k)) ∙ split a k
 

@@ -1,0 +1,250 @@
+-- The calls: what their tests tell, and which answer is which case. Assumes nothing.
+use mathlib.Core.Path.{_≡_, refl, sym, ap, ap₂, _∙_, subst}
+use mathlib.Core.Bool.{Bool, true, false, not, _||_}
+use mathlib.Core.List.{List, [], _∷_, _++_}
+use Prim.Native.Nat.{ℕ, zero, suc, _+_, _-_, _*_, _≤_, _<_}
+use native.Mathlib.Nat.{pos-of-ne-zero, zero-mul, suc-mul, add-comm}
+use native.Mathlib.Omega.{arith}
+use borrow.Author.Tests.{ltb-false, eqb-false, lt-ltb, le-ltb}
+use lib.Dec.{ltb, leb, eqb, lit<, eqb→eq}
+use lib.ListN.{length, take, drop, replicate, length-append, length-replicate, length-drop, take-append-drop, replicate-append-replicate}
+use lib.Seq.{length-take-le, take-at, drop-at, take-append-add, drop-drop}
+use Rattle.base.specs.Answer.{granted, refused, Outcome, outcome, settled}
+use Rattle.base.specs.Bounds.{most-k, place, parity}
+use Rattle.base.specs.Bytes.{splice}
+use Rattle.base.specs.Tests.{first}
+use Rattle.base.specs.Written.{numberOf, putFault, putOf}
+use Rattle.base.specs.declared.Written.{Written}
+use Rattle.base.specs.declared.Written.the-variants as written
+use Rattle.base.proofs.Answers.{writes, leaves, put-done}
+use Rattle.base.proofs.Firsts.{due, skip, none-due, clear}
+use Rattle.base.proofs.Logic.{or-left, or-right}
+use Rattle.cut.specs.Block.{padded, wordOf, blockOf}
+use Rattle.cut.proofs.Blocks.{length-block, length-padded}
+use Rattle.code.specs.Words.{encode}
+use Rattle.codeword.proofs.Masks.{marks}
+use Rattle.codeword.specs.Erasure.{count, erase}
+use Rattle.codeword.proofs.Encoder.{length-run}
+use Rattle.code.specs.Block.{part, Encoded}
+use Rattle.code.specs.Fill.{Agrees, Fills}
+use Rattle.codeword.specs.Code.{parityOf}
+use Rattle.code.specs.Calls.{badSize, parityFault, parityCall, overPlace, misfits, encodeFault, encodeCall, badPair, chunkFault, ChunkFilled, filledOf}
+use Rattle.code.specs.declared.Answer.{Answer}
+use Rattle.code.specs.declared.Answer.the-variants as answers
+use Rattle.code.specs.declared.Filled.{Filled}
+use Rattle.code.specs.declared.Filled.the-variants.{Done, Nothing, NotEnough, Refused}
+use Rattle.code.proofs.FillLaws.{one-filling}
+
+-- ---- what the tests tell
+
+module _ (k : ℕ) (fine : badSize k ≡ false) where
+  pub size-some : 0 < k
+  unfolding badSize
+  size-some = pos-of-ne-zero (eqb-false _ _ (or-left (eqb k 0) _ fine))
+
+  pub size-most : k ≤ most-k
+  unfolding badSize
+  size-most = ltb-false _ _ (or-right (eqb k 0) _ fine)
+
+pub within-place : (k c : ℕ) → overPlace k c ≡ false → c * (k + 48) ≤ place
+unfolding overPlace
+within-place k c fine = ltb-false place (c * (k + parity)) fine
+
+-- c chunks are more than a place holds where c is
+pub many-chunks : (k c : ℕ) → place < c → true ≡ overPlace k c
+unfolding overPlace
+many-chunks k c h = sym (lt-ltb place (c * (k + parity)) (omega arith))
+
+pub fits-chunks : (l k c : ℕ) → misfits l k c ≡ false → l ≤ c * k
+unfolding misfits
+fits-chunks l k c fine = ltb-false (c * k) l (or-left (ltb (c * k) l) _ fine)
+
+-- ---- the parity of a chunk
+
+module _ (chunk out : List ℕ) where
+  pub parity-size : badSize (length chunk) ≡ true → outcome (refused 8) out ≡ parityCall chunk out
+  unfolding parityCall parityFault
+  parity-size e = leaves 8 _ _ _ _ (lit< tt) (due 8 _ e)
+
+  pub parity-put : {y : Outcome} (p : List ℕ) → badSize (length chunk) ≡ false → length p ≡ 48 → p ≡ parityOf chunk → y ≡ putOf out 0 p → y ≡ parityCall chunk out
+  unfolding parityCall parityFault putOf putFault
+  parity-put p fine long e q =
+      q
+      ∙ ap (λ (n : ℕ). settled n [] (splice out 0 p) out) (ap (λ (n : ℕ). first ((ltb (length out) n, 1) ∷ [])) (omega arith) ∙ skip 8 _ fine refl)
+      ∙ ap (λ (l : List ℕ). settled (first ((badSize (length chunk), 8) ∷ (ltb (length out) parity, 1) ∷ [])) [] (splice out 0 l) out) e
+
+-- ---- the block of a packet
+
+zeros-rest : (n m : ℕ) → n ≤ m → drop n (replicate {A = ℕ} m 0) ≡ replicate (m - n) 0
+zeros-rest n m q =
+    let e : m ≡ n + (m - n) = omega arith in
+    ap (λ (x : ℕ). drop n (replicate x 0)) e
+    ∙ ap (drop n) (sym (replicate-append-replicate n (m - n) 0))
+    ∙ drop-at (replicate n 0) (replicate (m - n) 0) n (length-replicate {A = ℕ} n 0)
+
+zeros-behind : (packet : List ℕ) (m : ℕ) → length packet ≤ m → splice (replicate m 0) 0 packet ≡ packet ++ replicate (m - length packet) 0
+unfolding splice
+zeros-behind packet m h =
+    let e : 0 + length packet ≡ length packet = omega arith in
+    ap (λ (l : List ℕ). packet ++ l) (ap (λ (n : ℕ). drop n (replicate m 0)) e ∙ zeros-rest (length packet) m h)
+
+-- a packet laid down in zeros
+pub pad-put : (packet w : List ℕ) (r : Written) → length packet ≤ place → outcome (numberOf r) w ≡ putOf (replicate 12288 0) 0 packet
+    → w ≡ padded packet (place - length packet)
+unfolding padded
+pad-put packet w r h e =
+    let zeros : List ℕ = replicate 12288 0 in
+    let fits : 0 + length packet ≤ length zeros = omega (arith, length-replicate {A = ℕ} 12288 0) in
+    let done : outcome (numberOf written.Done) (splice zeros 0 packet) ≡ putOf zeros 0 packet = put-done zeros packet 0 _ fits refl in
+    let same : w ≡ splice zeros 0 packet = cc in
+    same ∙ zeros-behind packet 12288 h
+
+pub pad-take : (packet : List ℕ) (n m : ℕ) → length packet ≤ n → n ≤ m → take n (padded packet (m - length packet)) ≡ padded packet (n - length packet)
+unfolding padded
+pad-take packet n m h q =
+    let l : ℕ = length packet in
+    let e : n ≡ l + (n - l) = omega arith in
+    let w : m - l ≡ n - l + (m - n) = omega arith in
+    ap₂ (λ (a b : ℕ). take a (packet ++ replicate b 0)) e w
+    ∙ take-append-add packet (replicate (n - l + (m - n)) 0) (n - l)
+    ∙ ap (λ (x : List ℕ). packet ++ x)
+    (ap (take (n - l)) (sym (replicate-append-replicate (n - l) (m - n) 0)) ∙ take-at (replicate (n - l) 0) (replicate (m - n) 0) (n - l) (length-replicate {A = ℕ} (n - l) 0))
+
+pub length-parityOf : (d : List ℕ) → length (parityOf d) ≡ 48
+unfolding parityOf
+length-parityOf d = length-run (replicate 48 0) (d ++ replicate (207 - length d) 0) (length-replicate {A = ℕ} 48 0)
+
+module _ (k c : ℕ) (src out : List ℕ) where
+  head : suc c * k ≤ length src → length out ≡ suc c * (k + 48) → Encoded k (suc c) src out → take (k + 48) out ≡ wordOf parityOf (take k src)
+  unfolding part wordOf encode Rattle.code.specs.Words.parity parityOf
+  head hs e d =
+      ap (λ (x : ℕ). take (k + 48) (drop x out)) (sym (zero-mul (k + 48)))
+      ∙ d .each 0 (omega arith)
+      ∙ ap (λ (x : ℕ). take k (drop x src) ++ Rattle.code.specs.Words.parity k (take k (drop x src))) (zero-mul k)
+      ∙ ap (λ (x : ℕ). take k src ++ Rattle.code.specs.Words.parity x (take k src)) (sym (length-take-le k src (omega arith)))
+
+  behind : Encoded k (suc c) src out → Encoded k c (drop k src) (drop (k + 48) out)
+  unfolding part
+  behind d = record { each = λ j h. past (k + 48) j out ∙ d .each (suc j) (omega arith) ∙ ap (encode k) (sym (past k j src)) }
+    where
+      past : (n j : ℕ) (l : List ℕ) → take n (drop (j * n) (drop n l)) ≡ take n (drop (suc j * n) l)
+      past n j l = ap (take n) (drop-drop (j * n) n l ∙ ap (λ (x : ℕ). drop x l) (add-comm n (j * n) ∙ sym (suc-mul j n)))
+
+-- chunks that are right one by one are the block
+pub block-is : (k c : ℕ) (src out : List ℕ) → c * k ≤ length src → length out ≡ c * (k + 48) → Encoded k c src out → out ≡ blockOf parityOf src k c
+unfolding blockOf
+block-is k zero src [] hs e d = refl
+block-is k zero src (x ∷ out) hs e d = absurd (omega arith)
+block-is k (suc c) src out hs e d =
+    sym (take-append-drop (k + 48) out)
+    ∙ ap₂ (λ (a b : List ℕ). a ++ b) (head k c src out hs e d) (block-is k c (drop k src) (drop (k + 48) out) (omega (arith, length-drop k src)) (omega (arith, length-drop (k + 48) out)) (behind k c src out d))
+
+pub length-whole : (packet : List ℕ) (k c : ℕ) → length packet ≤ c * k → length (blockOf parityOf (padded packet (c * k - length packet)) k c) ≡ c * (k + 48)
+length-whole packet k c h =
+    length-block parityOf k (λ xs e. length-parityOf xs) (padded packet (c * k - length packet)) c (omega (arith, length-padded packet (c * k - length packet)))
+
+-- the block written in a part that was lent from the start
+pub block-lent : (out new block : List ℕ) (n : ℕ) → length block ≡ n → new ≡ block → new ++ drop n out ≡ splice out 0 block
+unfolding splice
+block-lent out new block n size e =
+    let long : length new ≡ n = ap length e ∙ size in
+    let z : n ≡ 0 + length new = omega arith in
+    ap (λ (x : ℕ). new ++ drop x out) z ∙ ap (λ (l : List ℕ). l ++ drop (0 + length l) out) e
+
+module _ (packet out : List ℕ) (k c : ℕ) where
+  pub encode-size : badSize k ≡ true → outcome (refused 8) out ≡ encodeCall packet k c out
+  unfolding encodeCall encodeFault
+  encode-size e = leaves 8 _ _ _ _ (lit< tt) (due 8 _ e)
+
+  module _ (sized : badSize k ≡ false) where
+    pub encode-place : overPlace k c ≡ true → outcome (refused 8) out ≡ encodeCall packet k c out
+    unfolding encodeCall encodeFault
+    encode-place e = leaves 8 _ _ _ _ (lit< tt) (skip 8 _ sized (due 8 _ e))
+
+    module _ (placed : overPlace k c ≡ false) where
+      pub encode-fit : misfits (length packet) k c ≡ true → outcome (refused 8) out ≡ encodeCall packet k c out
+      unfolding encodeCall encodeFault
+      encode-fit e = leaves 8 _ _ _ _ (lit< tt) (skip 8 _ sized (skip 8 _ placed (due 8 _ e)))
+
+      module _ (fits : misfits (length packet) k c ≡ false) where
+        pub encode-room : length out < c * (k + 48) → outcome (refused 1) out ≡ encodeCall packet k c out
+        unfolding encodeCall encodeFault
+        encode-room h = leaves 1 _ _ _ _ (lit< tt) (skip 8 _ sized (skip 8 _ placed (skip 8 _ fits (due 1 _ (lt-ltb (length out) (c * (k + parity)) h)))))
+
+        pub encode-done : (y : List ℕ) → c * (k + 48) ≤ length out → y ≡ splice out 0 (blockOf parityOf (padded packet (c * k - length packet)) k c)
+            → outcome (granted []) y ≡ encodeCall packet k c out
+        unfolding encodeCall encodeFault
+        encode-done y h e =
+            writes _ _ _ _ _ (skip 8 _ sized (skip 8 _ placed (skip 8 _ fits (skip 1 _ (le-ltb (length out) (c * (k + parity)) h) none-due)))) e
+
+-- ---- the missing bytes of a chunk
+
+module _ (k : ℕ) (mask c : List ℕ) where
+  pub chunk-refused : badPair k (length mask) (length c) ≡ true → ChunkFilled k mask c c (Refused 8)
+  unfolding ChunkFilled chunkFault
+  chunk-refused e = (due 8 _ e, lit< tt, refl)
+
+  module _ (fine : badPair k (length mask) (length c) ≡ false) where
+    pub pair-size : badSize k ≡ false
+    unfolding badPair
+    pair-size = or-left (badSize k) _ fine
+
+    lengths : (not (eqb (length mask) (k + parity)) || not (eqb (length c) (k + parity))) ≡ false
+    unfolding badPair
+    lengths = or-right (badSize k) _ fine
+
+    equal : (a b : ℕ) → not (eqb a b) ≡ false → a ≡ b
+    equal a b e = eqb→eq a b (truth (eqb a b) e)
+      where
+        truth : (x : Bool) → not x ≡ false → lib.Dec.T x
+        truth true e = tt
+        truth false e = let z : _≡_ {A = ℕ} 0 1 = cc in absurd (omega arith)
+
+    pub pair-mask : length mask ≡ k + 48
+    pair-mask = equal (length mask) (k + parity) (or-left (not (eqb (length mask) (k + parity))) _ lengths)
+
+    pub pair-chunk : length c ≡ k + 48
+    pair-chunk = equal (length c) (k + parity) (or-right (not (eqb (length mask) (k + parity))) _ lengths)
+
+    none : 0 ≡ chunkFault k (length mask) (length c)
+    unfolding chunkFault
+    none = skip 8 _ fine none-due
+
+    told-by : (after : List ℕ) (a : Answer) → Fills k mask c after a → ChunkFilled k mask c after (filledOf a)
+    unfolding ChunkFilled
+    told-by after answers.Found f = (none, f .0, f .1)
+    told-by after answers.Nothing f = (none, f .0, f .1, f .2)
+    told-by after answers.NotEnough f = (none, f .0, f .1)
+
+    pub chunk-told : (after : List ℕ) (a : Answer) (r : Filled) → Fills k mask c after a → r ≡ filledOf a → ChunkFilled k mask c after r
+    chunk-told after a r f e = subst (ChunkFilled k mask c after) (sym e) (told-by after a f)
+
+-- no second pair of answer and bytes fits
+module _ (k : ℕ) (mask c v w : List ℕ) where
+  no-fault : 0 ≡ chunkFault k (length mask) (length c) → badPair k (length mask) (length c) ≡ false
+  unfolding chunkFault
+  no-fault e = clear _ 8 [] (λ z. omega arith) (sym e)
+
+  due-not : {n : ℕ} → n ≡ chunkFault k (length mask) (length c) → 0 < n → 0 ≡ chunkFault k (length mask) (length c) → ⊥
+  due-not e h z = omega arith
+
+  pub one-chunk-filled : (r s : Filled) → ChunkFilled k mask c v r → ChunkFilled k mask c w s → (r ≡ s) × (v ≡ w)
+  unfolding ChunkFilled
+  one-chunk-filled Done Done a b =
+      let fine : badPair k (length mask) (length c) ≡ false = no-fault (a .0) in
+      (refl, one-filling k mask c v w (size-most k (pair-size k mask c fine)) (pair-mask k mask c fine) (a .1) (a .2) (b .2))
+  one-chunk-filled Done Nothing a b = absurd (b .2 v (a .2))
+  one-chunk-filled Done NotEnough a b = absurd (omega (arith, a .1, b .1))
+  one-chunk-filled Done (Refused n) a b = absurd (due-not (b .0) (b .1) (a .0))
+  one-chunk-filled Nothing Done a b = absurd (a .2 w (b .2))
+  one-chunk-filled Nothing Nothing a b = (refl, a .3 ∙ sym (b .3))
+  one-chunk-filled Nothing NotEnough a b = absurd (omega (arith, a .1, b .1))
+  one-chunk-filled Nothing (Refused n) a b = absurd (due-not (b .0) (b .1) (a .0))
+  one-chunk-filled NotEnough Done a b = absurd (omega (arith, a .1, b .1))
+  one-chunk-filled NotEnough Nothing a b = absurd (omega (arith, a .1, b .1))
+  one-chunk-filled NotEnough NotEnough a b = (refl, a .2 ∙ sym (b .2))
+  one-chunk-filled NotEnough (Refused n) a b = absurd (due-not (b .0) (b .1) (a .0))
+  one-chunk-filled (Refused n) Done a b = absurd (due-not (a .0) (a .1) (b .0))
+  one-chunk-filled (Refused n) Nothing a b = absurd (due-not (a .0) (a .1) (b .0))
+  one-chunk-filled (Refused n) NotEnough a b = absurd (due-not (a .0) (a .1) (b .0))
+  one-chunk-filled (Refused n) (Refused m) a b = (ap Refused (a .0 ∙ sym (b .0)), a .2 ∙ sym (b .2))

@@ -1,0 +1,14 @@
+pub mod WordLaws
+pub mod BitLaws
+pub mod CallCases
+pub mod CellLaws
+pub mod FillLaws
+pub mod LaneLaws
+pub mod LocatorLaws
+pub mod LoopLaws
+pub mod MaskLaws
+pub mod PartLaws
+pub mod PlaceLaws
+pub mod RegisterLaws
+pub mod RowLaws
+pub mod SolveLaws

@@ -1,0 +1,15 @@
+use borrow.Author.Tests.{eq-eqb, ne-eqb}
+use Rattle.code.specs.Calls.{badSize}
+use Rattle.code.proofs.bad_size.Statement.{statement}
+use Rattle.code.proofs.bad_size.Tie as tie
+
+returns : tie.Need-returns
+unfolding badSize
+returns c = rw (eq-eqb (c .before .args .k) 0 (c .if1 .taken))
+
+returns-2 : tie.Need-returns-2
+unfolding badSize
+returns-2 c = rw (ne-eqb (c .before .args .k) 0 (c .if1 .left))
+
+pub bad-size-spec : {M : Type 1} → statement M
+bad-size-spec = tie.close (tie.spec returns returns-2)

@@ -1,0 +1,67 @@
+-- `put_row48` meets its contract: a place a turn.
+-- Assumes nothing.
+use mathlib.Core.Path.{_≡_}
+use Prim.Native.Nat.{_-_, _*_, _≤_, _<_}
+use borrow.Author.Needs.{needs}
+use lib.ListN.{length}
+use Rattle.code.proofs.SolveLaws.{PutTo, put-start, put-more, put-end}
+use Rattle.code.proofs.pattern.put_row48.Statement.{statement}
+use Rattle.code.proofs.pattern.put_row48.Tie as tie
+
+abbrev Inv-loop : tie.InvT-loop
+Inv-loop q₀ m s at j₀ q j =
+    (m < 48) × (length q₀ ≡ 2304) × (at ≡ m * 48) × (j ≤ 48) × PutTo q₀ m j s q
+
+abbrev μ-loop : tie.MeasureT-loop
+μ-loop q₀ m s at j₀ q j =
+    48 - j
+
+mul-at : tie.Need-mul-at Inv-loop μ-loop
+mul-at c = search needs
+
+loop-holds : tie.Need-loop-holds Inv-loop μ-loop
+loop-holds c =
+    (c .pre .0, c .pre .1, search needs, search needs, put-start (c .args .q .now) (c .args .t3) (c .args .m))
+
+array-read-q : tie.Need-array-read-q Inv-loop μ-loop
+array-read-q c = search needs
+
+add-q : tie.Need-add-q Inv-loop μ-loop
+add-q c = search needs
+
+element-write-q : tie.Need-element-write-q Inv-loop μ-loop
+element-write-q c = search needs
+
+add-j : tie.Need-add-j Inv-loop μ-loop
+add-j c = search needs
+
+loop-less : tie.Need-loop-less Inv-loop μ-loop
+loop-less c = search needs
+
+loop-again : tie.Need-loop-again Inv-loop μ-loop
+loop-again c =
+    let I = c .before .loop .inv in
+    let h : c .before .loop .j < 48 = search needs in
+    (I .0, I .1, search needs, search needs, put-more (c .before .before .args .q .now) (c .before .before .args .t3) (c .before .loop .q) (c .before .before .args .m) (c .before .loop .j) (I .0) h (I .1) (I .4))
+
+returns : tie.Need-returns Inv-loop μ-loop
+returns c =
+    let I = c .before .loop .inv in
+    let h : 48 ≤ c .before .loop .j = search needs in
+    put-end (c .before .before .args .q .now) (c .before .before .args .t3) (c .before .loop .q) (c .before .before .args .m) (c .before .loop .j) h (I .4)
+
+pub put-row48-spec : {M : Type 1} → statement M
+put-row48-spec =
+    tie.close
+    (tie.spec
+    Inv-loop
+    μ-loop
+    mul-at
+    loop-holds
+    array-read-q
+    add-q
+    element-write-q
+    add-j
+    loop-less
+    loop-again
+    returns)

@@ -1,0 +1,16 @@
+use Rattle.code.proofs.CallCases.{pad-put}
+use borrow.Author.Needs.{needs}
+use Rattle.code.proofs.sender.pad.Statement.{statement}
+use Rattle.code.proofs.sender.pad.Tie as tie
+
+slice-aggregate-put : tie.Need-slice-aggregate-put
+slice-aggregate-put c = search needs
+
+put-requires : tie.Need-put-requires
+put-requires c κs = search needs
+
+returns : tie.Need-returns
+returns c = pad-put (c .before .before .before .before .args .packet .now) _ (c .before .put .result) (c .before .before .before .before .pre) (c .before .put .ensures)
+
+pub pad-spec : {M : Type 1} → statement M
+pad-spec = tie.close (tie.spec slice-aggregate-put put-requires returns)

@@ -1,0 +1,128 @@
+-- What the calls on chunks and blocks answer; document 01, "Numbers given back", has the numbers.
+use mathlib.Core.Path.{_≡_}
+use mathlib.Core.Bool.{Bool, true, false, not, _||_}
+use mathlib.Core.List.{List, [], _∷_}
+use Prim.Native.Nat.{ℕ, _+_, _-_, _*_, _/_, _≤_, _<_}
+use lib.Dec.{leb, ltb, eqb}
+use lib.ListN.{length, drop}
+use Rattle.base.specs.Bounds.{most-k, place, parity}
+use Rattle.base.specs.Tests.{first}
+use Rattle.base.specs.Answer.{Outcome, settled}
+use Rattle.base.specs.Bytes.{splice}
+use Rattle.base.specs.Table.{table}
+use Rattle.cut.specs.Block.{padded, chunkOf, blockOf}
+use Rattle.cut.specs.Missing.{bit, gone, suffice}
+use Rattle.cut.specs.Sizes.{receivedC}
+use Rattle.weave.specs.Calls.{badCount, tooMuch, badChunk, notKept}
+use Rattle.codeword.specs.Code.{parityOf}
+use Rattle.codeword.proofs.Masks.{marks}
+use Rattle.codeword.specs.Erasure.{erase, count}
+use Rattle.code.specs.Fill.{Agrees}
+use Rattle.code.specs.declared.Answer.{Answer}
+use Rattle.code.specs.declared.Answer.the-variants as answers
+use Rattle.code.specs.declared.Filled.{Filled}
+use Rattle.code.specs.declared.Filled.the-variants.{Done, Nothing, NotEnough, Refused}
+
+-- document 01, 8 SIZE: k is 0 or over 207
+unfoldable pub badSize : ℕ → Bool
+badSize k = eqb k 0 || ltb most-k k
+
+-- what the parity of k bytes is refused for, with `room` bytes lent: 8, ROOM
+unfoldable pub parityFault : ℕ → ℕ → ℕ
+parityFault k room = first ((badSize k, 8) ∷ (ltb room parity, 1) ∷ [])
+
+-- else the parity stands at the front of out (clause 7.3.1)
+unfoldable pub parityCall : List ℕ → List ℕ → Outcome
+parityCall chunk out = settled (parityFault (length chunk) (length out)) [] (splice out 0 (parityOf chunk)) out
+
+-- document 01, 8 SIZE: c chunks of k bytes and their parity are more than a place holds
+unfoldable pub overPlace : ℕ → ℕ → Bool
+overPlace k c = ltb place (c * (k + parity))
+
+-- clause 7.3.1: a packet of l bytes leaves a chunk or more of c chunks of k bytes empty, or is too long for them
+unfoldable pub misfits : ℕ → ℕ → ℕ → Bool
+misfits l k c = ltb (c * k) l || leb k (c * k - l)
+
+-- what the block of a packet of l bytes is refused for, with `room` bytes lent: 8, ROOM
+unfoldable pub encodeFault : ℕ → ℕ → ℕ → ℕ → ℕ
+encodeFault l k c room = first ((badSize k, 8) ∷ (overPlace k c, 8) ∷ (misfits l k c, 8) ∷ (ltb room (c * (k + parity)), 1) ∷ [])
+
+-- else the block of the packet and its zeros stands at the front of out (clause 7.3.1)
+unfoldable pub encodeCall : List ℕ → ℕ → ℕ → List ℕ → Outcome
+encodeCall packet k c out =
+    settled (encodeFault (length packet) k c (length out)) [] (splice out 0 (blockOf parityOf (padded packet (c * k - length packet)) k c)) out
+
+-- document 01, 8 SIZE: k is no chunk's size, or mask and chunk have not k + 48 bytes
+unfoldable pub badPair : ℕ → ℕ → ℕ → Bool
+badPair k mask chunk = badSize k || (not (eqb mask (k + parity)) || not (eqb chunk (k + parity)))
+
+-- what the filling of a chunk is refused for: 8
+unfoldable pub chunkFault : ℕ → ℕ → ℕ → ℕ
+chunkFault k mask chunk = first ((badPair k mask chunk, 8) ∷ [])
+
+-- clause 7.4.4: the chunk c, whose bytes that the mask marks are missing, what stands in its place after, and the answer. Filled in:
+-- a chunk of the code that has the bytes that are there. Nothing: there is none, and 0 for each missing byte.
+unfoldable pub ChunkFilled : ℕ → List ℕ → List ℕ → List ℕ → Filled → Type 0
+ChunkFilled k mask c after Done = (0 ≡ chunkFault k (length mask) (length c)) × (count (marks mask) ≤ parity) × Agrees k mask c after
+ChunkFilled k mask c after Nothing =
+    (0 ≡ chunkFault k (length mask) (length c)) × (count (marks mask) ≤ parity) × ((w : List ℕ) → Agrees k mask c w → ⊥) × (after ≡ erase (marks mask) c)
+ChunkFilled k mask c after NotEnough = (0 ≡ chunkFault k (length mask) (length c)) × (parity < count (marks mask)) × (after ≡ c)
+ChunkFilled k mask c after (Refused n) = (n ≡ chunkFault k (length mask) (length c)) × (0 < n) × (after ≡ c)
+
+-- the call's answer for a chunk's
+abbrev pub filledOf : Answer → Filled
+filledOf answers.Found = Done
+filledOf answers.Nothing = Nothing
+filledOf answers.NotEnough = NotEnough
+
+-- document 01, "The four places": the cells from a on, n of them, with 1 for each whose fragment is not kept
+unfoldable pub lostCells : List Bool → ℕ → ℕ → ℕ → List ℕ
+lostCells kept f a n = table (λ q. bit (gone (notKept kept) f q)) a n
+
+-- what the filling of a block is refused for, with `room` cells: 7 COUNT, 8 SIZE, ROOM
+unfoldable pub fillFault : ℕ → ℕ → ℕ → ℕ → ℕ
+fillFault f s k room =
+    first ((badCount f, 7) ∷ (tooMuch f s, 8) ∷ (badChunk f s k, 8) ∷ (ltb room (receivedC f s k * (k + parity)), 1) ∷ [])
+
+-- clause 7.4.4: each of c chunks is one of the code that has the cells kept; what is behind them is as it was
+pub record BlockDone (kept : List Bool) (f k c : ℕ) (block after : List ℕ) : Type 0 where
+  pub size : length after ≡ length block
+  pub each : (j : ℕ) → j < c → Agrees k (lostCells kept f (j * (k + parity)) (k + parity)) (chunkOf block (k + parity) j) (chunkOf after (k + parity) j)
+  pub behind : drop (c * (k + parity)) after ≡ drop (c * (k + parity)) block
+
+-- clause 7.4.4: no chunk of the code has the cells kept of one of c chunks; 0 for each missing cell of all of them, and all else as it was
+pub record BlockNothing (kept : List Bool) (f k c : ℕ) (block after : List ℕ) : Type 0 where
+  pub at : ℕ
+  pub below : at < c
+  pub none : (w : List ℕ) → Agrees k (lostCells kept f (at * (k + parity)) (k + parity)) (chunkOf block (k + parity) at) w → ⊥
+  pub zeros : after ≡ erase (marks (lostCells kept f 0 (c * (k + parity)))) block
+
+-- clause 7.4.4: the block of f fragments of s bytes, what stands in its place after, and the answer
+unfoldable pub BlockFilled : List Bool → ℕ → ℕ → ℕ → List ℕ → List ℕ → Filled → Type 0
+BlockFilled kept f s k block after Done =
+    (0 ≡ fillFault f s k (length block)) × (suffice (notKept kept) f (k + parity) (receivedC f s k) ≡ true)
+    × BlockDone kept f k (receivedC f s k) block after
+BlockFilled kept f s k block after Nothing =
+    (0 ≡ fillFault f s k (length block)) × (suffice (notKept kept) f (k + parity) (receivedC f s k) ≡ true)
+    × BlockNothing kept f k (receivedC f s k) block after
+BlockFilled kept f s k block after NotEnough =
+    (0 ≡ fillFault f s k (length block)) × (suffice (notKept kept) f (k + parity) (receivedC f s k) ≡ false) × (after ≡ block)
+BlockFilled kept f s k block after (Refused n) = (n ≡ fillFault f s k (length block)) × (0 < n) × (after ≡ block)
+
+-- ---- for the functions below it
+
+-- sound figures, and whether the fragments kept suffice (document 01, "The four places")
+pub record Standing (kept : List Bool) (f s k : ℕ) (enough : Bool) : Type 0 where
+  pub counted : badCount f ≡ false
+  pub placed : tooMuch f s ≡ false
+  pub sound : badChunk f s k ≡ false
+  pub told : suffice (notKept kept) f (k + parity) (f * s / (k + parity)) ≡ enough
+
+-- a block of c chunks, for which the fragments kept suffice (document 01, "The four places")
+pub record Holds (kept : List Bool) (f k c : ℕ) (block : List ℕ) : Type 0 where
+  pub some : 0 < f
+  pub most : f ≤ 256
+  pub short : k ≤ 207
+  pub within : c * (k + 48) ≤ place
+  pub chunks : length block ≡ c * (k + 48)
+  pub enough : suffice (notKept kept) f (k + 48) c ≡ true

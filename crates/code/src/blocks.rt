@@ -1,0 +1,45 @@
+// Chunks with their parity, one behind the other.
+use crate::register::parity_of;
+ghost use mathlib.Core.Path.{_≡_};
+ghost use Prim.Native.Nat.{_+_, _*_, _/_, _≤_, _<_};
+ghost use lib.ListN.{length};
+ghost use Rattle.code.specs.Words.{parity, encode};
+ghost use Rattle.code.specs.Kernel.{Made};
+ghost use Rattle.code.specs.Block.{Encoded, EncSized, OneEncoded};
+
+// The chunk of the data bytes d: the data and their parity.
+fn encode_chunk(t: &[u8; 12288], d: &[u8], out: &mut [u8])
+    requires { ⌜ (length (now d) ≤ 207) × (length (now out) ≡ length (now d) + 48) × Made (now t) 12288 ⌝ }
+    ensures { λ _. ⌜ now (out .exit) ≡ encode (length (now (d .entry))) (now (d .entry)) ⌝ }
+{
+    let p = parity_of(t, d);
+    let k = d.len();
+    for i in 0..k {
+        out[i] = d[i];
+    }
+    for j in 0..48 {
+        out[k + j] = p[j];
+    }
+}
+
+fn encode_one(t: &[u8; 12288], k: usize, c: usize, src: &[u8], out: &mut [u8], j: usize)
+    requires { ⌜ EncSized k c (now src) (now out) × (j < c) × Made (now t) 12288 ⌝ }
+    ensures { λ _. ⌜ OneEncoded k c j (now (src .entry)) (now (out .entry)) (now (out .exit)) ⌝ }
+{
+    let n = k + 48;
+    let a = j * k;
+    let b = a + k;
+    let f = j * n;
+    let e = f + n;
+    encode_chunk(t, &src[a..b], &mut out[f..e]);
+}
+
+// THE BLOCK'S ENCODER: c chunks of k data bytes each.
+pub fn encode_block(t: &[u8; 12288], k: usize, c: usize, src: &[u8], out: &mut [u8])
+    requires { ⌜ EncSized k c (now src) (now out) × Made (now t) 12288 ⌝ }
+    ensures { λ _. ⌜ Encoded k c (now (src .entry)) (now (out .exit)) ⌝ }
+{
+    for j in 0..c {
+        encode_one(t, k, c, src, out, j);
+    }
+}

@@ -1,0 +1,123 @@
+// One chunk: the missing bytes found and put in, and whether the chunk is then one of the code.
+use crate::Answer;
+use crate::masks::clear;
+use crate::masks::fill_in;
+use crate::masks::locators_of;
+use crate::masks::missing_count;
+use crate::pattern::pattern;
+use crate::products::dot;
+use crate::products::lanes;
+use crate::products::twice;
+use crate::register::remainder_of;
+use crate::syndromes::syndromes_at;
+ghost use mathlib.Core.Path.{_≡_};
+ghost use Prim.Native.Nat.{_+_, _-_, _*_, _/_, _≤_, _<_};
+ghost use lib.ListN.{length, replicate};
+ghost use Rattle.codeword.specs.Code.{plus};
+ghost use Rattle.code.specs.Words.{parity};
+ghost use Rattle.codeword.proofs.Erasure.{syndromes};
+ghost use Rattle.code.specs.Words.{table};
+ghost use Rattle.code.specs.Kernel.{Made, Doubles, Multiples, lane, rootsList};
+ghost use Rattle.code.specs.Filling.{rowOf, mixed};
+ghost use Rattle.code.specs.Fill.{Fills, Guessed, ZeroTest, Shared};
+
+// y + x times row m of q
+fn add_row(y: &mut [u8; 48], x: u8, q: &[u8; 2304], m: usize)
+    requires { ⌜ (m < 48) × (length (now y) ≡ 48) ⌝ }
+    ensures { λ _. ⌜ now (y .exit) ≡ plus x (rowOf (now (q .entry)) m) (now (y .entry)) ⌝ }
+{
+    let c1 = twice(x);
+    let c2 = twice(c1);
+    let c3 = twice(c2);
+    let c4 = twice(c3);
+    let c5 = twice(c4);
+    let c6 = twice(c5);
+    let c7 = twice(c6);
+    let at = m * 48;
+    for j in 0..48 {
+        y[j] = field::sum(y[j], dot(q[at + j], x, c1, c2, c3, c4, c5, c6, c7));
+    }
+}
+
+// The missing bytes from the syndromes s.
+fn solve(q: &[u8; 2304], sc: &[u8; 384], e: usize, s: [u8; 48]) -> [u8; 48]
+    requires { ⌜ (e ≤ 48) × Doubles (now sc) ⌝ }
+    ensures { λ r. ⌜ r ≡ lane (now (sc .entry)) (mixed s (now (q .entry)) e) (replicate 48 0) ⌝ }
+{
+    let mut y = [0u8; 48];
+    for i in 0..e {
+        add_row(&mut y, s[i], q, e - 1 - i);
+    }
+    let none = [0u8; 48];
+    lanes(sc, y, none)
+}
+
+fn is_zero(r: [u8; 48]) -> bool
+    ensures { λ b. ⌜ ZeroTest r b ⌝ }
+{
+    for j in 0..48 {
+        if r[j] != 0 {
+            return false;
+        }
+    }
+    true
+}
+
+// The missing bytes, which are 0 in c, put in.
+fn put_in(
+    t: &[u8; 12288],
+    rk: &[u8; 384],
+    q: &[u8; 2304],
+    sc: &[u8; 384],
+    e: usize,
+    k: usize,
+    mask: &[u8],
+    c: &mut [u8],
+)
+    requires { ⌜ Shared (now t) (now rk) (now q) (now sc) (now mask) e k × (length (now c) ≡ k + 48) ⌝ }
+    ensures { λ _. ⌜ Guessed k (now (mask .entry)) (now (c .entry)) (now (c .exit)) ⌝ }
+{
+    let r = remainder_of(t, k, c);
+    let s = syndromes_at(rk, r);
+    let y = solve(q, sc, e, s);
+    fill_in(mask, &y[..e], c);
+}
+
+// One of the chunks that miss the same places.
+pub fn fill_shared(
+    t: &[u8; 12288],
+    rk: &[u8; 384],
+    q: &[u8; 2304],
+    sc: &[u8; 384],
+    e: usize,
+    k: usize,
+    mask: &[u8],
+    c: &mut [u8],
+) -> Answer
+    requires { ⌜ Shared (now t) (now rk) (now q) (now sc) (now mask) e k × (length (now c) ≡ k + 48) ⌝ }
+    ensures { λ r. ⌜ Fills k (now (mask .entry)) (now (c .entry)) (now (c .exit)) r ⌝ }
+{
+    clear(mask, c);
+    put_in(t, rk, q, sc, e, k, mask, c);
+    let r = remainder_of(t, k, c);
+    if is_zero(r) {
+        return Answer::Found;
+    }
+    clear(mask, c);
+    Answer::Nothing
+}
+
+// THE DECODER: the missing bytes of a chunk of k data bytes and 48 parity bytes, with the table t and the multiples rk of the roots.
+pub fn fill_alone(t: &[u8; 12288], rk: &[u8; 384], k: usize, mask: &[u8], c: &mut [u8]) -> Answer
+    requires { ⌜ (k ≤ 207) × (length (now mask) ≡ k + 48) × (length (now c) ≡ k + 48) × Made (now t) 12288 × Multiples rootsList (now rk) ⌝ }
+    ensures { λ r. ⌜ Fills k (now (mask .entry)) (now (c .entry)) (now (c .exit)) r ⌝ }
+{
+    let e = missing_count(mask);
+    if 48 < e {
+        return Answer::NotEnough;
+    }
+    let x = locators_of(k, mask, e);
+    let mut q = [0u8; 2304];
+    let sc = pattern(x, e, &mut q);
+    fill_shared(t, rk, &q, &sc, e, k, mask, c)
+}

@@ -1,0 +1,48 @@
+// Reed-Solomon RS(255,207) at work (clauses 7.3.1 and 7.4.4): the parity of chunks, and their missing bytes.
+mod blocks;
+mod cells;
+mod filling;
+mod masks;
+mod mending;
+mod pattern;
+mod products;
+mod receiver;
+mod register;
+mod rows;
+mod sender;
+mod syndromes;
+mod turns;
+
+use base::MOST_K;
+pub use receiver::fill;
+pub use receiver::fill_chunk;
+pub use sender::encode;
+pub use sender::parity;
+ghost use mathlib.Core.Path.{_≡_};
+ghost use Rattle.code.specs.Calls.{badSize};
+
+// What became of missing bytes: all are filled in; no word of the code has the bytes that are there; too many are missing; or the
+// number of the refusal, and then nothing was changed.
+pub enum Filled {
+    Done,
+    Nothing,
+    NotEnough,
+    Refused(u8),
+}
+
+// What became of one chunk: its missing bytes are found; no chunk of the code has the bytes that are there; more than 48 are missing.
+pub enum Answer {
+    Found,
+    Nothing,
+    NotEnough,
+}
+
+// Whether k is no count of data bytes of a chunk.
+fn bad_size(k: usize) -> bool
+    ensures { λ r. ⌜ r ≡ badSize k ⌝ }
+{
+    if k == 0 {
+        return true;
+    }
+    MOST_K < k
+}

@@ -1,0 +1,114 @@
+// All that depends on the missing places alone: for each of them the polynomial whose roots are the others.
+use crate::products::dot;
+use crate::products::lanes;
+use crate::products::multiples;
+use crate::products::times_lanes;
+use crate::products::twice;
+ghost use mathlib.Core.Path.{_≡_};
+ghost use mathlib.Core.List.{[], _∷_};
+ghost use Prim.Native.Nat.{_+_, _-_, _*_, _/_, _≤_, _<_};
+ghost use lib.ListN.{length, take};
+ghost use Rattle.codeword.specs.Code.{value};
+ghost use Rattle.code.specs.Kernel.{Doubles, lane};
+ghost use Rattle.code.specs.Filling.{rootStep, locatorOf, Same, Put, Columns, scalesOf, Pattern, inversesOf};
+
+// p times z + x, from the highest coefficient down
+fn times_root(p: [u8; 49], x: u8) -> [u8; 49]
+    ensures { λ r. ⌜ r ≡ rootStep p x ⌝ }
+{
+    let c1 = twice(x);
+    let c2 = twice(c1);
+    let c3 = twice(c2);
+    let c4 = twice(c3);
+    let c5 = twice(c4);
+    let c6 = twice(c5);
+    let c7 = twice(c6);
+    let mut n = p;
+    for m in 0..48 {
+        n[m + 1] = field::sum(p[m + 1], dot(p[m], x, c1, c2, c3, c4, c5, c6, c7));
+    }
+    n
+}
+
+fn one() -> [u8; 49]
+    ensures { λ r. ⌜ (length r ≡ 49) × Same r (1 ∷ []) ⌝ }
+{
+    let mut p = [0u8; 49];
+    p[0] = 1;
+    p
+}
+
+fn locator(x: [u8; 48], e: usize) -> [u8; 49]
+    requires { ⌜ e ≤ 48 ⌝ }
+    ensures { λ r. ⌜ (length r ≡ 49) × Same r (locatorOf (take e x)) ⌝ }
+{
+    let mut p = one();
+    for i in 0..e {
+        let next = times_root(p, x[i]);
+        p = next;
+    }
+    p
+}
+
+fn put_row48(q: &mut [u8; 2304], m: usize, s: [u8; 48])
+    requires { ⌜ (m < 48) × (length (now q) ≡ 2304) ⌝ }
+    ensures { λ _. ⌜ Put (now (q .entry)) m s (now (q .exit)) ⌝ }
+{
+    let at = m * 48;
+    for j in 0..48 {
+        q[at + j] = s[j];
+    }
+}
+
+// The locator polynomial p divided by z + x in each lane, and each quotient's value at its x.
+fn columns(k: &[u8; 384], p: [u8; 49], e: usize, q: &mut [u8; 2304]) -> [u8; 48]
+    requires { ⌜ (e ≤ 48) × (length (now q) ≡ 2304) × Doubles (now k) ⌝ }
+    ensures { λ d. ⌜ Columns (now (k .entry)) p e (now (q .exit)) d ⌝ }
+{
+    let mut s = [0u8; 48];
+    let mut d = [0u8; 48];
+    for m in 0..e {
+        let c = p[m];
+        let cs = [c; 48];
+        let s2 = lanes(k, s, cs);
+        put_row48(q, m, s2);
+        let d2 = lanes(k, d, s2);
+        s = s2;
+        d = d2;
+    }
+    d
+}
+
+// The inverses: x^254 as x^2 x^4 .. x^128.
+fn inverses(x: [u8; 48]) -> [u8; 48]
+    ensures { λ r. ⌜ r ≡ inversesOf x ⌝ }
+{
+    let mut s = times_lanes(x, x);
+    let mut p = s;
+    let mut j = 0usize;
+    while j < 6 {
+        let s2 = times_lanes(s, s);
+        let p2 = times_lanes(p, s2);
+        s = s2;
+        p = p2;
+        j += 1;
+    }
+    p
+}
+
+fn scales(x: [u8; 48], d: [u8; 48]) -> [u8; 48]
+    ensures { λ r. ⌜ r ≡ scalesOf x d ⌝ }
+{
+    inverses(times_lanes(x, d))
+}
+
+// All that depends on the missing places alone.
+pub fn pattern(x: [u8; 48], e: usize, q: &mut [u8; 2304]) -> [u8; 384]
+    requires { ⌜ (e ≤ 48) × (length (now q) ≡ 2304) ⌝ }
+    ensures { λ r. ⌜ Pattern (take e x) (now (q .exit)) r ⌝ }
+{
+    let k = multiples(x);
+    let p = locator(x, e);
+    let d = columns(&k, p, e, q);
+    multiples(scales(x, d))
+}

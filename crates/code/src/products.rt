@@ -1,0 +1,129 @@
+// Products in the field by shift and select: no table, and many lanes at a time in a loop over an array.
+ghost use mathlib.Core.Path.{_≡_};
+ghost use Prim.Native.Nat.{_+_, _-_, _*_, _/_, _%_, _<_};
+ghost use Rattle.field.specs.Field.{_⊗_, times2};
+ghost use Rattle.codeword.specs.Code.{plus};
+ghost use Rattle.code.specs.Kernel.{Chain, Doubles, Multiples, lane};
+ghost use Rattle.code.specs.Filling.{timesAll};
+
+pub fn twice(x: u8) -> u8
+    ensures { λ r. ⌜ r ≡ times2 x ⌝ }
+{
+    if x < 128 {
+        x + x
+    } else {
+        field::sum((x - 128) + (x - 128), 29)
+    }
+}
+
+// v where the bit of a is set
+fn pick(a: u8, bit: u8, v: u8) -> u8
+    requires { ⌜ 0 < bit ⌝ }
+    ensures { λ r. ⌜ r ≡ a / bit % 2 * v ⌝ }
+{
+    if a / bit % 2 == 0 { 0 } else { v }
+}
+
+// The product of k0 and a, with the doubles of k0 at hand.
+pub fn dot(a: u8, k0: u8, k1: u8, k2: u8, k3: u8, k4: u8, k5: u8, k6: u8, k7: u8) -> u8
+    requires { ⌜ Chain k0 k1 k2 k3 k4 k5 k6 k7 ⌝ }
+    ensures { λ r. ⌜ r ≡ k0 ⊗ a ⌝ }
+{
+    field::sum(
+        pick(a, 1, k0),
+        field::sum(
+            pick(a, 2, k1),
+            field::sum(
+                pick(a, 4, k2),
+                field::sum(
+                    pick(a, 8, k3),
+                    field::sum(
+                        pick(a, 16, k4),
+                        field::sum(
+                            pick(a, 32, k5),
+                            field::sum(pick(a, 64, k6), pick(a, 128, k7)),
+                        ),
+                    ),
+                ),
+            ),
+        ),
+    )
+}
+
+fn product(a: u8, x: u8) -> u8
+    ensures { λ r. ⌜ r ≡ x ⊗ a ⌝ }
+{
+    let c1 = twice(x);
+    let c2 = twice(c1);
+    let c3 = twice(c2);
+    let c4 = twice(c3);
+    let c5 = twice(c4);
+    let c6 = twice(c5);
+    let c7 = twice(c6);
+    dot(a, x, c1, c2, c3, c4, c5, c6, c7)
+}
+
+// q + x b
+pub fn added(q: [u8; 48], x: u8, b: [u8; 48]) -> [u8; 48]
+    ensures { λ r. ⌜ r ≡ plus x b q ⌝ }
+{
+    let c1 = twice(x);
+    let c2 = twice(c1);
+    let c3 = twice(c2);
+    let c4 = twice(c3);
+    let c5 = twice(c4);
+    let c6 = twice(c5);
+    let c7 = twice(c6);
+    let mut n = q;
+    for m in 0..48 {
+        n[m] = field::sum(q[m], dot(b[m], x, c1, c2, c3, c4, c5, c6, c7));
+    }
+    n
+}
+
+// a b in each lane
+pub fn times_lanes(a: [u8; 48], b: [u8; 48]) -> [u8; 48]
+    ensures { λ r. ⌜ r ≡ timesAll a b ⌝ }
+{
+    let mut r = [0u8; 48];
+    for m in 0..48 {
+        r[m] = product(a[m], b[m]);
+    }
+    r
+}
+
+// s x + r in each lane, with the multiples of each x in k
+pub fn lanes(k: &[u8; 384], s: [u8; 48], r: [u8; 48]) -> [u8; 48]
+    requires { ⌜ Doubles (now k) ⌝ }
+    ensures { λ q. ⌜ q ≡ lane (now (k .entry)) s r ⌝ }
+{
+    let mut q = [0u8; 48];
+    for m in 0..48 {
+        let p = dot(
+            s[m],
+            k[m],
+            k[m + 48],
+            k[m + 96],
+            k[m + 144],
+            k[m + 192],
+            k[m + 240],
+            k[m + 288],
+            k[m + 336],
+        );
+        q[m] = field::sum(p, r[m]);
+    }
+    q
+}
+
+pub fn multiples(x: [u8; 48]) -> [u8; 384]
+    ensures { λ r. ⌜ Multiples x r ⌝ }
+{
+    let mut k = [0u8; 384];
+    for j in 0..48 {
+        k[j] = x[j];
+    }
+    for i in 48..384 {
+        k[i] = twice(k[i - 48]);
+    }
+    k
+}

@@ -1,0 +1,103 @@
+// The register of the encoder, eight bytes a step, and what the generator leaves of a chunk.
+ghost use mathlib.Core.Path.{_≡_};
+ghost use Prim.Native.Nat.{_+_, _-_, _*_, _/_, _%_, _≤_, _<_};
+ghost use lib.ListN.{length, take, drop, replicate};
+ghost use Rattle.codeword.specs.Code.{plus, run};
+ghost use Rattle.code.specs.Words.{parity};
+ghost use Rattle.code.specs.Words.{table};
+ghost use Rattle.code.specs.Kernel.{back, power, Made, laid, sumOf};
+ghost use Rattle.code.specs.Fill.{Left};
+
+fn wide(x: u8) -> usize
+    ensures { λ r. ⌜ r ≡ x ⌝ }
+{
+    x as usize
+}
+
+fn shifted8(p: [u8; 48]) -> [u8; 48]
+    ensures { λ r. ⌜ r ≡ back 8 p ⌝ }
+{
+    let mut q = [0u8; 48];
+    for j in 0..40 {
+        q[j] = p[j + 8];
+    }
+    q
+}
+
+// q + x times the power n
+fn byte_in(q: &mut [u8; 48], t: &[u8; 12288], x: u8, n: usize)
+    requires { ⌜ (n < 8) × (length (now q) ≡ 48) × Made (now t) 12288 ⌝ }
+    ensures { λ _. ⌜ now (q .exit) ≡ plus x (power n) (now (q .entry)) ⌝ }
+{
+    let a = n * 1536 + wide(x) % 16 * 48;
+    let b = n * 1536 + 768 + wide(x) / 16 * 48;
+    for j in 0..48 {
+        q[j] = field::sum(q[j], field::sum(t[a + j], t[b + j]));
+    }
+}
+
+// The register takes in the eight bytes of d from at on.
+fn eight(t: &[u8; 12288], p: [u8; 48], d: &[u8; 208], at: usize) -> [u8; 48]
+    requires { ⌜ (at ≤ 200) × (length (now d) ≡ 208) × Made (now t) 12288 ⌝ }
+    ensures { λ r. ⌜ r ≡ run p (take 8 (drop at (now (d .entry)))) ⌝ }
+{
+    let mut q = shifted8(p);
+    for n in 0..8 {
+        byte_in(&mut q, t, field::sum(p[7 - n], d[at + (7 - n)]), n);
+    }
+    q
+}
+
+// The register after the 208 bytes of d.
+fn register(t: &[u8; 12288], d: &[u8; 208]) -> [u8; 48]
+    requires { ⌜ (length (now d) ≡ 208) × Made (now t) 12288 ⌝ }
+    ensures { λ r. ⌜ r ≡ run (replicate 48 0) (now (d .entry)) ⌝ }
+{
+    let mut p = [0u8; 48];
+    for i in 0..26 {
+        let next = eight(t, p, d, i * 8);
+        p = next;
+    }
+    p
+}
+
+// The data bytes in 208 places.
+fn lay(d: &[u8]) -> [u8; 208]
+    requires { ⌜ length (now d) ≤ 207 ⌝ }
+    ensures { λ r. ⌜ r ≡ laid (now (d .entry)) ⌝ }
+{
+    let mut w = [0u8; 208];
+    let n = d.len();
+    for i in 0..n {
+        w[i + 1] = d[i];
+    }
+    w
+}
+
+// THE ENCODER: the parity of the data bytes, with the table t.
+pub fn parity_of(t: &[u8; 12288], d: &[u8]) -> [u8; 48]
+    requires { ⌜ (length (now d) ≤ 207) × Made (now t) 12288 ⌝ }
+    ensures { λ r. ⌜ r ≡ parity (length (now (d .entry))) (now (d .entry)) ⌝ }
+{
+    let w = lay(d);
+    register(t, &w)
+}
+
+fn summed(p: [u8; 48], c: &[u8], k: usize) -> [u8; 48]
+    requires { ⌜ (k ≤ 207) × (length (now c) ≡ k + 48) ⌝ }
+    ensures { λ r. ⌜ r ≡ sumOf p (drop k (now (c .entry))) ⌝ }
+{
+    let mut q = p;
+    for j in 0..48 {
+        q[j] = field::sum(p[j], c[k + j]);
+    }
+    q
+}
+
+pub fn remainder_of(t: &[u8; 12288], k: usize, c: &[u8]) -> [u8; 48]
+    requires { ⌜ (k ≤ 207) × (length (now c) ≡ k + 48) × Made (now t) 12288 ⌝ }
+    ensures { λ r. ⌜ Left k (now (c .entry)) r ⌝ }
+{
+    let p = parity_of(t, &c[..k]);
+    summed(p, c, k)
+}

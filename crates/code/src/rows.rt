@@ -1,0 +1,127 @@
+// The table that the register reads: for each of eight powers of x modulo the generator, its multiples by each half of a byte.
+use crate::products::added;
+ghost use mathlib.Core.Path.{_≡_};
+ghost use Prim.Native.Nat.{_+_, _-_, _*_, _/_, _%_, _<_};
+ghost use lib.ListN.{length};
+ghost use Rattle.codeword.specs.Code.{generator, step};
+ghost use Rattle.code.specs.Kernel.{shift, power, factorOf, Made, RowOf};
+
+const GENERATOR: [u8; 48] = [
+    122,
+    12,
+    14,
+    218,
+    195,
+    73,
+    194,
+    157,
+    32,
+    17,
+    5,
+    62,
+    71,
+    15,
+    25,
+    240,
+    161,
+    21,
+    218,
+    148,
+    176,
+    109,
+    183,
+    149,
+    166,
+    245,
+    218,
+    251,
+    151,
+    150,
+    170,
+    195,
+    151,
+    160,
+    12,
+    130,
+    219,
+    117,
+    244,
+    10,
+    169,
+    19,
+    204,
+    113,
+    81,
+    214,
+    231,
+    228,
+];
+
+fn shifted(p: [u8; 48]) -> [u8; 48]
+    ensures { λ r. ⌜ r ≡ shift p ⌝ }
+{
+    let mut q = [0u8; 48];
+    for j in 0..47 {
+        q[j] = p[j + 1];
+    }
+    q
+}
+
+fn coefficients() -> [u8; 48]
+    ensures { λ r. ⌜ r ≡ generator ⌝ }
+{
+    GENERATOR
+}
+
+// The next power of x modulo the generator g.
+fn next_power(b: [u8; 48], g: [u8; 48]) -> [u8; 48]
+    requires { ⌜ g ≡ generator ⌝ }
+    ensures { λ r. ⌜ r ≡ step b 0 ⌝ }
+{
+    added(shifted(b), b[0], g)
+}
+
+fn factor(u: usize) -> u8
+    requires { ⌜ u < 32 ⌝ }
+    ensures { λ r. ⌜ r ≡ factorOf u ⌝ }
+{
+    if u < 16 {
+        (u % 256) as u8
+    } else {
+        ((u - 16) * 16 % 256) as u8
+    }
+}
+
+fn put_row(t: &mut [u8; 12288], r: usize, row: [u8; 48])
+    requires { ⌜ (r < 256) × (length (now t) ≡ 12288) × Made (now t) (r * 48) × RowOf row r ⌝ }
+    ensures { λ _. ⌜ (length (now (t .exit)) ≡ 12288) × Made (now (t .exit)) (r * 48 + 48) ⌝ }
+{
+    let at = r * 48;
+    for j in 0..48 {
+        t[at + j] = row[j];
+    }
+}
+
+// The 32 rows of the power n.
+fn put_rows(t: &mut [u8; 12288], n: usize, b: [u8; 48])
+    requires { ⌜ (n < 8) × (b ≡ power n) × (length (now t) ≡ 12288) × Made (now t) (n * 1536) ⌝ }
+    ensures { λ _. ⌜ (length (now (t .exit)) ≡ 12288) × Made (now (t .exit)) (n * 1536 + 1536) ⌝ }
+{
+    let none = [0u8; 48];
+    for u in 0..32 {
+        put_row(t, n * 32 + u, added(none, factor(u), b));
+    }
+}
+
+pub fn make_table(t: &mut [u8; 12288])
+    requires { ⌜ length (now t) ≡ 12288 ⌝ }
+    ensures { λ _. ⌜ Made (now (t .exit)) 12288 ⌝ }
+{
+    let g = coefficients();
+    let mut b = g;
+    for n in 0..8 {
+        put_rows(t, n, b);
+        let next = next_power(b, g);
+        b = next;
+    }
+}
