@@ -2,13 +2,15 @@
 
     python3 tests/vectors.py
 
-The answers come from crc.txt (made by a peer), from plans.py and fields.py (computed from document 01) and from the lists below.
+The answers come from crc.txt (made by a peer), from plans.py and fields.py (computed from document 01), from chunks.py (of
+parity.txt, made by a peer) and from the lists below.
 None is taken from the program. Running this again gives the same bytes.
 """
 import pathlib
 import sys
 
 sys.dont_write_bytecode = True
+import chunks
 import fields
 import plans
 
@@ -140,6 +142,13 @@ def elements():
         ask_field(f"pow {e}")
 
 
+def whole_chunks():
+    for title, part in chunks.PARTS:
+        silent("# " + title)
+        for question, answer in part():
+            ask(question, answer)
+
+
 MALFORMED = """\
 mul
 mul 1
@@ -263,7 +272,7 @@ def long_lines():
 
 
 def main():
-    for part in (sums, sizes, settings, counts, ordinary, elements, malformed, long_lines):
+    for part in (sums, sizes, settings, counts, ordinary, elements, whole_chunks, malformed, long_lines):
         part()
         silent("")
     questions.pop()

@@ -22,13 +22,13 @@ use Rattle.base.proofs.Logic.{or-left, or-right}
 use Rattle.cut.specs.Block.{padded, wordOf, blockOf}
 use Rattle.cut.proofs.Blocks.{length-block, length-padded}
 use Rattle.code.specs.Words.{encode}
-use Rattle.codeword.proofs.Masks.{marks}
-use Rattle.codeword.specs.Erasure.{count, erase}
+use Rattle.codeword.specs.Erasure.{marks, count, erase}
 use Rattle.codeword.proofs.Encoder.{length-run}
 use Rattle.code.specs.Block.{part, Encoded}
 use Rattle.code.specs.Fill.{Agrees, Fills}
 use Rattle.codeword.specs.Code.{parityOf}
-use Rattle.code.specs.Calls.{badSize, parityFault, parityCall, overPlace, misfits, encodeFault, encodeCall, badPair, chunkFault, ChunkFilled, filledOf}
+use Rattle.code.specs.Calls.{badSize, parityFault, parityCall, overPlace, misfits, encodeFault, encodeCall, badPair, chunkFault, ChunkFilled}
+use Rattle.code.specs.Inner.{filledOf}
 use Rattle.code.specs.declared.Answer.{Answer}
 use Rattle.code.specs.declared.Answer.the-variants as answers
 use Rattle.code.specs.declared.Filled.{Filled}
@@ -218,33 +218,3 @@ module _ (k : ℕ) (mask c : List ℕ) where
 
     pub chunk-told : (after : List ℕ) (a : Answer) (r : Filled) → Fills k mask c after a → r ≡ filledOf a → ChunkFilled k mask c after r
     chunk-told after a r f e = subst (ChunkFilled k mask c after) (sym e) (told-by after a f)
-
--- no second pair of answer and bytes fits
-module _ (k : ℕ) (mask c v w : List ℕ) where
-  no-fault : 0 ≡ chunkFault k (length mask) (length c) → badPair k (length mask) (length c) ≡ false
-  unfolding chunkFault
-  no-fault e = clear _ 8 [] (λ z. omega arith) (sym e)
-
-  due-not : {n : ℕ} → n ≡ chunkFault k (length mask) (length c) → 0 < n → 0 ≡ chunkFault k (length mask) (length c) → ⊥
-  due-not e h z = omega arith
-
-  pub one-chunk-filled : (r s : Filled) → ChunkFilled k mask c v r → ChunkFilled k mask c w s → (r ≡ s) × (v ≡ w)
-  unfolding ChunkFilled
-  one-chunk-filled Done Done a b =
-      let fine : badPair k (length mask) (length c) ≡ false = no-fault (a .0) in
-      (refl, one-filling k mask c v w (size-most k (pair-size k mask c fine)) (pair-mask k mask c fine) (a .1) (a .2) (b .2))
-  one-chunk-filled Done Nothing a b = absurd (b .2 v (a .2))
-  one-chunk-filled Done NotEnough a b = absurd (omega (arith, a .1, b .1))
-  one-chunk-filled Done (Refused n) a b = absurd (due-not (b .0) (b .1) (a .0))
-  one-chunk-filled Nothing Done a b = absurd (a .2 w (b .2))
-  one-chunk-filled Nothing Nothing a b = (refl, a .3 ∙ sym (b .3))
-  one-chunk-filled Nothing NotEnough a b = absurd (omega (arith, a .1, b .1))
-  one-chunk-filled Nothing (Refused n) a b = absurd (due-not (b .0) (b .1) (a .0))
-  one-chunk-filled NotEnough Done a b = absurd (omega (arith, a .1, b .1))
-  one-chunk-filled NotEnough Nothing a b = absurd (omega (arith, a .1, b .1))
-  one-chunk-filled NotEnough NotEnough a b = (refl, a .2 ∙ sym (b .2))
-  one-chunk-filled NotEnough (Refused n) a b = absurd (due-not (b .0) (b .1) (a .0))
-  one-chunk-filled (Refused n) Done a b = absurd (due-not (a .0) (a .1) (b .0))
-  one-chunk-filled (Refused n) Nothing a b = absurd (due-not (a .0) (a .1) (b .0))
-  one-chunk-filled (Refused n) NotEnough a b = absurd (due-not (a .0) (a .1) (b .0))
-  one-chunk-filled (Refused n) (Refused m) a b = (ap Refused (a .0 ∙ sym (b .0)), a .2 ∙ sym (b .2))

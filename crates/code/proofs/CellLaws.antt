@@ -23,12 +23,12 @@ use Rattle.cut.specs.Missing.{bit, gone, missing, suffice}
 use Rattle.cut.specs.Sizes.{receivedC}
 use Rattle.cut.proofs.Sufficing.{suffice-no}
 use Rattle.weave.specs.Calls.{badCount, tooMuch, badChunk, notKept, enoughFault, enoughOf}
-use Rattle.codeword.proofs.Masks.{marks}
-use Rattle.codeword.specs.Erasure.{erase, count}
+use Rattle.codeword.specs.Erasure.{marks, erase, count}
 use Rattle.codeword.proofs.Erasure.{length-erase}
 use Rattle.code.specs.Fill.{Agrees}
 use Rattle.code.specs.Block.{part, Status, Filling, SomeLeft, Ready, Unmended, Mended}
-use Rattle.code.specs.Calls.{lostCells, fillFault, BlockDone, BlockNothing, BlockFilled, Standing, Holds}
+use Rattle.code.specs.Calls.{lostCells, fillFault, BlockDone, BlockNothing, BlockFilled}
+use Rattle.code.specs.Inner.{Standing, Holds}
 use Rattle.code.specs.declared.Filled.{Filled}
 use Rattle.code.specs.declared.Filled.the-variants.{Done, Nothing, NotEnough, Refused}
 use Rattle.code.proofs.FillLaws.{erase-twice}

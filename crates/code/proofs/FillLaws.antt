@@ -13,8 +13,7 @@ use Rattle.field.proofs.Sums.{add-0-r, add-self}
 use Rattle.codeword.specs.Code.{value, Codeword, full}
 use Rattle.base.specs.Bytes.{Bytes}
 use Rattle.code.specs.Words.{parity, encode}
-use Rattle.codeword.proofs.Masks.{marks}
-use Rattle.codeword.specs.Erasure.{erase, count}
+use Rattle.codeword.specs.Erasure.{marks, erase, count}
 use Rattle.codeword.proofs.Erasure.{missing, fill, locators, syndromes}
 use Rattle.codeword.proofs.Poly.{value-zeros}
 use Rattle.code.proofs.WordLaws.{encode-codeword, length-encode}
@@ -27,11 +26,12 @@ use Rattle.codeword.specs.Locators.{sumAt}
 use Rattle.codeword.proofs.Vandermonde.{getD-table}
 use Rattle.code.specs.Kernel.{sumOf, remainder, lane}
 use Rattle.code.specs.Filling.{mix, colOf, mixed, Pattern}
-use Rattle.code.specs.Fill.{locs, Left, Guessed, Agrees, Shared, Fills}
+use Rattle.code.specs.Fill.{Agrees, Fills}
+use Rattle.code.specs.Sharing.{locs, Left, Guessed, Shared}
 use Rattle.code.specs.declared.Answer.{Answer}
 use Rattle.code.specs.declared.Answer.the-variants.{Found, Nothing, NotEnough}
 use native.Mathlib.Decide.{ℕ-discrete}
-use Rattle.code.proofs.PlaceLaws.{marks-full}
+use Rattle.codeword.proofs.Masks.{marks-full}
 use Rattle.code.proofs.RowLaws.{zeros-at}
 use Rattle.code.proofs.LaneLaws.{lane-at, length-lane, remainder-value, remainder-syndromes, parity-size, drop-size}
 use Rattle.code.proofs.LocatorLaws.{solved}

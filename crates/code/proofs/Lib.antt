@@ -7,6 +7,7 @@ pub mod LaneLaws
 pub mod LocatorLaws
 pub mod LoopLaws
 pub mod MaskLaws
+pub mod Only
 pub mod PartLaws
 pub mod PlaceLaws
 pub mod RegisterLaws

@@ -12,8 +12,7 @@ use lib.ListN.{length, take, drop, getD, set, length-set, length-append, length-
 use lib.Seq.{drop-cons, take-suc-set, take-all, take-suc, getD-drop, drop-drop, drop-set-lt, length-take-le}
 use borrow.Author.Tests.{eq-eqb, ne-eqb}
 use Rattle.field.specs.Field.{alpha}
-use Rattle.codeword.proofs.Masks.{marks}
-use Rattle.codeword.specs.Erasure.{erase, count}
+use Rattle.codeword.specs.Erasure.{marks, erase, count}
 use Rattle.codeword.proofs.Erasure.{locators, fill}
 
 pub length-marks : (l : List ℕ) → length (marks l) ≡ length l

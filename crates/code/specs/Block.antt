@@ -6,8 +6,7 @@ use mathlib.Core.List.{List}
 use Prim.Native.Nat.{ℕ, zero, suc, _+_, _*_, _≤_, _<_}
 use lib.ListN.{length, take, drop, getD}
 use Rattle.code.specs.Words.{encode}
-use Rattle.codeword.proofs.Masks.{marks}
-use Rattle.codeword.specs.Erasure.{erase, count}
+use Rattle.codeword.specs.Erasure.{marks, erase, count}
 use Rattle.code.specs.Fill.{Agrees, Fills}
 use Rattle.code.specs.declared.Answer.{Answer}
 use Rattle.code.specs.declared.Answer.the-variants.{Found, Nothing, NotEnough}

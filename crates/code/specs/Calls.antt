@@ -2,7 +2,7 @@
 use mathlib.Core.Path.{_≡_}
 use mathlib.Core.Bool.{Bool, true, false, not, _||_}
 use mathlib.Core.List.{List, [], _∷_}
-use Prim.Native.Nat.{ℕ, _+_, _-_, _*_, _/_, _≤_, _<_}
+use Prim.Native.Nat.{ℕ, _+_, _-_, _*_, _≤_, _<_}
 use lib.Dec.{leb, ltb, eqb}
 use lib.ListN.{length, drop}
 use Rattle.base.specs.Bounds.{most-k, place, parity}
@@ -15,11 +15,8 @@ use Rattle.cut.specs.Missing.{bit, gone, suffice}
 use Rattle.cut.specs.Sizes.{receivedC}
 use Rattle.weave.specs.Calls.{badCount, tooMuch, badChunk, notKept}
 use Rattle.codeword.specs.Code.{parityOf}
-use Rattle.codeword.proofs.Masks.{marks}
-use Rattle.codeword.specs.Erasure.{erase, count}
+use Rattle.codeword.specs.Erasure.{marks, erase, count}
 use Rattle.code.specs.Fill.{Agrees}
-use Rattle.code.specs.declared.Answer.{Answer}
-use Rattle.code.specs.declared.Answer.the-variants as answers
 use Rattle.code.specs.declared.Filled.{Filled}
 use Rattle.code.specs.declared.Filled.the-variants.{Done, Nothing, NotEnough, Refused}
 
@@ -69,12 +66,6 @@ ChunkFilled k mask c after Nothing =
 ChunkFilled k mask c after NotEnough = (0 ≡ chunkFault k (length mask) (length c)) × (parity < count (marks mask)) × (after ≡ c)
 ChunkFilled k mask c after (Refused n) = (n ≡ chunkFault k (length mask) (length c)) × (0 < n) × (after ≡ c)
 
--- the call's answer for a chunk's
-abbrev pub filledOf : Answer → Filled
-filledOf answers.Found = Done
-filledOf answers.Nothing = Nothing
-filledOf answers.NotEnough = NotEnough
-
 -- document 01, "The four places": the cells from a on, n of them, with 1 for each whose fragment is not kept
 unfoldable pub lostCells : List Bool → ℕ → ℕ → ℕ → List ℕ
 lostCells kept f a n = table (λ q. bit (gone (notKept kept) f q)) a n
@@ -108,21 +99,3 @@ BlockFilled kept f s k block after Nothing =
 BlockFilled kept f s k block after NotEnough =
     (0 ≡ fillFault f s k (length block)) × (suffice (notKept kept) f (k + parity) (receivedC f s k) ≡ false) × (after ≡ block)
 BlockFilled kept f s k block after (Refused n) = (n ≡ fillFault f s k (length block)) × (0 < n) × (after ≡ block)
-
--- ---- for the functions below it
-
--- sound figures, and whether the fragments kept suffice (document 01, "The four places")
-pub record Standing (kept : List Bool) (f s k : ℕ) (enough : Bool) : Type 0 where
-  pub counted : badCount f ≡ false
-  pub placed : tooMuch f s ≡ false
-  pub sound : badChunk f s k ≡ false
-  pub told : suffice (notKept kept) f (k + parity) (f * s / (k + parity)) ≡ enough
-
--- a block of c chunks, for which the fragments kept suffice (document 01, "The four places")
-pub record Holds (kept : List Bool) (f k c : ℕ) (block : List ℕ) : Type 0 where
-  pub some : 0 < f
-  pub most : f ≤ 256
-  pub short : k ≤ 207
-  pub within : c * (k + 48) ≤ place
-  pub chunks : length block ≡ c * (k + 48)
-  pub enough : suffice (notKept kept) f (k + 48) c ≡ true

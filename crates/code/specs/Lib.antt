@@ -1,6 +1,8 @@
+pub mod Fill
+pub mod Calls
 pub mod Words
 pub mod Kernel
 pub mod Filling
-pub mod Fill
+pub mod Sharing
 pub mod Block
-pub mod Calls
+pub mod Inner

@@ -1,4 +1,4 @@
--- The parity of data by their count, and what the kernels' definitions write short.
+-- What the definitions of the private functions write short. With the data's own count, `parity` and `encode` here are those of the code: WordLaws.
 use mathlib.Core.List.{List, _++_}
 use Prim.Native.Nat.{ℕ, _-_}
 use lib.ListN.{getD, replicate}

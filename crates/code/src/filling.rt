@@ -19,7 +19,8 @@ ghost use Rattle.codeword.proofs.Erasure.{syndromes};
 ghost use Rattle.code.specs.Words.{table};
 ghost use Rattle.code.specs.Kernel.{Made, Doubles, Multiples, lane, rootsList};
 ghost use Rattle.code.specs.Filling.{rowOf, mixed};
-ghost use Rattle.code.specs.Fill.{Fills, Guessed, ZeroTest, Shared};
+ghost use Rattle.code.specs.Fill.{Fills};
+ghost use Rattle.code.specs.Sharing.{Guessed, ZeroTest, Shared};
 
 // y + x times row m of q
 fn add_row(y: &mut [u8; 48], x: u8, q: &[u8; 2304], m: usize)

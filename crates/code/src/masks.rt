@@ -6,10 +6,9 @@ ghost use lib.Dec.{eqb};
 ghost use lib.ListN.{length, take, getD};
 ghost use Rattle.code.specs.Words.{parity};
 ghost use Rattle.codeword.specs.Code.{full};
-ghost use Rattle.codeword.proofs.Masks.{marks};
-ghost use Rattle.codeword.specs.Erasure.{erase, count};
+ghost use Rattle.codeword.specs.Erasure.{marks, erase, count};
 ghost use Rattle.codeword.proofs.Erasure.{locators, fill};
-ghost use Rattle.code.specs.Fill.{locs};
+ghost use Rattle.code.specs.Sharing.{locs};
 
 // How many bytes the mask marks as missing.
 pub fn missing_count(mask: &[u8]) -> usize

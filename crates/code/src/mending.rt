@@ -10,7 +10,8 @@ ghost use mathlib.Core.Path.{_≡_};
 ghost use Prim.Native.Nat.{_+_, _*_, _≤_, _<_};
 ghost use lib.ListN.{length};
 ghost use Rattle.code.specs.Block.{FoundTest, Ready, Mended};
-ghost use Rattle.code.specs.Calls.{lostCells, Holds};
+ghost use Rattle.code.specs.Calls.{lostCells};
+ghost use Rattle.code.specs.Inner.{Holds};
 
 // Whether the answer of each chunk is that its missing bytes are found.
 fn all_found(ans: &[u8]) -> bool

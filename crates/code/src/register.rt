@@ -6,7 +6,7 @@ ghost use Rattle.codeword.specs.Code.{plus, run};
 ghost use Rattle.code.specs.Words.{parity};
 ghost use Rattle.code.specs.Words.{table};
 ghost use Rattle.code.specs.Kernel.{back, power, Made, laid, sumOf};
-ghost use Rattle.code.specs.Fill.{Left};
+ghost use Rattle.code.specs.Sharing.{Left};
 
 fn wide(x: u8) -> usize
     ensures { λ r. ⌜ r ≡ x ⌝ }

@@ -9,7 +9,7 @@ ghost use mathlib.Core.Path.{_≡_};
 ghost use Prim.Native.Nat.{_+_, _-_, _*_, _/_, _≤_, _<_};
 ghost use lib.ListN.{length, take, drop, getD};
 ghost use Rattle.code.specs.Kernel.{Made, Multiples, rootsList};
-ghost use Rattle.code.specs.Fill.{Shared};
+ghost use Rattle.code.specs.Sharing.{Shared};
 ghost use Rattle.code.specs.Block.{part, codeOf, Open, SameTest, Filling, Sized, Later, OneLater, AllDone};
 
 fn number(a: Answer) -> u8

@@ -1,17 +1,13 @@
--- A mask that comes as bytes, 0 where the byte of the word is there. Assumes nothing.
+-- Laws of masks that come as bytes. Assumes nothing.
 use mathlib.Core.Path.{_≡_, refl, ap, ap₂, _∙_}
-use mathlib.Core.Bool.{Bool, false, not}
+use mathlib.Core.Bool.{false, not}
 use mathlib.Core.List.{List, [], _∷_, _++_}
 use Prim.Native.Nat.{ℕ, zero, suc, _-_}
 use lib.Dec.{eqb}
 use lib.ListN.{length, take, drop, replicate}
 use Rattle.base.specs.Bounds.{most-k}
 use Rattle.codeword.specs.Code.{full}
-
--- its truth values
-unfoldable pub marks : List ℕ → List Bool
-marks [] = []
-marks (b ∷ bs) = not (eqb b 0) ∷ marks bs
+use Rattle.codeword.specs.Erasure.{marks}
 
 pub length-marks : (l : List ℕ) → length (marks l) ≡ length l
 unfolding marks

@@ -2,6 +2,7 @@
 use mathlib.Core.Bool.{Bool, true, false, not}
 use mathlib.Core.List.{List, [], _∷_}
 use Prim.Native.Nat.{ℕ, zero, suc}
+use lib.Dec.{eqb}
 
 -- clause 7.4.4: the word with 0 at each missing place
 unfoldable pub erase : List Bool → List ℕ → List ℕ
@@ -20,3 +21,8 @@ count (false ∷ mask) = count mask
 unfoldable pub maskOf : (ℕ → Bool) → ℕ → ℕ → List Bool
 maskOf there a zero = []
 maskOf there a (suc n) = not (there a) ∷ maskOf there (suc a) n
+
+-- a mask that comes as bytes: missing where its byte is not 0 (document 01, "The four places")
+unfoldable pub marks : List ℕ → List Bool
+marks [] = []
+marks (b ∷ mask) = not (eqb b 0) ∷ marks mask

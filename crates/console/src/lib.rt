@@ -1,6 +1,7 @@
 // The console: one question line in, one answer line out. What is asked and what is answered is
 // tested by the program over this library; that no answer reads or writes out of bounds, that each
 // call ends, and that nothing behind the answer changes, is proved.
+mod chunks;
 mod fields;
 mod plans;
 mod sums;
@@ -14,10 +15,10 @@ ghost use Rattle.console.specs.Wrote.{Wrote};
 // what does not fit: a full buffer is answered `unknown`.
 pub const LINE: usize = 2 * words::BYTES + 512;
 
-// A buffer as long as this holds every answer, and a program lends one: the longest is `plan` with
-// nine figures of at most twenty digits. Of an answer that does not fit a shorter buffer, what fits
-// is written.
-pub const ANSWER: usize = 256;
+// A buffer as long as this holds every answer, and a program lends one: the longest is `filled ` and
+// the longest chunk, two digits a byte. Of an answer that does not fit a shorter buffer, what fits is
+// written.
+pub const ANSWER: usize = 7 + 2 * chunks::CHUNK;
 
 // Answers one line, without its newline, at the front of out, without a newline, and says how many
 // bytes the answer has: 0 for an empty line and for a comment.
@@ -51,6 +52,12 @@ pub fn answer(line: &[u8], out: &mut [u8]) -> usize
     }
     if words::is(name, b"pow") {
         return fields::answer_pow(line, out);
+    }
+    if words::is(name, b"parity") {
+        return chunks::answer_parity(line, out);
+    }
+    if words::is(name, b"fill") {
+        return chunks::answer_fill(line, out);
     }
     text::unknown(out)
 }

@@ -1,10 +1,10 @@
 use mathlib.Core.Path.{subst}
 use native.Mathlib.Omega.{arith}
-use Rattle.code.specs.Fill.{ZeroTest}
+use Rattle.code.specs.Sharing.{ZeroTest}
 use Rattle.code.proofs.FillLaws.{fills-found, fills-none}
 use mathlib.Core.Path.{_∙_, ap, sym}
 use lib.ListN.{length}
-use Rattle.codeword.proofs.Masks.{marks}
+use Rattle.codeword.specs.Erasure.{marks}
 use Rattle.codeword.proofs.Erasure.{length-erase}
 use borrow.Author.Needs.{needs}
 use Rattle.code.proofs.filling.fill_shared.Statement.{statement}

@@ -6,8 +6,7 @@ use native.Mathlib.Omega.{arith}
 use borrow.Author.Needs.{needs}
 use lib.ListN.{length, getD}
 use Rattle.code.proofs.LoopLaws.{Upto, upto-start, upto-more, upto-end}
-use Rattle.codeword.specs.Erasure.{erase}
-use Rattle.codeword.proofs.Masks.{marks}
+use Rattle.codeword.specs.Erasure.{erase, marks}
 use Rattle.code.proofs.MaskLaws.{erase-at}
 use Rattle.codeword.proofs.Erasure.{length-erase}
 use Rattle.code.proofs.masks.clear.Statement.{statement}

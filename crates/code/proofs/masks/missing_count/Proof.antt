@@ -8,8 +8,7 @@ use borrow.Author.Needs.{needs}
 use lib.ListN.{length, drop}
 use Rattle.code.proofs.MaskLaws.{count-marked, count-unmarked, count-end}
 use mathlib.Core.Logic.{⊎-elim}
-use Rattle.codeword.proofs.Masks.{marks}
-use Rattle.codeword.specs.Erasure.{count}
+use Rattle.codeword.specs.Erasure.{marks, count}
 use Rattle.code.proofs.masks.missing_count.Statement.{statement}
 use Rattle.code.proofs.masks.missing_count.Tie as tie
 

@@ -1,0 +1,290 @@
+/* Measures the block calls of libcard.a beside libfec's Reed-Solomon code on the same packet; bench/run makes and runs it. */
+#include <fec.h>
+#include <stdint.h>
+#include <stdio.h>
+#include <stdlib.h>
+#include <string.h>
+#include <sys/utsname.h>
+#include <time.h>
+
+#include "bailhammer.h"
+
+enum {
+    PACKET = 8192,      /* bytes of the packet */
+    K = 205,            /* data bytes of a chunk */
+    PARITY = 48,        /* parity bytes of a chunk */
+    N = K + PARITY,
+    C = 40,             /* chunks */
+    BLOCK = C * N,      /* bytes of the block */
+    F = 16,             /* fragments */
+    S = 633,            /* bytes of a fragment: F * S is the least multiple of F from BLOCK on */
+    FULL = 255,         /* bytes of a word of the code before it is shortened */
+    DATA = FULL - PARITY,
+    JUNK = 0x55,        /* stands in a missing cell */
+    ROUNDS = 15,
+    OURS = 20,          /* packets that libcard.a does in a round */
+    THEIRS = 4,         /* packets that libfec does in a round */
+};
+
+static void *rs;                        /* libfec's code */
+static uint8_t packet[PACKET];
+static uint8_t block[BLOCK];            /* the packet's block, by libcard.a */
+static uint8_t words[C][FULL];          /* the same as full words, by libfec: data, DATA - K zeros, parity */
+
+static uint8_t kept[F];                 /* 1 for each fragment kept */
+static uint8_t holed_block[BLOCK];      /* the block with JUNK in its missing cells */
+static uint8_t holed_words[C][FULL];
+static int holes[C][PARITY];            /* the places of the missing bytes in each full word */
+static int hole_count[C];
+
+static uint8_t our_block[BLOCK];        /* what the calls measured work on */
+static uint8_t their_words[C][FULL];
+static int their_holes[C][PARITY];
+static size_t our_answer;
+
+static void fail(const char *what)
+{
+    printf("bench: %s\n", what);
+    exit(1);
+}
+
+/* ---- the settings */
+
+/* A packet of bytes that are the same in each run. */
+static void make_packet(void)
+{
+    uint32_t x = 1;
+    for (int i = 0; i < PACKET; i++) {
+        x = x * 1664525u + 1013904223u;
+        packet[i] = x >> 24;
+    }
+}
+
+/* The packet's data in full words, and zeros for all else. */
+static void lay_words(void)
+{
+    memset(words, 0, sizeof words);
+    for (int i = 0; i < PACKET; i++)
+        words[i / K][i % K] = packet[i];
+}
+
+/* The place in a full word of byte q of a chunk: the parity stands behind the zeros that a shortened word leaves out. */
+static int place_of(int q)
+{
+    return q < K ? q : q + DATA - K;
+}
+
+/* Loses up to three fragments, 5 apart: a chunk is 16 turns of the F fragments but for 3 cells in a row, so it has 16 cells of each
+ * fragment lost, or one fewer of one of them. */
+static void lose(int lost)
+{
+    memset(kept, 1, sizeof kept);
+    for (int i = 0; i < lost; i++)
+        kept[5 * i] = 0;
+}
+
+/* Marks byte q of chunk j as missing. */
+static void make_hole(int j, int q)
+{
+    holed_block[j * N + q] = JUNK;
+    holed_words[j][place_of(q)] = 0;
+    holes[j][hole_count[j]++] = place_of(q);
+}
+
+/* The block and the words without the cells of the fragments lost. */
+static void make_holes(void)
+{
+    memcpy(holed_block, block, sizeof block);
+    memcpy(holed_words, words, sizeof words);
+    memset(hole_count, 0, sizeof hole_count);
+    for (int q = 0; q < BLOCK; q++)
+        if (!kept[q % F])
+            make_hole(q / N, q % N);
+}
+
+static int most_holes(void)
+{
+    int most = 0;
+    for (int j = 0; j < C; j++)
+        if (most < hole_count[j])
+            most = hole_count[j];
+    return most;
+}
+
+/* ---- the calls measured, and what is laid out for each before its time starts */
+
+static void before_our_encode(void)
+{
+    memset(our_block, JUNK, sizeof our_block);
+}
+
+static void our_encode(void)
+{
+    our_answer = bailhammer_encode(packet, PACKET, K, C, our_block, BLOCK);
+}
+
+static void before_their_encode(void)
+{
+    memcpy(their_words, words, sizeof words);
+    for (int j = 0; j < C; j++)
+        memset(their_words[j] + DATA, JUNK, PARITY);
+}
+
+static void their_encode(void)
+{
+    for (int j = 0; j < C; j++)
+        encode_rs_char(rs, their_words[j], their_words[j] + DATA);
+}
+
+static void before_our_fill(void)
+{
+    memcpy(our_block, holed_block, sizeof our_block);
+}
+
+static void our_fill(void)
+{
+    our_answer = bailhammer_fill(kept, F, F, S, K, our_block, BLOCK);
+}
+
+static void before_their_fill(void)
+{
+    memcpy(their_words, holed_words, sizeof their_words);
+    memcpy(their_holes, holes, sizeof their_holes);
+}
+
+static void their_fill(void)
+{
+    for (int j = 0; j < C; j++)
+        decode_rs_char(rs, their_words[j], their_holes[j], hole_count[j]);
+}
+
+/* ---- the comparison of the results */
+
+/* Whether a block and full words have the same bytes, and the words their zeros. */
+static int agree(uint8_t b[BLOCK], uint8_t w[C][FULL])
+{
+    static const uint8_t zeros[DATA - K];
+    for (int j = 0; j < C; j++)
+        if (memcmp(b + j * N, w[j], K) || memcmp(w[j] + K, zeros, DATA - K) || memcmp(b + j * N + K, w[j] + DATA, PARITY))
+            return 0;
+    return 1;
+}
+
+/* Encodes by both, and keeps the block and the words. */
+static void compare_encode(void)
+{
+    before_our_encode();
+    our_encode();
+    before_their_encode();
+    their_encode();
+    if (our_answer != 0)
+        fail("bailhammer_encode refuses the packet");
+    if (!agree(our_block, their_words))
+        fail("encode: bailhammer and libfec differ");
+    memcpy(block, our_block, sizeof block);
+    memcpy(words, their_words, sizeof words);
+}
+
+/* Loses fragments, and fills in by both. */
+static void compare_fill(int lost)
+{
+    lose(lost);
+    make_holes();
+    before_our_fill();
+    our_fill();
+    before_their_fill();
+    their_fill();
+    if (our_answer != 0)
+        fail("bailhammer_fill refuses the block");
+    if (memcmp(our_block, block, sizeof block))
+        fail("fill: bailhammer's block is not the original");
+    if (memcmp(their_words, words, sizeof words))
+        fail("fill: libfec's words are not the original");
+}
+
+/* ---- the times */
+
+/* The process's CPU time in ns. */
+static double now(void)
+{
+    struct timespec t;
+    clock_gettime(CLOCK_PROCESS_CPUTIME_ID, &t);
+    return t.tv_sec * 1e9 + t.tv_nsec;
+}
+
+/* A call, and what is to be done before each of its turns. */
+struct side {
+    int times;
+    void (*before)(void);
+    void (*call)(void);
+};
+
+/* The mean time of a turn. */
+static double mean(struct side s)
+{
+    double sum = 0;
+    for (int i = 0; i < s.times; i++) {
+        s.before();
+        double start = now();
+        s.call();
+        sum += now() - start;
+    }
+    return sum / s.times;
+}
+
+static double less(double a, double b)
+{
+    return a < b ? a : b;
+}
+
+/* The best mean of each side, the two in turn, as one line. */
+static void measure(const char *what, struct side ours, struct side theirs)
+{
+    double our_best = 1e18, their_best = 1e18;
+    for (int i = 0; i < ROUNDS; i++) {
+        our_best = less(our_best, mean(ours));
+        their_best = less(their_best, mean(theirs));
+    }
+    printf("%s: bailhammer %.0f ns, libfec %.0f ns, ratio %.1f\n", what, our_best, their_best, their_best / our_best);
+}
+
+static void measure_encode(void)
+{
+    char what[64];
+    snprintf(what, sizeof what, "encode %d chunks k %d", C, K);
+    measure(what, (struct side){OURS, before_our_encode, our_encode}, (struct side){THEIRS, before_their_encode, their_encode});
+}
+
+static void measure_fill(int lost)
+{
+    lose(lost);
+    make_holes();
+    char what[64];
+    snprintf(what, sizeof what, "fill %d missing, %d chunks k %d", most_holes(), C, K);
+    measure(what, (struct side){OURS, before_our_fill, our_fill}, (struct side){THEIRS, before_their_fill, their_fill});
+}
+
+static void print_method(void)
+{
+    struct utsname u;
+    uname(&u);
+    printf("%s: ns a packet, process CPU time, best of %d rounds, both interleaved in each round, libfec's words laid out before\n", u.machine, ROUNDS);
+}
+
+int main(void)
+{
+    rs = init_rs_char(8, 0x11d, 1, 1, PARITY, 0);
+    if (!rs)
+        fail("libfec makes no code");
+    make_packet();
+    lay_words();
+    print_method();
+    compare_encode();
+    compare_fill(3);
+    compare_fill(1);
+    measure_encode();
+    measure_fill(3);
+    measure_fill(1);
+    free_rs_char(rs);
+    return 0;
+}

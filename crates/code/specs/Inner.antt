@@ -1,0 +1,35 @@
+-- What the private functions between the calls and the chunks hold.
+use mathlib.Core.Path.{_≡_}
+use mathlib.Core.Bool.{Bool, true, false}
+use mathlib.Core.List.{List}
+use Prim.Native.Nat.{ℕ, _+_, _*_, _/_, _≤_, _<_}
+use lib.ListN.{length}
+use Rattle.base.specs.Bounds.{place, parity}
+use Rattle.cut.specs.Missing.{suffice}
+use Rattle.weave.specs.Calls.{badCount, tooMuch, badChunk, notKept}
+use Rattle.code.specs.declared.Answer.{Answer}
+use Rattle.code.specs.declared.Answer.the-variants as answers
+use Rattle.code.specs.declared.Filled.{Filled}
+use Rattle.code.specs.declared.Filled.the-variants.{Done, Nothing, NotEnough}
+
+-- the call's answer for a chunk's
+abbrev pub filledOf : Answer → Filled
+filledOf answers.Found = Done
+filledOf answers.Nothing = Nothing
+filledOf answers.NotEnough = NotEnough
+
+-- sound figures, and whether the fragments kept suffice (document 01, "The four places")
+pub record Standing (kept : List Bool) (f s k : ℕ) (enough : Bool) : Type 0 where
+  pub counted : badCount f ≡ false
+  pub placed : tooMuch f s ≡ false
+  pub sound : badChunk f s k ≡ false
+  pub told : suffice (notKept kept) f (k + parity) (f * s / (k + parity)) ≡ enough
+
+-- a block of c chunks, for which the fragments kept suffice (document 01, "The four places")
+pub record Holds (kept : List Bool) (f k c : ℕ) (block : List ℕ) : Type 0 where
+  pub some : 0 < f
+  pub most : f ≤ 256
+  pub short : k ≤ 207
+  pub within : c * (k + 48) ≤ place
+  pub chunks : length block ≡ c * (k + 48)
+  pub enough : suffice (notKept kept) f (k + 48) c ≡ true

@@ -1,0 +1,40 @@
+-- What the private functions that fill a chunk hold, and what the chunks that miss the same places share.
+use mathlib.Core.Path.{_≡_}
+use mathlib.Core.Bool.{Bool, true, false}
+use mathlib.Core.List.{List}
+use Prim.Native.Nat.{ℕ, _+_, _≤_, _<_}
+use lib.ListN.{length, replicate}
+use Rattle.base.specs.Bytes.{Bytes}
+use Rattle.codeword.specs.Code.{Codeword, full}
+use Rattle.codeword.specs.Erasure.{marks, erase, count}
+use Rattle.codeword.proofs.Erasure.{locators}
+use Rattle.code.specs.Kernel.{remainder, Made, Multiples, rootsList}
+use Rattle.code.specs.Filling.{Pattern}
+
+-- the locators of the missing places
+unfoldable pub locs : ℕ → List ℕ → List ℕ
+locs k mask = locators (full Bool.false k (marks mask))
+
+pub record Left (k : ℕ) (c r : List ℕ) : Type 0 where
+  pub rest : r ≡ remainder k c
+  pub bytes : Bytes c
+
+-- the missing bytes of c, which are 0, are put in: rightly, if any chunk of the code agrees
+pub record Guessed (k : ℕ) (mask c after : List ℕ) : Type 0 where
+  pub size : length after ≡ length c
+  pub keeps : erase (marks mask) after ≡ erase (marks mask) c
+  pub right : (w : List ℕ) → length w ≡ k + 48 → Bytes w → Codeword (full 0 k w) → erase (marks mask) w ≡ c → after ≡ w
+
+abbrev pub ZeroTest : List ℕ → Bool → Type 0
+ZeroTest r true = r ≡ replicate 48 0
+ZeroTest r false = r ≡ replicate 48 0 → ⊥
+
+-- what the chunks that miss the same places share
+pub record Shared (t rk q sc mask : List ℕ) (e k : ℕ) : Type 0 where
+  pub short : k ≤ 207
+  pub masked : length mask ≡ k + 48
+  pub few : e ≤ 48
+  pub counted : e ≡ count (marks mask)
+  pub table : Made t 12288
+  pub roots : Multiples rootsList rk
+  pub found : Pattern (locs k mask) q sc
