@@ -29,8 +29,8 @@ ROWS = rows()
 
 
 def chunk(k):
-    """The last row with k data bytes, as a chunk: the one that has the least regular bytes. Where no row has k, it is made of a shorter one:
-    the parity is computed with zeros between data and parity (clause 7.3.1), so zeros behind the data leave it as it is."""
+    """A chunk with k data bytes: of the last row that has k, which is the least regular one. Where no row has k, of a shorter one: the parity
+    is computed with zeros between data and parity (clause 7.3.1), so zeros behind the data leave it as it is."""
     data, parity = [row for row in ROWS if len(row[0]) <= k][-1]
     return data + bytes(k - len(data)) + parity
 
