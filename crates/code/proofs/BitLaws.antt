@@ -1,15 +1,14 @@
--- A product by the bits of one factor, with the doubles of the other at hand.
--- Assumes nothing.
+-- A product by the bits of one factor, with the doubles of the other at hand. Assumes nothing.
 use mathlib.Core.Path.{_≡_, refl, sym, ap, ap₂, _∙_}
 use mathlib.Core.Bool.{cond}
 use Prim.Native.Nat.{ℕ, zero, suc, _+_, _-_, _*_, _/_, _%_, _<_}
 use native.Mathlib.Nat.{zero-mul, one-mul, mod-eq-of-lt}
 use native.Mathlib.Omega.{arith}
 use lib.Dec.{T, eqb, eqb→eq, ltb}
+use Rattle.base.proofs.Every.{below, at}
 use Rattle.field.specs.Field.{_⊕_, times2, mulBits, _⊗_}
 use Rattle.field.proofs.Sums.{bit, bit-ind, add-0-r, add-self}
 use Rattle.field.proofs.Products.{times2-add}
-use Rattle.base.proofs.Every.{below, at}
 use Rattle.code.specs.Kernel.{Chain}
 
 twice-test : T (below 256 (λ x. eqb (times2 x) (cond (ltb x 128) (x + x) ((x - 128 + (x - 128)) ⊕ 29))))

@@ -1,13 +1,13 @@
 -- The calls: what their tests tell, and which answer is which case. Assumes nothing.
 use mathlib.Core.Path.{_≡_, refl, sym, ap, ap₂, _∙_, subst}
 use mathlib.Core.Bool.{Bool, true, false, not, _||_}
-use mathlib.Core.List.{List, [], _∷_, _++_}
+use mathlib.Core.List.{List, [], _∷_, _++_, append-nil}
 use Prim.Native.Nat.{ℕ, zero, suc, _+_, _-_, _*_, _≤_, _<_}
 use native.Mathlib.Nat.{pos-of-ne-zero, zero-mul, suc-mul, add-comm}
 use native.Mathlib.Omega.{arith}
 use borrow.Author.Tests.{ltb-false, eqb-false, lt-ltb, le-ltb}
-use lib.Dec.{ltb, leb, eqb, lit<, eqb→eq}
-use lib.ListN.{length, take, drop, replicate, length-append, length-replicate, length-drop, take-append-drop, replicate-append-replicate}
+use lib.Dec.{ltb, eqb, lit<, eqb→eq}
+use lib.ListN.{length, take, drop, replicate, length-replicate, length-drop, take-append-drop, replicate-append-replicate, drop-of-length-le, length-append}
 use lib.Seq.{length-take-le, take-at, drop-at, take-append-add, drop-drop}
 use Rattle.base.specs.Answer.{granted, refused, Outcome, outcome, settled}
 use Rattle.base.specs.Bounds.{most-k, place, parity}
@@ -19,13 +19,13 @@ use Rattle.base.specs.declared.Written.the-variants as written
 use Rattle.base.proofs.Answers.{writes, leaves, put-done}
 use Rattle.base.proofs.Firsts.{due, skip, none-due, clear}
 use Rattle.base.proofs.Logic.{or-left, or-right}
+use Rattle.base.proofs.Splice.{splice-next}
 use Rattle.cut.specs.Block.{padded, wordOf, blockOf}
 use Rattle.cut.proofs.Blocks.{length-block, length-padded}
 use Rattle.code.specs.Words.{encode}
-use Rattle.codeword.specs.Erasure.{marks, count, erase}
 use Rattle.codeword.proofs.Encoder.{length-run}
 use Rattle.code.specs.Block.{part, Encoded}
-use Rattle.code.specs.Fill.{Agrees, Fills}
+use Rattle.code.specs.Fill.{Fills}
 use Rattle.codeword.specs.Code.{parityOf}
 use Rattle.code.specs.Calls.{badSize, parityFault, parityCall, overPlace, misfits, encodeFault, encodeCall, badPair, chunkFault, ChunkFilled}
 use Rattle.code.specs.Inner.{filledOf}
@@ -88,6 +88,21 @@ zeros-behind packet m h =
     let e : 0 + length packet ≡ length packet = omega arith in
     ap (λ (l : List ℕ). packet ++ l) (ap (λ (n : ℕ). drop n (replicate m 0)) e ∙ zeros-rest (length packet) m h)
 
+-- what is put where there is room
+pub put-is : (d s y : List ℕ) (at : ℕ) (r : Written) → at + length s ≤ length d → outcome (numberOf r) y ≡ putOf d at s → y ≡ splice d at s
+put-is d s y at r h e =
+    let done : outcome (numberOf written.Done) (splice d at s) ≡ putOf d at s = put-done d s at _ h refl in
+    cc
+
+-- a chunk and its parity put into as many bytes
+pub encode-put : (out d p x y : List ℕ) → length out ≡ length d + 48 → length p ≡ 48 → p ≡ Rattle.code.specs.Words.parity (length d) d
+    → x ≡ splice out 0 d → y ≡ splice x (length d) p → y ≡ encode (length d) d
+unfolding encode splice
+encode-put out d p x y lo lp ep ex ey =
+    let whole : length out ≤ 0 + length (d ++ p) = omega (arith, length-append d p) in
+    ey ∙ ap (λ (l : List ℕ). splice l (length d) p) ex ∙ splice-next out d p (length d) refl
+    ∙ ap (λ (l : List ℕ). (d ++ p) ++ l) (drop-of-length-le out whole) ∙ append-nil (d ++ p) ∙ ap (λ (l : List ℕ). d ++ l) ep
+
 -- a packet laid down in zeros
 pub pad-put : (packet w : List ℕ) (r : Written) → length packet ≤ place → outcome (numberOf r) w ≡ putOf (replicate 12288 0) 0 packet
     → w ≡ padded packet (place - length packet)
@@ -95,8 +110,7 @@ unfolding padded
 pad-put packet w r h e =
     let zeros : List ℕ = replicate 12288 0 in
     let fits : 0 + length packet ≤ length zeros = omega (arith, length-replicate {A = ℕ} 12288 0) in
-    let done : outcome (numberOf written.Done) (splice zeros 0 packet) ≡ putOf zeros 0 packet = put-done zeros packet 0 _ fits refl in
-    let same : w ≡ splice zeros 0 packet = cc in
+    let same : w ≡ splice zeros 0 packet = put-is zeros packet w 0 r fits e in
     same ∙ zeros-behind packet 12288 h
 
 pub pad-take : (packet : List ℕ) (n m : ℕ) → length packet ≤ n → n ≤ m → take n (padded packet (m - length packet)) ≡ padded packet (n - length packet)

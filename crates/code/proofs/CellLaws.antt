@@ -14,7 +14,7 @@ use lib.Seq.{ext-getD, length-take-le, take-append-le, drop-append-le, drop-at}
 use Rattle.base.specs.Bounds.{parity}
 use Rattle.base.specs.Table.{table}
 use Rattle.base.specs.Tests.{first}
-use Rattle.base.specs.Answer.{Answer, granted, refused, answered}
+use Rattle.base.specs.Answer.{granted, refused, answered}
 use Rattle.base.proofs.Firsts.{due, skip, none-due, clear, clear-rest}
 use Rattle.base.proofs.Logic.{clash}
 use Rattle.base.proofs.Tables.{length-table, at-table}
@@ -27,9 +27,8 @@ use Rattle.codeword.specs.Erasure.{marks, erase, count}
 use Rattle.codeword.proofs.Erasure.{length-erase}
 use Rattle.code.specs.Fill.{Agrees}
 use Rattle.code.specs.Block.{part, Status, Filling, SomeLeft, Ready, Unmended, Mended}
-use Rattle.code.specs.Calls.{lostCells, fillFault, BlockDone, BlockNothing, BlockFilled}
+use Rattle.code.specs.Calls.{lostCells, fillFault, BlockFilled}
 use Rattle.code.specs.Inner.{Standing, Holds}
-use Rattle.code.specs.declared.Filled.{Filled}
 use Rattle.code.specs.declared.Filled.the-variants.{Done, Nothing, NotEnough, Refused}
 use Rattle.code.proofs.FillLaws.{erase-twice}
 use Rattle.code.proofs.MaskLaws.{erase-at, length-marks}

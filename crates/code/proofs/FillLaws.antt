@@ -1,11 +1,11 @@
--- The missing bytes that are put in are those of the chunk of the code that agrees, if there is one.
--- Assumes nothing.
+-- The missing bytes that are put in are those of the chunk of the code that agrees, if there is one. Assumes nothing.
 use mathlib.Core.Path.{_≡_, refl, sym, ap, ap₂, _∙_}
 use mathlib.Core.Bool.{Bool, true, false}
 use mathlib.Core.List.{List, [], _∷_, _++_}
 use Prim.Native.Nat.{ℕ, zero, suc, _+_, _-_, _≤_, _<_}
 use native.Mathlib.Nat.{suc-inj, suc-ne-zero, not-suc-le-zero}
 use native.Mathlib.Omega.{arith}
+use native.Mathlib.Decide.{ℕ-discrete}
 use lib.ListN.{length, take, drop, getD, replicate, length-append, length-replicate, take-append-drop}
 use lib.Seq.{length-take-le, ext-getD, getD-take, drop-at}
 use Rattle.field.specs.Field.{_⊕_, _⊗_, alpha}
@@ -14,23 +14,18 @@ use Rattle.codeword.specs.Code.{value, Codeword, full}
 use Rattle.base.specs.Bytes.{Bytes}
 use Rattle.code.specs.Words.{parity, encode}
 use Rattle.codeword.specs.Erasure.{marks, erase, count}
-use Rattle.codeword.proofs.Erasure.{missing, fill, locators, syndromes}
+use Rattle.codeword.proofs.Erasure.{missing, fill, locators, syndromes, bytes-locators, positive-locators, distinct-locators, length-missing, bytes-missing, fill-missing, length-erase, syndromes-right}
 use Rattle.codeword.proofs.Poly.{value-zeros}
-use Rattle.code.proofs.WordLaws.{encode-codeword, length-encode}
-use Rattle.codeword.proofs.Erasure.{bytes-locators, positive-locators, distinct-locators, length-missing, bytes-missing, fill-missing, length-erase, syndromes-right}
+use Rattle.code.proofs.WordLaws.{encode-codeword, length-encode, bytes-encode}
 use Rattle.base.proofs.ByteLaws.{bytes-take}
 use Rattle.codeword.proofs.Chunk.{bytes-full, erase-append, erase-none, erase-full, length-full, length-locators, count-append, count-none, count-full, one-chunk}
-use Rattle.code.proofs.WordLaws.{bytes-encode}
-use Rattle.code.proofs.MaskLaws.{length-marks}
 use Rattle.codeword.specs.Locators.{sumAt}
 use Rattle.codeword.proofs.Vandermonde.{getD-table}
 use Rattle.code.specs.Kernel.{sumOf, remainder, lane}
 use Rattle.code.specs.Filling.{mix, colOf, mixed, Pattern}
-use Rattle.code.specs.Fill.{Agrees, Fills}
+use Rattle.code.specs.Fill.{Agrees}
 use Rattle.code.specs.Sharing.{locs, Left, Guessed, Shared}
-use Rattle.code.specs.declared.Answer.{Answer}
-use Rattle.code.specs.declared.Answer.the-variants.{Found, Nothing, NotEnough}
-use native.Mathlib.Decide.{ℕ-discrete}
+use Rattle.code.proofs.MaskLaws.{length-marks}
 use Rattle.codeword.proofs.Masks.{marks-full}
 use Rattle.code.proofs.RowLaws.{zeros-at}
 use Rattle.code.proofs.LaneLaws.{lane-at, length-lane, remainder-value, remainder-syndromes, parity-size, drop-size}

@@ -1,5 +1,4 @@
--- Lists of 48 lanes, the data in their places, the remainder of a chunk.
--- Assumes nothing.
+-- Lists of 48 lanes, the data in their places, the remainder of a chunk. Assumes nothing.
 use mathlib.Core.Path.{_≡_, refl, sym, ap, ap₂, _∙_, subst}
 use mathlib.Core.List.{List, [], _∷_, _++_, append-assoc}
 use Prim.Native.Nat.{ℕ, zero, suc, _+_, _-_, _≤_, _<_, suc-le-suc}
@@ -7,26 +6,25 @@ use native.Mathlib.Nat.{suc-inj, suc-ne-zero, not-suc-le-zero, le-of-suc-le-suc,
 use native.Mathlib.Numerals.{add-one}
 use native.Mathlib.Decide.{ℕ-discrete}
 use native.Mathlib.Omega.{arith}
-use mir.Val.{Fits}
-use mir.Syntax.{w8}
 use lib.ListN.{length, take, drop, getD, set, replicate, length-append, length-replicate, length-drop, length-set, getD-replicate}
 use lib.Seq.{ext-getD, getD-set-same, getD-set-other, take-all}
 use Rattle.field.specs.Field.{_⊕_, _⊗_, times2, alpha}
-use Rattle.field.proofs.Sums.{sums, add-0-l, add-self, add-swap}
+use Rattle.field.proofs.Sums.{add-0-l, add-self, add-swap}
 use Rattle.field.proofs.Products.{mul-0-l}
 use Rattle.field.proofs.Powers.{alpha-lt}
 use Rattle.codeword.specs.Code.{horner, value, step, run, full}
-use Rattle.code.specs.Words.{parity}
+use Rattle.code.specs.Words.{parity, table}
 use Rattle.base.specs.Bytes.{Bytes}
 use Rattle.base.specs.Table as tables
-use Rattle.code.specs.Words.{table}
 use Rattle.codeword.proofs.Erasure.{syndromes}
 use Rattle.codeword.proofs.Poly.{raise, raise-add, raise-0, value-cons, value-nil, value-append, value-zeros}
 use Rattle.codeword.proofs.Encoder.{length-run, value-run, generator-root}
 use Rattle.codeword.proofs.Vandermonde.{getD-table}
 use Rattle.code.proofs.WordLaws.{length-table}
-use Rattle.code.proofs.LoopLaws.{Upto, step-at, length-step, padded-at, horner-take}
 use Rattle.code.specs.Kernel.{laid, sumOf, remainder, Doubles, Multiples, Chain, lane, rootsList}
+use mir.Val.{Fits}
+use mir.Syntax.{w8}
+use Rattle.code.proofs.LoopLaws.{Upto, step-at, length-step, padded-at, horner-take}
 use Rattle.code.proofs.RowLaws.{past-end, zeros-at}
 
 -- ---- tables
@@ -112,10 +110,6 @@ module _ (k : ℕ) (c : List ℕ) (h : k ≤ 207) (e : length c ≡ k + 48) wher
 
   pub drop-size : length (drop k c) ≡ 48
   drop-size = omega (arith, length-drop k c)
-
-  pub length-remainder : length (remainder k c) ≡ 48
-  unfolding remainder
-  length-remainder = length-sumOf (parity k (take k c)) (drop k c) (parity-size ∙ sym drop-size) ∙ parity-size
 
   pub remainder-value : (j : ℕ) → j < 48 → value (alpha (suc j)) (remainder k c) ≡ value (alpha (suc j)) (full 0 k c)
   unfolding remainder full parity value

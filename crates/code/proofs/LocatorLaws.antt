@@ -1,5 +1,4 @@
--- The locator polynomial: what it is divided by z + x picks one value out of the syndromes.
--- Assumes nothing.
+-- The locator polynomial: what it is divided by z + x picks one value out of the syndromes. Assumes nothing.
 use mathlib.Core.Path.{_≡_, refl, sym, ap, ap₂, _∙_, subst}
 use mathlib.Core.List.{List, [], _∷_, _++_}
 use Prim.Native.Nat.{ℕ, zero, suc, _+_, _-_, _<_, suc-le-suc}
@@ -16,9 +15,8 @@ use Rattle.field.proofs.Powers.{pow-s, mul-div, mul-zero, mul-pos}
 use Rattle.codeword.specs.Code.{horner, value, plus, timesRoot}
 use Rattle.base.specs.Bytes.{Bytes}
 use Rattle.codeword.proofs.Poly.{raise-pow, value-cons, value-nil, length-plus}
-use Rattle.codeword.proofs.Encoder.{value-root, length-snoc}
+use Rattle.codeword.proofs.Encoder.{value-root, length-snoc, bytes-plus}
 use Rattle.base.proofs.ByteLaws.{bytes-take, bytes-append}
-use Rattle.codeword.proofs.Encoder.{bytes-plus}
 use Rattle.codeword.specs.Locators.{Apart, Distinct, Positive, sumAt}
 use Rattle.codeword.proofs.Vandermonde.{apart-pos}
 use Rattle.code.specs.Filling.{rootsTimes, locatorOf, prefixes, column, mix}

@@ -1,24 +1,19 @@
--- What the loops' invariants say, and how one more turn goes.
--- Assumes nothing.
-use mathlib.Core.Path.{_≡_, refl, sym, ap, ap₂, _∙_, subst}
-use mathlib.Core.List.{List, [], _∷_, _++_, append-nil}
+-- What the loops' invariants say, and how one more turn goes. Assumes nothing.
+use mathlib.Core.Path.{_≡_, refl, sym, ap, _∙_, subst}
+use mathlib.Core.List.{List, [], _∷_, _++_}
 use Prim.Native.Nat.{ℕ, zero, suc, _+_, _-_, _≤_, _<_}
-use native.Mathlib.Nat.{suc-inj, suc-ne-zero, not-suc-le-zero, le-of-suc-le-suc}
+use native.Mathlib.Nat.{suc-inj, suc-ne-zero, not-suc-le-zero}
 use native.Mathlib.Decide.{ℕ-discrete}
 use native.Mathlib.Numerals.{add-one}
 use native.Mathlib.Omega.{arith}
-use lib.ListN.{length, take, drop, getD, set, replicate, length-set, length-append, length-replicate, length-drop, drop-of-length-le}
-use lib.Seq.{take-suc, take-all, getD-set-same, getD-set-other, ext-getD}
-use Rattle.field.specs.Field.{_⊕_, _⊗_, alpha, inv}
-use Rattle.field.proofs.Sums.{add-0-l, add-0-r, add-assoc}
+use lib.ListN.{length, take, getD, set, replicate, length-set, length-append}
+use lib.Seq.{take-suc, getD-set-same, getD-set-other, ext-getD}
+use Rattle.field.specs.Field.{_⊕_, _⊗_}
+use Rattle.field.proofs.Sums.{add-0-l}
 use Rattle.field.proofs.Products.{mul-0-r}
-use Rattle.codeword.specs.Code.{horner, value, plus, generator, step, run}
-use Rattle.code.specs.Words.{parity}
-use Rattle.codeword.proofs.Erasure.{syndromes}
+use Rattle.codeword.specs.Code.{horner, plus, generator, step}
 use Rattle.codeword.proofs.Poly.{horner-append, length-plus}
 use Rattle.codeword.proofs.Encoder.{length-generator}
-use Rattle.codeword.proofs.Vandermonde.{getD-table}
-use Rattle.code.proofs.WordLaws.{length-table}
 
 -- ---- a list made in place: goal below i, and as it was from i on
 
@@ -85,15 +80,6 @@ unfolding horner
 horner-take x h w i l =
     ap (λ n. horner x h (take n w)) (add-one i) ∙ ap (horner x h) (take-suc w i 0 l) ∙ horner-append x h (take i w) (getD w i 0 ∷ [])
 
-pub value-all : (x : ℕ) (w : List ℕ) (i : ℕ) → length w ≤ i → horner x 0 (take i w) ≡ value x w
-unfolding value
-value-all x w i l = ap (horner x 0) (take-all i w l)
-
-pub run-snoc : (s l : List ℕ) (b : ℕ) → run s (l ++ (b ∷ [])) ≡ step (run s l) b
-unfolding run
-run-snoc s [] b = refl
-run-snoc s (c ∷ l) b = run-snoc (step s c) l b
-
 -- 0 past the end is 0 in the padding
 pub padded-at : (d : List ℕ) (n i : ℕ) → getD (d ++ replicate n 0) i 0 ≡ getD d i 0
 padded-at [] zero i = refl
@@ -101,34 +87,3 @@ padded-at [] (suc n) zero = refl
 padded-at [] (suc n) (suc i) = padded-at [] n i
 padded-at (x ∷ d) n zero = refl
 padded-at (x ∷ d) n (suc i) = padded-at d n i
-
-pub padded : List ℕ → List ℕ
-padded d = d ++ replicate (207 - length d) 0
-
-pub length-padded : (d : List ℕ) → length d ≤ 207 → length (padded d) ≡ 207
-unfolding padded
-length-padded d h = omega (arith, length-append d (replicate (207 - length d) 0), length-replicate {A = ℕ} (207 - length d) 0)
-
-pub run-take : (d : List ℕ) (i : ℕ) → length d ≤ 207 → i < 207
-    → run (replicate 48 0) (take (i + 1) (padded d)) ≡ step (run (replicate 48 0) (take i (padded d))) (getD d i 0)
-unfolding padded
-run-take d i h l =
-    ap (λ n. run (replicate 48 0) (take n (padded d))) (add-one i)
-    ∙ ap (run (replicate 48 0)) (take-suc (padded d) i 0 (omega (arith, length-padded d h)))
-    ∙ run-snoc (replicate 48 0) (take i (padded d)) (getD (padded d) i 0) ∙ ap (step (run (replicate 48 0) (take i (padded d)))) (padded-at d (207 - length d) i)
-
-pub run-all : (d : List ℕ) (i : ℕ) → length d ≤ 207 → 207 ≤ i → run (replicate 48 0) (take i (padded d)) ≡ parity (length d) d
-unfolding padded parity
-run-all d i h l = ap (run (replicate 48 0)) (take-all i (padded d) (omega (arith, length-padded d h)))
-
-pub run-none : (d : List ℕ) → replicate 48 0 ≡ run (replicate 48 0) (take 0 (padded d))
-unfolding run
-run-none d = refl
-
-pub syndromes-at : (w : List ℕ) (j : ℕ) → j < 48 → getD (syndromes w) j 0 ≡ value (alpha (j + 1)) w
-unfolding syndromes
-syndromes-at w j h = getD-table 48 (λ j. value (alpha (suc j)) w) j h ∙ ap (λ n. value (alpha n) w) (sym (add-one j))
-
-pub length-syndromes : (w : List ℕ) → length (syndromes w) ≡ 48
-unfolding syndromes
-length-syndromes w = length-table 48 (λ j. value (alpha (suc j)) w)

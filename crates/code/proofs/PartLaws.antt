@@ -1,20 +1,19 @@
--- The parts of a block.
--- Assumes nothing.
+-- The parts of a block. Assumes nothing.
 use mathlib.Core.Path.{_≡_, refl, sym, ap, _∙_, subst}
 use mathlib.Core.List.{List, _++_}
 use Prim.Native.Nat.{ℕ, zero, suc, _+_, _-_, _*_, _≤_, _<_}
-use native.Mathlib.Nat.{not-suc-le-zero, le-of-suc-le-suc, suc-mul, mul-le-mul}
-use borrow.Rule.Slice.PartMut.{putMid, post-is}
+use native.Mathlib.Nat.{not-suc-le-zero, le-of-suc-le-suc, suc-mul}
 use native.Mathlib.Decide.{ℕ-discrete, decLt}
 use native.Mathlib.Omega.{arith}
+use borrow.Rule.Slice.PartMut.{putMid, post-is}
 use lib.ListN.{length, take, drop, getD, set, length-append, length-drop, length-set, List·getD-append}
 use lib.Seq.{length-take-le, ext-getD, getD-take, getD-drop, getD-append-add, getD-set-same, getD-set-other}
+use Rattle.code.specs.Words.{encode}
+use Rattle.code.proofs.WordLaws.{length-encode}
 use Rattle.code.specs.Fill.{Fills}
 use Rattle.code.specs.declared.Answer.{Answer}
 use Rattle.code.specs.declared.Answer.the-variants.{Found, Nothing, NotEnough}
-use Rattle.code.specs.Block.{part, codeOf, Status, Open, Partly, Filling, Sized, Later, OneLater, AllDone, Ahead, Encoded, EncSized, OneEncoded}
-use Rattle.code.specs.Words.{encode, parity}
-use Rattle.code.proofs.WordLaws.{length-encode}
+use Rattle.code.specs.Block.{part, codeOf, Status, Open, Partly, Filling, Sized, Later, OneLater, AllDone, Encoded, EncSized, OneEncoded}
 
 -- the part j ends before the c parts do
 pub room : (n c j : ℕ) → j < c → j * n + n ≤ c * n
@@ -245,30 +244,6 @@ sized-open k mask blk ans ans' s o =
 
 -- ---- the sender
 
-pub ahead-start : (goal l : List ℕ) → Ahead goal 0 l
-unfolding Ahead
-ahead-start goal l i h = absurd (not-suc-le-zero h)
-
-pub ahead-more : (goal l : List ℕ) (n v : ℕ) → Ahead goal n l → n < length l → v ≡ getD goal n 0 → Ahead goal (n + 1) (set l n v)
-unfolding Ahead
-ahead-more goal l n v a h e i q = go (ℕ-discrete i n)
-  where
-    go : Dec (i ≡ n) → getD (set l n v) i 0 ≡ getD goal i 0
-    go (yes w) = subst (λ i. getD (set l n v) i 0 ≡ getD goal i 0) (sym w) (getD-set-same l n v 0 h ∙ e)
-    go (no w) = getD-set-other l n i v 0 w ∙ a i (omega arith)
-
-pub ahead-end : (goal l : List ℕ) (n : ℕ) → Ahead goal n l → length l ≤ n → length goal ≡ length l → l ≡ goal
-unfolding Ahead
-ahead-end goal l n a h e = ext-getD 0 l goal (sym e) (λ i q. a i (omega arith))
-
-pub encode-data : (k : ℕ) (d : List ℕ) (i : ℕ) → i < length d → getD (encode k d) i 0 ≡ getD d i 0
-unfolding encode
-encode-data k d i h = getD-left d (parity k d) i h
-
-pub encode-parity : (k : ℕ) (d : List ℕ) (i : ℕ) → getD (encode k d) (length d + i) 0 ≡ getD (parity k d) i 0
-unfolding encode
-encode-parity k d i = getD-append-add d (parity k d) i 0
-
 pub one-encoded : (k c j : ℕ) (src out new : List ℕ) → EncSized k c src out → j < c
     → new ≡ encode (length (take (j * k + k - j * k) (drop (j * k) src))) (take (j * k + k - j * k) (drop (j * k) src))
     → OneEncoded k c j src out (putMid (j * (k + 48)) (j * (k + 48) + (k + 48) - j * (k + 48)) out new)
@@ -294,6 +269,3 @@ encoded-more k c j src out out' h p o = record { each = λ i b. go i b (ℕ-disc
 
 pub encoded-start : (k : ℕ) (src out : List ℕ) → Encoded k 0 src out
 encoded-start k src out = record { each = λ i b. absurd (not-suc-le-zero b) }
-
-pub small : (c n : ℕ) → c ≤ 65536 → n ≤ 255 → c * n ≤ 16711680
-small c n hc hn = mul-le-mul hc hn

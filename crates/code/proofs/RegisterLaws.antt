@@ -1,5 +1,4 @@
--- The register is linear: eight bytes at once.
--- Assumes nothing.
+-- The register is linear: eight bytes at once. Assumes nothing.
 use mathlib.Core.Path.{_≡_, refl, sym, ap, ap₂, _∙_}
 use mathlib.Core.List.{List, [], _∷_, _++_}
 use Prim.Native.Nat.{ℕ, zero, suc, _+_, _-_, _*_, _≤_, _<_}
@@ -15,8 +14,8 @@ use Rattle.codeword.specs.Code.{generator, plus, step, run}
 use Rattle.code.specs.Words.{first}
 use Rattle.codeword.proofs.Poly.{length-plus}
 use Rattle.codeword.proofs.Encoder.{length-generator, length-run}
-use Rattle.code.proofs.LoopLaws.{plus-at, step-at, length-step, snoc-at, length-snoc}
 use Rattle.code.specs.Kernel.{shift, back, power}
+use Rattle.code.proofs.LoopLaws.{plus-at, step-at, length-step, snoc-at, length-snoc}
 
 -- ---- shifts
 

@@ -1,5 +1,4 @@
--- The table: its rows made one after the other, and read by halves of a byte.
--- Assumes nothing.
+-- The table: its rows made one after the other, and read by halves of a byte. Assumes nothing.
 use mathlib.Core.Path.{_≡_, refl, sym, ap, ap₂, _∙_, subst}
 use mathlib.Core.Bool.{cond}
 use mathlib.Core.List.{List, [], _∷_}
@@ -7,16 +6,16 @@ use Prim.Native.Nat.{ℕ, zero, suc, _+_, _-_, _*_, _/_, _%_, _≤_, _<_}
 use native.Mathlib.Nat.{not-suc-le-zero, le-of-suc-le-suc}
 use native.Mathlib.Decide.{ℕ-discrete, decLt}
 use native.Mathlib.Omega.{arith}
-use lib.Dec.{ltb}
 use borrow.Author.Tests.{lt-ltb, le-ltb}
+use lib.Dec.{ltb}
 use lib.ListN.{length, getD, set, replicate, length-replicate, getD-replicate}
 use lib.Seq.{getD-set-same, getD-set-other, ext-getD}
 use Rattle.field.specs.Field.{_⊕_, _⊗_}
 use Rattle.field.proofs.Sums.{add-0-l, add-comm}
 use Rattle.field.proofs.Products.{mul-add-l, split-add}
 use Rattle.codeword.specs.Code.{plus}
-use Rattle.code.proofs.LoopLaws.{Upto, plus-at}
 use Rattle.code.specs.Kernel.{power, factorOf, entry, Made, RowOf}
+use Rattle.code.proofs.LoopLaws.{Upto, plus-at}
 use Rattle.code.proofs.RegisterLaws.{length-power}
 
 pub made-0 : (t : List ℕ) → Made t 0

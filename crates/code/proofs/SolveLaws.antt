@@ -1,5 +1,4 @@
--- The loops that make the pattern of the missing places and find the missing bytes.
--- Assumes nothing.
+-- The loops that make the pattern of the missing places and find the missing bytes. Assumes nothing.
 use mathlib.Core.Path.{_≡_, refl, sym, ap, ap₂, _∙_, subst}
 use mathlib.Core.List.{List, [], _∷_, _++_}
 use Prim.Native.Nat.{ℕ, zero, suc, _+_, _-_, _*_, _≤_, _<_}
@@ -18,11 +17,11 @@ use Rattle.base.specs.Table as tables
 use Rattle.code.specs.Words.{table}
 use Rattle.codeword.proofs.Poly.{length-plus}
 use Rattle.codeword.proofs.Encoder.{length-snoc}
-use Rattle.code.proofs.LoopLaws.{Upto, plus-at, snoc-at}
 use Rattle.codeword.proofs.Vandermonde.{getD-table}
 use Rattle.code.proofs.WordLaws.{length-table}
 use Rattle.code.specs.Kernel.{Doubles, Multiples, lane}
 use Rattle.code.specs.Filling.{rootsTimes, locatorOf, prefixes, column, mix, Same, rootStep, rowOf, colOf, mixed, Put, Columns, scalesOf, Pattern, timesAll, inversesOf}
+use Rattle.code.proofs.LoopLaws.{Upto, plus-at, snoc-at}
 use Rattle.code.proofs.RowLaws.{past-end, zeros-at}
 use Rattle.code.proofs.LaneLaws.{table-ext, lane-horner, lane-table}
 use Rattle.code.proofs.LocatorLaws.{length-locatorOf, length-prefixes}
@@ -183,10 +182,6 @@ same-take p l n s hp hl =
 pub scales-at : (x d : List ℕ) (j : ℕ) → j < 48 → getD (scalesOf x d) j 0 ≡ inv (getD x j 0 ⊗ getD d j 0)
 unfolding scalesOf
 scales-at x d j h = getD-table 48 (λ j. inv (getD x j 0 ⊗ getD d j 0)) j h
-
-pub length-scales : (x d : List ℕ) → length (scalesOf x d) ≡ 48
-unfolding scalesOf
-length-scales x d = length-table 48 (λ j. inv (getD x j 0 ⊗ getD d j 0))
 
 pub pattern-right : (x k p q d sc : List ℕ) (e : ℕ) → e ≤ 48 → length x ≡ 48 → Multiples x k → length p ≡ 49 → Same p (locatorOf (take e x)) → Columns k p e q d
     → Multiples (scalesOf x d) sc → Pattern (take e x) q sc

@@ -1,5 +1,4 @@
 -- A block: chunks of k data bytes and 48 parity bytes, one after the other.
--- Assumes nothing.
 use mathlib.Core.Path.{_≡_}
 use mathlib.Core.Bool.{Bool, true, false}
 use mathlib.Core.List.{List}
@@ -11,90 +10,92 @@ use Rattle.code.specs.Fill.{Agrees, Fills}
 use Rattle.code.specs.declared.Answer.{Answer}
 use Rattle.code.specs.declared.Answer.the-variants.{Found, Nothing, NotEnough}
 
--- the part j of those of n members each
+-- the part j of those of n members each (clause 7.4.4)
 unfoldable pub part : ℕ → ℕ → List ℕ → List ℕ
 part n j l = take n (drop (j * n) l)
 
--- the number of an answer
+-- the number of an answer (clause 7.4.4)
 abbrev pub codeOf : Answer → ℕ
 codeOf Found = 0
 codeOf Nothing = 1
 codeOf NotEnough = 2
 
--- what the number x says of a chunk: an answer; or from 3 up, that it is as it was
+-- what the number x says of a chunk: an answer; or from 3 up, that it is as it was (clause 7.4.4)
 unfoldable pub Status : ℕ → List ℕ → List ℕ → List ℕ → ℕ → Type 0
 Status k m a b zero = Fills k m a b Found
 Status k m a b (suc zero) = Fills k m a b Nothing
 Status k m a b (suc (suc zero)) = Fills k m a b NotEnough
 Status k m a b (suc (suc (suc x))) = b ≡ a
 
--- each number of ans says what became of its chunk of `old`
+-- each number of ans says what became of its chunk of `old` (clause 7.4.4)
 pub record Partly (k : ℕ) (mask old new ans : List ℕ) : Type 0 where
   pub each : (j : ℕ) → j < length ans → Status k (part (k + 48) j mask) (part (k + 48) j old) (part (k + 48) j new) (getD ans j 0)
 
--- THE BLOCK'S ANSWER: each of its chunks has one
+-- THE BLOCK'S ANSWER: each of its chunks has one (clause 7.4.4)
 pub record Filling (k : ℕ) (mask old new ans : List ℕ) : Type 0 where
   pub each : (j : ℕ) → j < length ans → Status k (part (k + 48) j mask) (part (k + 48) j old) (part (k + 48) j new) (getD ans j 0)
   pub all : (j : ℕ) → j < length ans → getD ans j 0 < 3
 
--- a mask and a block of as many chunks as answers
+-- a mask and a block of as many chunks as answers (clause 7.4.4)
 pub record Sized (k : ℕ) (mask blk ans : List ℕ) : Type 0 where
   pub short : k ≤ 207
   pub masks : length mask ≡ length ans * (k + 48)
   pub chunks : length blk ≡ length ans * (k + 48)
 
--- from one state of the block to a later one
+-- from one state of the block to a later one (clause 7.4.4)
 pub record Later (k : ℕ) (mask blk ans blk' ans' : List ℕ) : Type 0 where
   pub size : length blk' ≡ length blk
   pub asize : length ans' ≡ length ans
   pub keep : (old : List ℕ) → Partly k mask old blk ans → Partly k mask old blk' ans'
 
+-- the same where chunk j got its answer, and no other (clause 7.4.4)
 pub record OneLater (k j : ℕ) (mask blk ans blk' ans' : List ℕ) : Type 0 where
   pub later : Later k mask blk ans blk' ans'
   pub done : getD ans' j 0 < 3
   pub others : (i : ℕ) → (i ≡ j → ⊥) → getD ans' i 0 ≡ getD ans i 0
 
+-- no chunk has an answer yet (clause 7.4.4)
 pub record Open (ans ans' : List ℕ) : Type 0 where
   pub size : length ans' ≡ length ans
   pub unset : (j : ℕ) → j < length ans → getD ans' j 0 ≡ 3
 
+-- two masks are the same, where that is told (clause 7.4.4)
 abbrev pub SameTest : Bool → List ℕ → List ℕ → Type 0
 SameTest true a b = a ≡ b
 SameTest false a b = Unit {0}
 
--- the first n answers are there
+-- the first n answers are there (clause 7.4.4)
 unfoldable pub AllDone : List ℕ → ℕ → Type 0
 AllDone ans n = (j : ℕ) → j < n → getD ans j 0 < 3
 
--- the first n members of l are those of goal
-unfoldable pub Ahead : List ℕ → ℕ → List ℕ → Type 0
-Ahead goal n l = (i : ℕ) → i < n → getD l i 0 ≡ getD goal i 0
-
--- c chunks of the data: the first n are made
+-- c chunks of the data: the first n are made (clause 7.3.1)
 pub record Encoded (k n : ℕ) (src out : List ℕ) : Type 0 where
   pub each : (j : ℕ) → j < n → part (k + 48) j out ≡ encode k (part k j src)
 
+-- room for c chunks of the data (clause 7.3.1)
 pub record EncSized (k c : ℕ) (src out : List ℕ) : Type 0 where
   pub short : k ≤ 207
   pub datas : length src ≡ c * k
   pub chunks : length out ≡ c * (k + 48)
 
+-- chunk j is made, and no other is touched (clause 7.3.1)
 pub record OneEncoded (k c j : ℕ) (src out out' : List ℕ) : Type 0 where
   pub size : length out' ≡ length out
   pub made : part (k + 48) j out' ≡ encode k (part k j src)
   pub others : (i : ℕ) → i < c → (i ≡ j → ⊥) → part (k + 48) i out' ≡ part (k + 48) i out
 
--- no answer but 0
+-- no answer but 0 (clause 7.4.4)
 pub record SomeLeft (ans : List ℕ) : Type 0 where
   pub at : ℕ
   pub below : at < length ans
   pub left : getD ans at 0 ≡ 0 → ⊥
 
+-- whether each answer is 0 (clause 7.4.4)
 abbrev pub FoundTest : List ℕ → Bool → Type 0
 FoundTest ans true = (j : ℕ) → j < length ans → getD ans j 0 ≡ 0
 FoundTest ans false = SomeLeft ans
 
--- c chunks and their masks, of which none marks more than 48 bytes
+-- c chunks and their masks, of which none marks more than 48 bytes (clause 7.4.4)
 pub record Ready (k : ℕ) (mask : List ℕ) (c : ℕ) (block : List ℕ) : Type 0 where
   pub short : k ≤ 207
   pub some : c ≤ 256
@@ -102,14 +103,14 @@ pub record Ready (k : ℕ) (mask : List ℕ) (c : ℕ) (block : List ℕ) : Type
   pub chunks : length block ≡ c * (k + 48)
   pub few : (j : ℕ) → j < c → count (marks (part (k + 48) j mask)) ≤ 48
 
--- one of c chunks has no filling, and the missing bytes of all are 0
+-- one of c chunks has no filling, and the missing bytes of all are 0 (clause 7.4.4)
 pub record Unmended (k : ℕ) (mask : List ℕ) (c : ℕ) (old new : List ℕ) : Type 0 where
   pub at : ℕ
   pub below : at < c
   pub none : (w : List ℕ) → Agrees k (part (k + 48) at mask) (part (k + 48) at old) w → ⊥
   pub zeros : new ≡ erase (marks mask) old
 
--- whether all c chunks are filled in
+-- whether all c chunks are filled in (clause 7.4.4)
 abbrev pub Mended : ℕ → List ℕ → ℕ → List ℕ → List ℕ → Bool → Type 0
 Mended k mask c old new true = (j : ℕ) → j < c → Agrees k (part (k + 48) j mask) (part (k + 48) j old) (part (k + 48) j new)
 Mended k mask c old new false = Unmended k mask c old new

@@ -24,7 +24,7 @@ use Rattle.code.specs.declared.Filled.the-variants.{Done, Nothing, NotEn
 unfoldable pub badSize : ℕ → Bool
 badSize k = eqb k 0 || ltb most-k k
 
--- what the parity of k bytes is refused for, with `room` bytes lent: 8, ROOM
+-- document 01: what the parity of k bytes is refused for, with `room` bytes lent: 8 SIZE, 1 ROOM
 unfoldable pub parityFault : ℕ → ℕ → ℕ
 parityFault k room = first ((badSize k, 8) ∷ (ltb room parity, 1) ∷ [])
 
@@ -40,7 +40,7 @@ overPlace k c = ltb place (c * (k + parity))
 unfoldable pub misfits : ℕ → ℕ → ℕ → Bool
 misfits l k c = ltb (c * k) l || leb k (c * k - l)
 
--- what the block of a packet of l bytes is refused for, with `room` bytes lent: 8, ROOM
+-- document 01: what the block of a packet of l bytes is refused for, with `room` bytes lent: 8 SIZE, 1 ROOM
 unfoldable pub encodeFault : ℕ → ℕ → ℕ → ℕ → ℕ
 encodeFault l k c room = first ((badSize k, 8) ∷ (overPlace k c, 8) ∷ (misfits l k c, 8) ∷ (ltb room (c * (k + parity)), 1) ∷ [])
 
@@ -53,7 +53,7 @@ encodeCall packet k c out =
 unfoldable pub badPair : ℕ → ℕ → ℕ → Bool
 badPair k mask chunk = badSize k || (not (eqb mask (k + parity)) || not (eqb chunk (k + parity)))
 
--- what the filling of a chunk is refused for: 8
+-- document 01: what the filling of a chunk is refused for: 8 SIZE
 unfoldable pub chunkFault : ℕ → ℕ → ℕ → ℕ
 chunkFault k mask chunk = first ((badPair k mask chunk, 8) ∷ [])
 
@@ -70,7 +70,7 @@ ChunkFilled k mask c after (Refused n) = (n ≡ chunkFault k (length mask) (leng
 unfoldable pub lostCells : List Bool → ℕ → ℕ → ℕ → List ℕ
 lostCells kept f a n = table (λ q. bit (gone (notKept kept) f q)) a n
 
--- what the filling of a block is refused for, with `room` cells: 7 COUNT, 8 SIZE, ROOM
+-- document 01: what the filling of a block is refused for, with `room` cells: 7 COUNT, 8 SIZE, 1 ROOM
 unfoldable pub fillFault : ℕ → ℕ → ℕ → ℕ → ℕ
 fillFault f s k room =
     first ((badCount f, 7) ∷ (tooMuch f s, 8) ∷ (badChunk f s k, 8) ∷ (ltb room (receivedC f s k * (k + parity)), 1) ∷ [])

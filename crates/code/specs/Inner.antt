@@ -12,7 +12,7 @@ use Rattle.code.specs.declared.Answer.the-variants as answers
 use Rattle.code.specs.declared.Filled.{Filled}
 use Rattle.code.specs.declared.Filled.the-variants.{Done, Nothing, NotEnough}
 
--- the call's answer for a chunk's
+-- the call's answer for a chunk's (clause 7.4.4)
 abbrev pub filledOf : Answer → Filled
 filledOf answers.Found = Done
 filledOf answers.Nothing = Nothing

@@ -11,25 +11,27 @@ use Rattle.codeword.proofs.Erasure.{locators}
 use Rattle.code.specs.Kernel.{remainder, Made, Multiples, rootsList}
 use Rattle.code.specs.Filling.{Pattern}
 
--- the locators of the missing places
+-- the locators of the missing places (clause 7.4.4)
 unfoldable pub locs : ℕ → List ℕ → List ℕ
 locs k mask = locators (full Bool.false k (marks mask))
 
+-- r is what the generator leaves of c, whose members are bytes (clause 7.4.4)
 pub record Left (k : ℕ) (c r : List ℕ) : Type 0 where
   pub rest : r ≡ remainder k c
   pub bytes : Bytes c
 
--- the missing bytes of c, which are 0, are put in: rightly, if any chunk of the code agrees
+-- the missing bytes of c, which are 0, are put in: rightly, if any chunk of the code agrees (clause 7.4.4)
 pub record Guessed (k : ℕ) (mask c after : List ℕ) : Type 0 where
   pub size : length after ≡ length c
   pub keeps : erase (marks mask) after ≡ erase (marks mask) c
   pub right : (w : List ℕ) → length w ≡ k + 48 → Bytes w → Codeword (full 0 k w) → erase (marks mask) w ≡ c → after ≡ w
 
+-- whether 48 bytes are all 0 (clause 7.4.4)
 abbrev pub ZeroTest : List ℕ → Bool → Type 0
 ZeroTest r true = r ≡ replicate 48 0
 ZeroTest r false = r ≡ replicate 48 0 → ⊥
 
--- what the chunks that miss the same places share
+-- what the chunks that miss the same places share (clause 7.4.4)
 pub record Shared (t rk q sc mask : List ℕ) (e k : ℕ) : Type 0 where
   pub short : k ≤ 207
   pub masked : length mask ≡ k + 48

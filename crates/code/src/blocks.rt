@@ -1,9 +1,9 @@
 // Chunks with their parity, one behind the other.
 use crate::register::parity_of;
 ghost use mathlib.Core.Path.{_≡_};
-ghost use Prim.Native.Nat.{_+_, _*_, _/_, _≤_, _<_};
+ghost use Prim.Native.Nat.{_+_, _≤_, _<_};
 ghost use lib.ListN.{length};
-ghost use Rattle.code.specs.Words.{parity, encode};
+ghost use Rattle.code.specs.Words.{encode};
 ghost use Rattle.code.specs.Kernel.{Made};
 ghost use Rattle.code.specs.Block.{Encoded, EncSized, OneEncoded};
 
@@ -13,13 +13,8 @@ fn encode_chunk(t: &[u8; 12288], d: &[u8], out: &mut [u8])
     ensures { λ _. ⌜ now (out .exit) ≡ encode (length (now (d .entry))) (now (d .entry)) ⌝ }
 {
     let p = parity_of(t, d);
-    let k = d.len();
-    for i in 0..k {
-        out[i] = d[i];
-    }
-    for j in 0..48 {
-        out[k + j] = p[j];
-    }
+    base::put(out, 0, d);
+    base::put(out, d.len(), &p);
 }
 
 fn encode_one(t: &[u8; 12288], k: usize, c: usize, src: &[u8], out: &mut [u8], j: usize)

@@ -31,7 +31,7 @@ pub enum Filled {
 }
 
 // What became of one chunk: its missing bytes are found; no chunk of the code has the bytes that are there; more than 48 are missing.
-pub enum Answer {
+enum Answer {
     Found,
     Nothing,
     NotEnough,

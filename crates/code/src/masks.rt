@@ -1,10 +1,9 @@
 // Masks: a byte for each byte of a chunk, not 0 where that is missing.
 ghost use mathlib.Core.Path.{_≡_};
 ghost use mathlib.Core.Bool.{cond};
-ghost use Prim.Native.Nat.{_+_, _-_, _/_, _≤_, _<_};
+ghost use Prim.Native.Nat.{_+_, _≤_, _<_};
 ghost use lib.Dec.{eqb};
 ghost use lib.ListN.{length, take, getD};
-ghost use Rattle.code.specs.Words.{parity};
 ghost use Rattle.codeword.specs.Code.{full};
 ghost use Rattle.codeword.specs.Erasure.{marks, erase, count};
 ghost use Rattle.codeword.proofs.Erasure.{locators, fill};

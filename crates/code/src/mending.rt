@@ -7,7 +7,7 @@ use crate::turns::fill_block;
 use base::MOST_F;
 use base::PARITY;
 ghost use mathlib.Core.Path.{_≡_};
-ghost use Prim.Native.Nat.{_+_, _*_, _≤_, _<_};
+ghost use Prim.Native.Nat.{_+_, _*_, _<_};
 ghost use lib.ListN.{length};
 ghost use Rattle.code.specs.Block.{FoundTest, Ready, Mended};
 ghost use Rattle.code.specs.Calls.{lostCells};

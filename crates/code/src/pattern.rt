@@ -6,10 +6,9 @@ use crate::products::times_lanes;
 use crate::products::twice;
 ghost use mathlib.Core.Path.{_≡_};
 ghost use mathlib.Core.List.{[], _∷_};
-ghost use Prim.Native.Nat.{_+_, _-_, _*_, _/_, _≤_, _<_};
+ghost use Prim.Native.Nat.{_≤_, _<_};
 ghost use lib.ListN.{length, take};
-ghost use Rattle.codeword.specs.Code.{value};
-ghost use Rattle.code.specs.Kernel.{Doubles, lane};
+ghost use Rattle.code.specs.Kernel.{Doubles};
 ghost use Rattle.code.specs.Filling.{rootStep, locatorOf, Same, Put, Columns, scalesOf, Pattern, inversesOf};
 
 // p times z + x, from the highest coefficient down

@@ -1,6 +1,7 @@
 // Products in the field by shift and select: no table, and many lanes at a time in a loop over an array.
 ghost use mathlib.Core.Path.{_≡_};
-ghost use Prim.Native.Nat.{_+_, _-_, _*_, _/_, _%_, _<_};
+ghost use Prim.Native.Nat.{ℕ, _*_, _/_, _%_, _<_};
+ghost use lib.ListN.{length, getD};
 ghost use Rattle.field.specs.Field.{_⊗_, times2};
 ghost use Rattle.codeword.specs.Code.{plus};
 ghost use Rattle.code.specs.Kernel.{Chain, Doubles, Multiples, lane};
@@ -115,13 +116,22 @@ pub fn lanes(k: &[u8; 384], s: [u8; 48], r: [u8; 48]) -> [u8; 48]
     q
 }
 
-pub fn multiples(x: [u8; 48]) -> [u8; 384]
-    ensures { λ r. ⌜ Multiples x r ⌝ }
+// A row of 48, and zeros behind it.
+fn first_row(x: [u8; 48]) -> [u8; 384]
+    ensures { λ r. ⌜ (length r ≡ 384) × ((i : ℕ) → i < 48 → getD r i 0 ≡ getD x i 0) ⌝ }
 {
     let mut k = [0u8; 384];
     for j in 0..48 {
         k[j] = x[j];
     }
+    k
+}
+
+// Eight rows of 48, each twice the one before.
+pub fn multiples(x: [u8; 48]) -> [u8; 384]
+    ensures { λ r. ⌜ Multiples x r ⌝ }
+{
+    let mut k = first_row(x);
     for i in 48..384 {
         k[i] = twice(k[i - 48]);
     }

@@ -1,10 +1,9 @@
 // The register of the encoder, eight bytes a step, and what the generator leaves of a chunk.
 ghost use mathlib.Core.Path.{_≡_};
-ghost use Prim.Native.Nat.{_+_, _-_, _*_, _/_, _%_, _≤_, _<_};
+ghost use Prim.Native.Nat.{_+_, _≤_, _<_};
 ghost use lib.ListN.{length, take, drop, replicate};
 ghost use Rattle.codeword.specs.Code.{plus, run};
 ghost use Rattle.code.specs.Words.{parity};
-ghost use Rattle.code.specs.Words.{table};
 ghost use Rattle.code.specs.Kernel.{back, power, Made, laid, sumOf};
 ghost use Rattle.code.specs.Sharing.{Left};
 

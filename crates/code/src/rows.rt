@@ -1,7 +1,7 @@
 // The table that the register reads: for each of eight powers of x modulo the generator, its multiples by each half of a byte.
 use crate::products::added;
 ghost use mathlib.Core.Path.{_≡_};
-ghost use Prim.Native.Nat.{_+_, _-_, _*_, _/_, _%_, _<_};
+ghost use Prim.Native.Nat.{_+_, _*_, _<_};
 ghost use lib.ListN.{length};
 ghost use Rattle.codeword.specs.Code.{generator, step};
 ghost use Rattle.code.specs.Kernel.{shift, power, factorOf, Made, RowOf};

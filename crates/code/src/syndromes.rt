@@ -3,7 +3,6 @@ use crate::products::lanes;
 use crate::products::multiples;
 use crate::products::twice;
 ghost use mathlib.Core.Path.{_≡_};
-ghost use Prim.Native.Nat.{_-_, _/_};
 ghost use Rattle.codeword.proofs.Erasure.{syndromes};
 ghost use Rattle.code.specs.Kernel.{Multiples, rootsList};
 

@@ -6,7 +6,7 @@ use crate::masks::locators_of;
 use crate::masks::missing_count;
 use crate::pattern::pattern;
 ghost use mathlib.Core.Path.{_≡_};
-ghost use Prim.Native.Nat.{_+_, _-_, _*_, _/_, _≤_, _<_};
+ghost use Prim.Native.Nat.{_+_, _≤_, _<_};
 ghost use lib.ListN.{length, take, drop, getD};
 ghost use Rattle.code.specs.Kernel.{Made, Multiples, rootsList};
 ghost use Rattle.code.specs.Sharing.{Shared};

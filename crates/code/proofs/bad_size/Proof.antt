@@ -1,3 +1,4 @@
+-- `bad_size` meets its contract. Assumes nothing.
 use borrow.Author.Tests.{eq-eqb, ne-eqb}
 use Rattle.code.specs.Calls.{badSize}
 use Rattle.code.proofs.bad_size.Statement.{statement}

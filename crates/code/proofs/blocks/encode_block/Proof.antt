@@ -1,5 +1,4 @@
--- `encode_block` meets its contract: a chunk a turn.
--- Assumes nothing.
+-- `encode_block` meets its contract: a chunk a turn. Assumes nothing.
 use mathlib.Core.Path.{_≡_, refl, _∙_, subst}
 use Prim.Native.Nat.{_-_, _≤_, _<_}
 use borrow.Author.Needs.{needs}

@@ -1,6 +1,7 @@
-use Rattle.code.proofs.CellLaws.{round, onward}
+-- `following` meets its contract. Assumes nothing.
 use native.Mathlib.Omega.{arith}
 use borrow.Author.Needs.{needs}
+use Rattle.code.proofs.CellLaws.{round, onward}
 use Rattle.code.proofs.cells.following.Statement.{statement}
 use Rattle.code.proofs.cells.following.Tie as tie
 

@@ -1,10 +1,11 @@
-use borrow.Author.Needs.{needs}
+-- `mark_lost` meets its contract. Assumes nothing.
 use mathlib.Core.Path.{_≡_, sym, ap, _∙_}
 use mathlib.Core.Bool.{Bool, false, not}
 use mathlib.Core.List.{List}
-use Prim.Native.Nat.{ℕ, _+_, _-_, _%_, _≤_, _<_}
+use Prim.Native.Nat.{ℕ, _-_, _%_, _≤_, _<_}
 use native.Mathlib.Nat.{zero-add, zero-mod}
 use native.Mathlib.Omega.{arith}
+use borrow.Author.Needs.{needs}
 use lib.ListN.{length, getD}
 use Rattle.base.specs.Bytes.{splice}
 use Rattle.base.proofs.Tables.{filled-none, filled-more}
@@ -13,11 +14,8 @@ use Rattle.code.specs.Calls.{lostCells}
 use Rattle.code.proofs.cells.mark_lost.Statement.{statement}
 use Rattle.code.proofs.cells.mark_lost.Tie as tie
 
--- BEGIN LEMMAS
 abbrev rule : List Bool → ℕ → ℕ → ℕ
 rule kept f q = bit (not (getD kept (q % f) false))
-
--- END LEMMAS
 
 abbrev Inv-loop : tie.InvT-loop
 Inv-loop f n mask₀ kept i₀ q₀ mask i q = (0 < f) × (f ≤ 256) × (n ≤ length mask₀) × (q ≤ n) × (i < f) × (i ≡ q % f) × (length mask ≡ length mask₀) × (mask ≡ splice mask₀ 0 (lostCells kept f 0 q))

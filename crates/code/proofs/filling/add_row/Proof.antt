@@ -1,5 +1,4 @@
--- `add_row` meets its contract: a place a turn.
--- Assumes nothing.
+-- `add_row` meets its contract: a place a turn. Assumes nothing.
 use mathlib.Core.Path.{_≡_, sym, ap, ap₂, _∙_}
 use mathlib.Core.List.{List}
 use Prim.Native.Nat.{ℕ, _-_, _*_, _≤_, _<_}
@@ -7,11 +6,11 @@ use native.Mathlib.Omega.{arith}
 use borrow.Author.Needs.{needs}
 use lib.ListN.{length}
 use Rattle.field.specs.Field.{_⊕_, _⊗_}
-use Rattle.code.proofs.LoopLaws.{Upto, upto-start, upto-more, upto-end, plus-at}
 use Rattle.codeword.proofs.Poly.{length-plus}
 use Rattle.codeword.specs.Code.{plus}
 use Rattle.code.specs.Kernel.{Chain}
 use Rattle.code.specs.Filling.{rowOf}
+use Rattle.code.proofs.LoopLaws.{Upto, upto-start, upto-more, upto-end, plus-at}
 use Rattle.code.proofs.SolveLaws.{row-of-at, length-rowOf}
 use Rattle.code.proofs.filling.add_row.Statement.{statement}
 use Rattle.code.proofs.filling.add_row.Tie as tie

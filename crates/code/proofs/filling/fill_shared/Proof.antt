@@ -1,12 +1,12 @@
-use mathlib.Core.Path.{subst}
+-- `fill_shared` meets its contract. Assumes nothing.
+use mathlib.Core.Path.{subst, _∙_, ap, sym}
 use native.Mathlib.Omega.{arith}
-use Rattle.code.specs.Sharing.{ZeroTest}
-use Rattle.code.proofs.FillLaws.{fills-found, fills-none}
-use mathlib.Core.Path.{_∙_, ap, sym}
+use borrow.Author.Needs.{needs}
 use lib.ListN.{length}
 use Rattle.codeword.specs.Erasure.{marks}
 use Rattle.codeword.proofs.Erasure.{length-erase}
-use borrow.Author.Needs.{needs}
+use Rattle.code.specs.Sharing.{ZeroTest}
+use Rattle.code.proofs.FillLaws.{fills-found, fills-none}
 use Rattle.code.proofs.filling.fill_shared.Statement.{statement}
 use Rattle.code.proofs.filling.fill_shared.Tie as tie
 

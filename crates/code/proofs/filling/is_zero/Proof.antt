@@ -1,5 +1,4 @@
--- `is_zero` meets its contract: a place a turn.
--- Assumes nothing.
+-- `is_zero` meets its contract: a place a turn. Assumes nothing.
 use mathlib.Core.Path.{_≡_}
 use Prim.Native.Nat.{ℕ, _-_, _≤_, _<_}
 use native.Mathlib.Omega.{arith}

@@ -4,9 +4,9 @@ use Prim.Native.Nat.{_-_, _≤_}
 use native.Mathlib.Omega.{arith}
 use borrow.Author.Needs.{needs}
 use lib.ListN.{length, replicate}
-use Rattle.code.proofs.LaneLaws.{length-lane}
 use lib.Seq.{length-take-le}
 use Rattle.code.specs.Filling.{mixed}
+use Rattle.code.proofs.LaneLaws.{length-lane}
 use Rattle.code.proofs.FillLaws.{guessed}
 use Rattle.code.proofs.filling.put_in.Statement.{statement}
 use Rattle.code.proofs.filling.put_in.Tie as tie

@@ -1,14 +1,13 @@
--- `solve` meets its contract: a syndrome a turn.
--- Assumes nothing.
+-- `solve` meets its contract: a syndrome a turn. Assumes nothing.
 use mathlib.Core.Path.{_≡_, refl, ap, _∙_}
 use Prim.Native.Nat.{_-_, _≤_}
 use native.Mathlib.Omega.{arith}
 use borrow.Author.Needs.{needs}
 use lib.ListN.{length, drop, replicate}
-use Rattle.code.specs.Kernel.{Doubles, lane}
 use Rattle.code.specs.Words.{table}
-use Rattle.code.specs.Filling.{rowOf, colOf, mix}
 use Rattle.code.proofs.WordLaws.{length-table}
+use Rattle.code.specs.Kernel.{Doubles, lane}
+use Rattle.code.specs.Filling.{rowOf, colOf, mix}
 use Rattle.code.proofs.SolveLaws.{mixed-start, mixed-more, mixed-end}
 use Rattle.code.proofs.filling.solve.Statement.{statement}
 use Rattle.code.proofs.filling.solve.Tie as tie

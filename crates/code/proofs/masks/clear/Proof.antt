@@ -1,14 +1,13 @@
--- `clear` meets its contract: a place a turn.
--- Assumes nothing.
+-- `clear` meets its contract: a place a turn. Assumes nothing.
 use mathlib.Core.Path.{_≡_}
 use Prim.Native.Nat.{_-_, _≤_, _<_}
 use native.Mathlib.Omega.{arith}
 use borrow.Author.Needs.{needs}
 use lib.ListN.{length, getD}
-use Rattle.code.proofs.LoopLaws.{Upto, upto-start, upto-more, upto-end}
 use Rattle.codeword.specs.Erasure.{erase, marks}
-use Rattle.code.proofs.MaskLaws.{erase-at}
 use Rattle.codeword.proofs.Erasure.{length-erase}
+use Rattle.code.proofs.LoopLaws.{Upto, upto-start, upto-more, upto-end}
+use Rattle.code.proofs.MaskLaws.{erase-at}
 use Rattle.code.proofs.masks.clear.Statement.{statement}
 use Rattle.code.proofs.masks.clear.Tie as tie
 

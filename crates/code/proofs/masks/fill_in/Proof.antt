@@ -1,12 +1,11 @@
--- `fill_in` meets its contract: a place of the mask a turn.
--- Assumes nothing.
+-- `fill_in` meets its contract: a place of the mask a turn. Assumes nothing.
 use mathlib.Core.List.{List}
+use mathlib.Core.Logic.{⊎-elim}
 use Prim.Native.Nat.{ℕ, _-_, _≤_, _<_}
 use native.Mathlib.Omega.{arith}
 use borrow.Author.Needs.{needs}
 use lib.ListN.{length}
 use Rattle.code.proofs.MaskLaws.{Filled, filled-start, filled-skip, filled-more, filled-end}
-use mathlib.Core.Logic.{⊎-elim}
 use Rattle.code.proofs.masks.fill_in.Statement.{statement}
 use Rattle.code.proofs.masks.fill_in.Tie as tie
 

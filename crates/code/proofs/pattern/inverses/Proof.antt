@@ -1,5 +1,4 @@
--- `inverses` meets its contract: a square a turn.
--- Assumes nothing.
+-- `inverses` meets its contract: a square a turn. Assumes nothing.
 use mathlib.Core.Path.{_≡_}
 use mathlib.Core.List.{List}
 use Prim.Native.Nat.{ℕ, _-_, _≤_}

@@ -1,5 +1,4 @@
--- `locator` meets its contract: a root a turn.
--- Assumes nothing.
+-- `locator` meets its contract: a root a turn. Assumes nothing.
 use mathlib.Core.Path.{_≡_, ap, _∙_, subst}
 use mathlib.Core.List.{List}
 use Prim.Native.Nat.{ℕ, _-_, _≤_}

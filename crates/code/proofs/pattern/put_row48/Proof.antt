@@ -1,5 +1,4 @@
--- `put_row48` meets its contract: a place a turn.
--- Assumes nothing.
+-- `put_row48` meets its contract: a place a turn. Assumes nothing.
 use mathlib.Core.Path.{_≡_}
 use Prim.Native.Nat.{_-_, _*_, _≤_, _<_}
 use borrow.Author.Needs.{needs}

@@ -1,5 +1,4 @@
--- `times_root` meets its contract: a place a turn.
--- Assumes nothing.
+-- `times_root` meets its contract: a place a turn. Assumes nothing.
 use mathlib.Core.Path.{_≡_, sym, ap, _∙_}
 use mathlib.Core.List.{List}
 use Prim.Native.Nat.{ℕ, _+_, _-_, _≤_, _<_}
@@ -7,9 +6,9 @@ use native.Mathlib.Omega.{arith}
 use borrow.Author.Needs.{needs}
 use lib.ListN.{length, getD}
 use Rattle.field.specs.Field.{_⊕_}
-use Rattle.code.proofs.LoopLaws.{Upto, upto-more, upto-end}
 use Rattle.code.specs.Kernel.{Chain}
 use Rattle.code.specs.Filling.{rootStep}
+use Rattle.code.proofs.LoopLaws.{Upto, upto-more, upto-end}
 use Rattle.code.proofs.SolveLaws.{rootStep-at, length-rootStep, rootStep-start}
 use Rattle.code.proofs.pattern.times_root.Statement.{statement}
 use Rattle.code.proofs.pattern.times_root.Tie as tie

@@ -1,15 +1,14 @@
--- `added` meets its contract: a place a turn.
--- Assumes nothing.
+-- `added` meets its contract: a place a turn. Assumes nothing.
 use mathlib.Core.Path.{_≡_, sym, _∙_}
 use mathlib.Core.List.{List}
 use Prim.Native.Nat.{ℕ, _-_, _≤_}
 use native.Mathlib.Omega.{arith}
 use borrow.Author.Needs.{needs}
 use lib.ListN.{length}
-use Rattle.code.proofs.LoopLaws.{Upto, upto-start, upto-more, upto-end, plus-at}
 use Rattle.codeword.proofs.Poly.{length-plus}
 use Rattle.codeword.specs.Code.{plus}
 use Rattle.code.specs.Kernel.{Chain}
+use Rattle.code.proofs.LoopLaws.{Upto, upto-start, upto-more, upto-end, plus-at}
 use Rattle.code.proofs.products.added.Statement.{statement}
 use Rattle.code.proofs.products.added.Tie as tie
 

@@ -1,5 +1,4 @@
--- `lanes` meets its contract: a lane a turn.
--- Assumes nothing.
+-- `lanes` meets its contract: a lane a turn. Assumes nothing.
 use mathlib.Core.Path.{sym, ap, _∙_}
 use mathlib.Core.List.{List}
 use Prim.Native.Nat.{ℕ, _-_, _≤_, _<_}
@@ -7,9 +6,9 @@ use native.Mathlib.Omega.{arith}
 use borrow.Author.Needs.{needs}
 use lib.ListN.{getD, replicate}
 use Rattle.field.specs.Field.{_⊕_}
-use Rattle.code.proofs.LoopLaws.{Upto, upto-start, upto-more, upto-end}
-use Rattle.code.specs.Kernel.{Doubles, lane}
 use Rattle.field.proofs.Products.{mul-comm}
+use Rattle.code.specs.Kernel.{Doubles, lane}
+use Rattle.code.proofs.LoopLaws.{Upto, upto-start, upto-more, upto-end}
 use Rattle.code.proofs.LaneLaws.{chain-at, lane-at, length-lane}
 use Rattle.code.proofs.products.lanes.Statement.{statement}
 use Rattle.code.proofs.products.lanes.Tie as tie

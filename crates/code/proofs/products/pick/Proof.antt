@@ -1,8 +1,8 @@
 -- `pick` meets its contract. Assumes nothing.
 use mathlib.Core.Path.{_≡_, sym, ap, _∙_}
 use Prim.Native.Nat.{ℕ, _-_, _*_, _/_, _%_}
-use borrow.Author.Needs.{needs}
 use native.Mathlib.Nat.{zero-mul, one-mul}
+use borrow.Author.Needs.{needs}
 use Rattle.code.proofs.products.pick.Statement.{statement}
 use Rattle.code.proofs.products.pick.Tie as tie
 

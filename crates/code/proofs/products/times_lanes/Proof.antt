@@ -1,14 +1,12 @@
--- `times_lanes` meets its contract: a lane a turn.
--- Assumes nothing.
+-- `times_lanes` meets its contract: a lane a turn. Assumes nothing.
 use mathlib.Core.Path.{sym, _∙_}
 use mathlib.Core.List.{List}
 use Prim.Native.Nat.{ℕ, _-_, _≤_, _<_}
 use native.Mathlib.Omega.{arith}
 use borrow.Author.Needs.{needs}
 use lib.ListN.{replicate}
-use Rattle.code.proofs.LoopLaws.{Upto, upto-start, upto-more, upto-end}
-use Rattle.code.specs.Kernel.{lane}
 use Rattle.code.specs.Filling.{timesAll}
+use Rattle.code.proofs.LoopLaws.{Upto, upto-start, upto-more, upto-end}
 use Rattle.code.proofs.SolveLaws.{timesAll-at, length-timesAll}
 use Rattle.code.proofs.products.times_lanes.Statement.{statement}
 use Rattle.code.proofs.products.times_lanes.Tie as tie

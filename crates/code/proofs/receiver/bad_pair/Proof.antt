@@ -1,12 +1,11 @@
-use mathlib.Core.Path.{_≡_}
-use mathlib.Core.Bool.{false}
+-- `bad_pair` meets its contract. Assumes nothing.
 use Prim.Native.Nat.{_+_}
 use native.Mathlib.Omega.{arith}
 use borrow.Author.Tests.{eq-eqb, ne-eqb}
-use Rattle.base.proofs.Logic.{told}
-use Rattle.code.specs.Calls.{badSize, badPair}
-use Rattle.code.proofs.CallCases.{size-most}
 use borrow.Author.Needs.{needs}
+use Rattle.base.proofs.Logic.{told}
+use Rattle.code.specs.Calls.{badPair}
+use Rattle.code.proofs.CallCases.{size-most}
 use Rattle.code.proofs.receiver.bad_pair.Statement.{statement}
 use Rattle.code.proofs.receiver.bad_pair.Tie as tie
 

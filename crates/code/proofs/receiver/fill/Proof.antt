@@ -1,8 +1,9 @@
-use mathlib.Core.Path.{_≡_, sym, ap, _∙_}
+-- `fill` meets its contract. Assumes nothing.
+use mathlib.Core.Path.{sym, ap, _∙_}
 use mathlib.Core.Bool.{true, false}
+use borrow.Author.Needs.{needs}
 use Rattle.weave.specs.Calls.{numberOf}
 use Rattle.code.proofs.CellLaws.{standing, fill-refused}
-use borrow.Author.Needs.{needs}
 use Rattle.code.proofs.receiver.fill.Statement.{statement}
 use Rattle.code.proofs.receiver.fill.Tie as tie
 

@@ -1,14 +1,15 @@
-use mathlib.Core.Path.{_≡_, refl, sym, ap, _∙_, subst}
-use Prim.Native.Nat.{ℕ, _+_, _*_, _/_, _≤_}
+-- `fill_cells` meets its contract. Assumes nothing.
+use mathlib.Core.Path.{refl, sym, _∙_, subst}
+use Prim.Native.Nat.{ℕ, _+_, _*_, _/_}
 use native.Mathlib.Omega.{arith}
 use native.Mathlib.Nat.{div-mul-le-self}
-use lib.ListN.{length, take}
+use borrow.Author.Needs.{needs}
+use lib.ListN.{take}
 use lib.Seq.{length-take-le}
 use Rattle.weave.proofs.CallCases.{chunk-some, f-some, f-most, fits-place}
 use Rattle.code.specs.Block.{Mended}
 use Rattle.code.specs.Calls.{lostCells}
 use Rattle.code.proofs.CellLaws as laws
-use borrow.Author.Needs.{needs}
 use Rattle.code.proofs.receiver.fill_cells.Statement.{statement}
 use Rattle.code.proofs.receiver.fill_cells.Tie as tie
 

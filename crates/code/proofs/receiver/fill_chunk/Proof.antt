@@ -1,6 +1,7 @@
+-- `fill_chunk` meets its contract. Assumes nothing.
+use borrow.Author.Needs.{needs}
 use Rattle.base.proofs.Logic.{told}
 use Rattle.code.proofs.CallCases as cases
-use borrow.Author.Needs.{needs}
 use Rattle.code.proofs.receiver.fill_chunk.Statement.{statement}
 use Rattle.code.proofs.receiver.fill_chunk.Tie as tie
 

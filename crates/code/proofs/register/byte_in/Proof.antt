@@ -1,15 +1,14 @@
--- `byte_in` meets its contract: a place a turn.
--- Assumes nothing.
+-- `byte_in` meets its contract: a place a turn. Assumes nothing.
 use mathlib.Core.Path.{_≡_, sym, _∙_}
 use mathlib.Core.List.{List}
 use Prim.Native.Nat.{ℕ, _+_, _-_, _*_, _/_, _%_, _≤_, _<_}
 use native.Mathlib.Omega.{arith}
 use borrow.Author.Needs.{needs}
 use lib.ListN.{length}
-use Rattle.code.proofs.LoopLaws.{Upto, upto-start, upto-more, upto-end, plus-at}
 use Rattle.codeword.proofs.Poly.{length-plus}
 use Rattle.codeword.specs.Code.{plus}
 use Rattle.code.specs.Kernel.{power, Made}
+use Rattle.code.proofs.LoopLaws.{Upto, upto-start, upto-more, upto-end, plus-at}
 use Rattle.code.proofs.RegisterLaws.{length-power}
 use Rattle.code.proofs.RowLaws.{halves}
 use Rattle.code.proofs.register.byte_in.Statement.{statement}

@@ -1,5 +1,4 @@
--- `eight` meets its contract: a row a turn, of the last byte first.
--- Assumes nothing.
+-- `eight` meets its contract: a row a turn, of the last byte first. Assumes nothing.
 use mathlib.Core.Path.{_≡_}
 use Prim.Native.Nat.{_-_, _≤_, _<_}
 use borrow.Author.Needs.{needs}

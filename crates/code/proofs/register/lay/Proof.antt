@@ -1,13 +1,12 @@
--- `lay` meets its contract: a byte a turn.
--- Assumes nothing.
+-- `lay` meets its contract: a byte a turn. Assumes nothing.
 use mathlib.Core.Path.{_≡_, refl, sym}
 use mathlib.Core.List.{List}
 use Prim.Native.Nat.{ℕ, _+_, _-_, _≤_}
 use native.Mathlib.Omega.{arith}
 use borrow.Author.Needs.{needs}
 use lib.ListN.{length, getD, replicate}
-use Rattle.code.proofs.LoopLaws.{Upto, upto-more}
 use Rattle.code.specs.Kernel.{laid}
+use Rattle.code.proofs.LoopLaws.{Upto, upto-more}
 use Rattle.code.proofs.RowLaws.{upto-rest}
 use Rattle.code.proofs.LaneLaws.{laid-at, length-laid, laid-start, laid-past}
 use Rattle.code.proofs.register.lay.Statement.{statement}

@@ -1,5 +1,4 @@
--- `register` meets its contract: eight bytes a turn.
--- Assumes nothing.
+-- `register` meets its contract: eight bytes a turn. Assumes nothing.
 use mathlib.Core.Path.{_≡_, _∙_}
 use Prim.Native.Nat.{_-_, _*_, _≤_}
 use borrow.Author.Needs.{needs}

@@ -1,13 +1,12 @@
--- `shifted8` meets its contract: a place a turn.
--- Assumes nothing.
+-- `shifted8` meets its contract: a place a turn. Assumes nothing.
 use mathlib.Core.Path.{_≡_, sym, _∙_}
 use mathlib.Core.List.{List}
 use Prim.Native.Nat.{ℕ, _+_, _-_, _≤_}
 use native.Mathlib.Omega.{arith}
 use borrow.Author.Needs.{needs}
 use lib.ListN.{length, getD, replicate}
-use Rattle.code.proofs.LoopLaws.{Upto, upto-start, upto-more}
 use Rattle.code.specs.Kernel.{back}
+use Rattle.code.proofs.LoopLaws.{Upto, upto-start, upto-more}
 use Rattle.code.proofs.RegisterLaws.{back-at, length-back}
 use Rattle.code.proofs.RowLaws.{upto-rest, past-end, zeros-at}
 use Rattle.code.proofs.register.shifted8.Statement.{statement}

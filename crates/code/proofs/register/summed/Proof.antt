@@ -1,15 +1,14 @@
--- `summed` meets its contract: a place a turn.
--- Assumes nothing.
+-- `summed` meets its contract: a place a turn. Assumes nothing.
 use mathlib.Core.Path.{_≡_, sym, _∙_}
 use mathlib.Core.List.{List}
 use Prim.Native.Nat.{ℕ, _+_, _-_, _≤_}
 use native.Mathlib.Omega.{arith}
 use borrow.Author.Needs.{needs}
 use lib.ListN.{length, drop}
-use Rattle.code.proofs.LoopLaws.{Upto, upto-start, upto-more, upto-end}
-use Rattle.code.specs.Kernel.{sumOf}
-use Rattle.code.proofs.LaneLaws.{sumOf-at, length-sumOf, drop-size}
 use lib.Seq.{getD-drop}
+use Rattle.code.specs.Kernel.{sumOf}
+use Rattle.code.proofs.LoopLaws.{Upto, upto-start, upto-more, upto-end}
+use Rattle.code.proofs.LaneLaws.{sumOf-at, length-sumOf, drop-size}
 use Rattle.code.proofs.register.summed.Statement.{statement}
 use Rattle.code.proofs.register.summed.Tie as tie
 

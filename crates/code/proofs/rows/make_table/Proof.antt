@@ -1,5 +1,4 @@
--- `make_table` meets its contract: the rows of a power a turn.
--- Assumes nothing.
+-- `make_table` meets its contract: the rows of a power a turn. Assumes nothing.
 use mathlib.Core.Path.{_≡_, ap, _∙_, subst}
 use Prim.Native.Nat.{_-_, _*_, _≤_}
 use native.Mathlib.Omega.{arith}

@@ -1,5 +1,4 @@
--- `put_row` meets its contract: a byte a turn.
--- Assumes nothing.
+-- `put_row` meets its contract: a byte a turn. Assumes nothing.
 use mathlib.Core.Path.{_≡_, subst}
 use mathlib.Core.List.{List}
 use Prim.Native.Nat.{ℕ, _+_, _-_, _*_, _≤_, _<_}

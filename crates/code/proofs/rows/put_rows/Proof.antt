@@ -1,5 +1,4 @@
--- `put_rows` meets its contract: a row a turn.
--- Assumes nothing.
+-- `put_rows` meets its contract: a row a turn. Assumes nothing.
 use mathlib.Core.Path.{_≡_, refl, subst}
 use Prim.Native.Nat.{_+_, _-_, _*_, _≤_, _<_}
 use native.Mathlib.Omega.{arith}

@@ -1,18 +1,18 @@
+-- `encode` meets its contract. Assumes nothing.
 use mathlib.Core.Path.{_≡_, sym}
 use mathlib.Core.Bool.{false}
-use Prim.Native.Nat.{_+_, _*_, _≤_}
+use Prim.Native.Nat.{_+_, _*_}
 use native.Mathlib.Omega.{arith}
+use borrow.Author.Needs.{needs}
 use lib.ListN.{length}
 use lib.Seq.{length-take-le}
 use Rattle.base.proofs.Logic.{told}
 use Rattle.base.specs.Written.{numberOf}
 use Rattle.code.specs.Calls.{badSize, overPlace, misfits}
 use Rattle.code.proofs.CallCases as cases
-use borrow.Author.Needs.{needs}
 use Rattle.code.proofs.sender.encode.Statement.{statement}
 use Rattle.code.proofs.sender.encode.Tie as tie
 
--- BEGIN LEMMAS
 -- what the branches passed have told
 sized : (c : tie.Else1) → badSize (c .before .before .before .before .args .k) ≡ false
 sized c = told (c .before .bad-size .ensures) (c .if1 .left)
@@ -22,8 +22,6 @@ placed c = told (c .before .over-place .ensures) (c .if2 .left)
 
 fitting : (c : tie.Else3) → misfits (length (c .before .before .before .before .before .before .before .before .args .packet .now)) (c .before .before .before .before .before .before .before .before .args .k) (c .before .before .before .before .before .before .before .before .args .c) ≡ false
 fitting c = told (c .before .misfit .ensures) (c .if3 .left)
-
--- END LEMMAS
 
 bad-size-requires : tie.Need-bad-size-requires
 bad-size-requires c κs = search needs

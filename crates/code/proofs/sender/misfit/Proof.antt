@@ -1,7 +1,8 @@
+-- `misfit` meets its contract. Assumes nothing.
 use Prim.Native.Nat.{_*_}
 use borrow.Author.Tests.{lt-ltb, le-ltb}
-use Rattle.code.specs.Calls.{misfits}
 use borrow.Author.Needs.{needs}
+use Rattle.code.specs.Calls.{misfits}
 use Rattle.code.proofs.sender.misfit.Statement.{statement}
 use Rattle.code.proofs.sender.misfit.Tie as tie
 

@@ -1,5 +1,6 @@
-use Rattle.code.proofs.CallCases.{pad-put}
+-- `pad` meets its contract. Assumes nothing.
 use borrow.Author.Needs.{needs}
+use Rattle.code.proofs.CallCases.{pad-put}
 use Rattle.code.proofs.sender.pad.Statement.{statement}
 use Rattle.code.proofs.sender.pad.Tie as tie
 

@@ -1,9 +1,10 @@
+-- `parity` meets its contract. Assumes nothing.
+use borrow.Author.Needs.{needs}
+use lib.ListN.{length}
 use Rattle.base.proofs.Logic.{told}
 use Rattle.base.specs.Written.{numberOf}
 use Rattle.codeword.specs.Code.{parityOf}
 use Rattle.code.proofs.CallCases as cases
-use lib.ListN.{length}
-use borrow.Author.Needs.{needs}
 use Rattle.code.proofs.sender.parity.Statement.{statement}
 use Rattle.code.proofs.sender.parity.Tie as tie
 

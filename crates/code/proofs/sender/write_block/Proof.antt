@@ -1,13 +1,13 @@
+-- `write_block` meets its contract. Assumes nothing.
 use mathlib.Core.Path.{_≡_, sym, ap, _∙_}
-use Prim.Native.Nat.{ℕ, _+_, _-_, _*_, _≤_}
+use Prim.Native.Nat.{ℕ, _-_, _*_, _≤_}
 use native.Mathlib.Omega.{arith}
+use borrow.Author.Needs.{needs}
 use lib.ListN.{length, take}
 use lib.Seq.{length-take-le}
 use Rattle.cut.specs.Block.{padded, blockOf}
-use Rattle.cut.proofs.Blocks.{length-padded}
 use Rattle.codeword.specs.Code.{parityOf}
 use Rattle.code.proofs.CallCases.{pad-take, block-is}
-use borrow.Author.Needs.{needs}
 use Rattle.code.proofs.sender.write_block.Statement.{statement}
 use Rattle.code.proofs.sender.write_block.Tie as tie
 

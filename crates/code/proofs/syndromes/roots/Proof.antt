@@ -1,13 +1,12 @@
--- `roots` meets its contract: a power a turn.
--- Assumes nothing.
+-- `roots` meets its contract: a power a turn. Assumes nothing.
 use mathlib.Core.Path.{_≡_, sym, ap, _∙_}
 use Prim.Native.Nat.{ℕ, suc, _-_, _≤_, _<_}
 use native.Mathlib.Omega.{arith}
 use borrow.Author.Needs.{needs}
 use lib.ListN.{replicate}
 use Rattle.field.specs.Field.{alpha, times2}
+use Rattle.code.specs.Kernel.{rootsList}
 use Rattle.code.proofs.LoopLaws.{Upto, upto-start, upto-more, upto-end}
-use Rattle.code.specs.Kernel.{power, rootsList}
 use Rattle.code.proofs.LaneLaws.{roots-at, length-roots, alpha-next, alpha-0}
 use Rattle.code.proofs.syndromes.roots.Statement.{statement}
 use Rattle.code.proofs.syndromes.roots.Tie as tie

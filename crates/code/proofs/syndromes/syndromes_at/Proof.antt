@@ -1,5 +1,4 @@
--- `syndromes_at` meets its contract: a coefficient a turn.
--- Assumes nothing.
+-- `syndromes_at` meets its contract: a coefficient a turn. Assumes nothing.
 use mathlib.Core.Path.{_≡_, _∙_}
 use mathlib.Core.List.{List}
 use Prim.Native.Nat.{ℕ, _-_, _≤_}
@@ -7,8 +6,8 @@ use native.Mathlib.Omega.{arith}
 use borrow.Author.Needs.{needs}
 use lib.ListN.{length, take, getD}
 use Rattle.codeword.specs.Code.{horner}
-use Rattle.code.specs.Kernel.{Multiples, rootsList}
 use Rattle.code.specs.Words.{table}
+use Rattle.code.specs.Kernel.{Multiples, rootsList}
 use Rattle.code.proofs.LaneLaws.{lane-horner, horner-none, syndromes-all}
 use Rattle.code.proofs.syndromes.syndromes_at.Statement.{statement}
 use Rattle.code.proofs.syndromes.syndromes_at.Tie as tie

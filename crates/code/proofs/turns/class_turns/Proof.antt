@@ -1,5 +1,4 @@
--- `class_turns` meets its contract: a chunk a turn.
--- Assumes nothing.
+-- `class_turns` meets its contract: a chunk a turn. Assumes nothing.
 use mathlib.Core.Path.{_≡_, refl}
 use mathlib.Core.List.{List}
 use Prim.Native.Nat.{ℕ, _+_, _-_, _≤_, _<_}

@@ -1,5 +1,4 @@
--- `classes` meets its contract: a class a turn.
--- Assumes nothing.
+-- `classes` meets its contract: a class a turn. Assumes nothing.
 use mathlib.Core.Path.{_≡_, refl}
 use mathlib.Core.List.{List}
 use Prim.Native.Nat.{ℕ, _-_, _≤_, _<_}

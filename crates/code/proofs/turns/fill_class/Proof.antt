@@ -4,10 +4,10 @@ use Prim.Native.Nat.{ℕ, _+_, _-_, _≤_}
 use native.Mathlib.Omega.{arith}
 use borrow.Author.Needs.{needs}
 use lib.ListN.{length}
-use Rattle.code.specs.Sharing.{locs}
-use Rattle.code.proofs.PartLaws.{room, length-part, mid-part}
 use Rattle.codeword.specs.Erasure.{marks, count}
+use Rattle.code.specs.Sharing.{locs}
 use Rattle.code.specs.Filling.{Pattern}
+use Rattle.code.proofs.PartLaws.{room, length-part, mid-part}
 use Rattle.code.proofs.turns.fill_class.Statement.{statement}
 use Rattle.code.proofs.turns.fill_class.Tie as tie
 

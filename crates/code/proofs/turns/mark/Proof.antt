@@ -1,11 +1,10 @@
--- `mark` meets its contract: an answer a turn.
--- Assumes nothing.
+-- `mark` meets its contract: an answer a turn. Assumes nothing.
 use mathlib.Core.Path.{_≡_, refl, _∙_}
 use Prim.Native.Nat.{ℕ, _-_, _≤_, _<_}
 use native.Mathlib.Omega.{arith}
+use native.Mathlib.Nat.{not-suc-le-zero}
 use borrow.Author.Needs.{needs}
 use lib.ListN.{length, getD, length-set}
-use native.Mathlib.Nat.{not-suc-le-zero}
 use Rattle.code.proofs.PartLaws.{open-more}
 use Rattle.code.proofs.turns.mark.Statement.{statement}
 use Rattle.code.proofs.turns.mark.Tie as tie

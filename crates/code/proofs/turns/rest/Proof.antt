@@ -1,5 +1,4 @@
--- `rest` meets its contract: a chunk a turn.
--- Assumes nothing.
+-- `rest` meets its contract: a chunk a turn. Assumes nothing.
 use mathlib.Core.Path.{_≡_, refl, subst}
 use mathlib.Core.List.{List}
 use Prim.Native.Nat.{ℕ, _-_, _≤_, _<_}

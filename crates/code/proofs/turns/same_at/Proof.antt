@@ -1,10 +1,9 @@
--- `same_at` meets its contract: a byte a turn.
--- Assumes nothing.
+-- `same_at` meets its contract: a byte a turn. Assumes nothing.
 use mathlib.Core.Path.{_≡_}
 use Prim.Native.Nat.{ℕ, _+_, _-_, _≤_, _<_}
+use native.Mathlib.Nat.{not-suc-le-zero}
 use borrow.Author.Needs.{needs}
 use lib.ListN.{length, getD}
-use native.Mathlib.Nat.{not-suc-le-zero}
 use Rattle.code.proofs.PartLaws.{eq-more, eq-end}
 use Rattle.code.proofs.turns.same_at.Statement.{statement}
 use Rattle.code.proofs.turns.same_at.Tie as tie
