@@ -1,5 +1,6 @@
 // Chunks with their parity, one behind the other.
 use crate::register::parity_of;
+use crate::rows::TABLE;
 ghost use mathlib.Core.Path.{_≡_};
 ghost use Prim.Native.Nat.{_+_, _≤_, _<_};
 ghost use lib.ListN.{length};
@@ -8,7 +9,7 @@ ghost use Rattle.code.specs.Kernel.{Made};
 ghost use Rattle.code.specs.Block.{Encoded, EncSized, OneEncoded};
 
 // The chunk of the data bytes d: the data and their parity.
-fn encode_chunk(t: &[u8; 12288], d: &[u8], out: &mut [u8])
+fn encode_chunk(t: &[u8; TABLE], d: &[u8], out: &mut [u8])
     requires { ⌜ (length (now d) ≤ 207) × (length (now out) ≡ length (now d) + 48) × Made (now t) 12288 ⌝ }
     ensures { λ _. ⌜ now (out .exit) ≡ encode (length (now (d .entry))) (now (d .entry)) ⌝ }
 {
@@ -17,7 +18,7 @@ fn encode_chunk(t: &[u8; 12288], d: &[u8], out: &mut [u8])
     base::put(out, d.len(), &p);
 }
 
-fn encode_one(t: &[u8; 12288], k: usize, c: usize, src: &[u8], out: &mut [u8], j: usize)
+fn encode_one(t: &[u8; TABLE], k: usize, c: usize, src: &[u8], out: &mut [u8], j: usize)
     requires { ⌜ EncSized k c (now src) (now out) × (j < c) × Made (now t) 12288 ⌝ }
     ensures { λ _. ⌜ OneEncoded k c j (now (src .entry)) (now (out .entry)) (now (out .exit)) ⌝ }
 {
@@ -30,7 +31,7 @@ fn encode_one(t: &[u8; 12288], k: usize, c: usize, src: &[u8], out: &mut [u8], j
 }
 
 // THE BLOCK'S ENCODER: c chunks of k data bytes each.
-pub fn encode_block(t: &[u8; 12288], k: usize, c: usize, src: &[u8], out: &mut [u8])
+pub fn encode_block(t: &[u8; TABLE], k: usize, c: usize, src: &[u8], out: &mut [u8])
     requires { ⌜ EncSized k c (now src) (now out) × Made (now t) 12288 ⌝ }
     ensures { λ _. ⌜ Encoded k c (now (src .entry)) (now (out .exit)) ⌝ }
 {

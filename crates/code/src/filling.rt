@@ -9,6 +9,7 @@ use crate::products::dot;
 use crate::products::lanes;
 use crate::products::twice;
 use crate::register::remainder_of;
+use crate::rows::TABLE;
 use crate::syndromes::syndromes_at;
 ghost use mathlib.Core.Path.{_≡_};
 ghost use Prim.Native.Nat.{_+_, _≤_, _<_};
@@ -63,7 +64,7 @@ fn is_zero(r: [u8; 48]) -> bool
 
 // The missing bytes, which are 0 in c, put in.
 fn put_in(
-    t: &[u8; 12288],
+    t: &[u8; TABLE],
     rk: &[u8; 384],
     q: &[u8; 2304],
     sc: &[u8; 384],
@@ -83,7 +84,7 @@ fn put_in(
 
 // One of the chunks that miss the same places.
 pub fn fill_shared(
-    t: &[u8; 12288],
+    t: &[u8; TABLE],
     rk: &[u8; 384],
     q: &[u8; 2304],
     sc: &[u8; 384],
@@ -106,7 +107,7 @@ pub fn fill_shared(
 }
 
 // THE DECODER: the missing bytes of a chunk of k data bytes and 48 parity bytes, with the table t and the multiples rk of the roots.
-pub fn fill_alone(t: &[u8; 12288], rk: &[u8; 384], k: usize, mask: &[u8], c: &mut [u8]) -> Answer
+pub fn fill_alone(t: &[u8; TABLE], rk: &[u8; 384], k: usize, mask: &[u8], c: &mut [u8]) -> Answer
     requires { ⌜ (k ≤ 207) × (length (now mask) ≡ k + 48) × (length (now c) ≡ k + 48) × Made (now t) 12288 × Multiples rootsList (now rk) ⌝ }
     ensures { λ r. ⌜ Fills k (now (mask .entry)) (now (c .entry)) (now (c .exit)) r ⌝ }
 {

@@ -1,11 +1,13 @@
 // All chunks of a block.
 use crate::cells::mark_lost;
 use crate::masks::clear;
+use crate::rows::TABLE;
 use crate::rows::make_table;
 use crate::syndromes::make_roots;
 use crate::turns::fill_block;
 use base::MOST_F;
 use base::PARITY;
+use base::PLACE;
 ghost use mathlib.Core.Path.{_≡_};
 ghost use Prim.Native.Nat.{_+_, _*_, _<_};
 ghost use lib.ListN.{length};
@@ -32,7 +34,7 @@ fn mend_by(k: usize, mask: &[u8], hop: usize, block: &mut [u8], ans: &mut [u8]) 
     requires { ⌜ Ready k (now mask) (length (now ans)) (now block) × (0 < hop) ⌝ }
     ensures { λ r. ⌜ (length (now (block .exit)) ≡ length (now (block .entry))) × Mended k (now (mask .entry)) (length (now (ans .entry))) (now (block .entry)) (now (block .exit)) r ⌝ }
 {
-    let mut t = [0u8; 12288];
+    let mut t = [0u8; TABLE];
     make_table(&mut t);
     let rk = make_roots();
     fill_block(&t, &rk, k, mask, block, ans, hop);
@@ -48,7 +50,7 @@ pub fn mend(kept: [bool; MOST_F], f: usize, k: usize, c: usize, block: &mut [u8]
     requires { ⌜ Holds kept f k c (now block) ⌝ }
     ensures { λ r. ⌜ (length (now (block .exit)) ≡ length (now (block .entry))) × Mended k (lostCells kept f 0 (c * (k + 48))) c (now (block .entry)) (now (block .exit)) r ⌝ }
 {
-    let mut mask = [0u8; 12288];
+    let mut mask = [0u8; PLACE];
     let all = c * (k + PARITY);
     mark_lost(kept, f, all, &mut mask);
     let mut ans = [0u8; 256];

@@ -4,6 +4,7 @@ use crate::Filled;
 use crate::bad_size;
 use crate::filling::fill_alone;
 use crate::mending::mend;
+use crate::rows::TABLE;
 use crate::rows::make_table;
 use crate::syndromes::make_roots;
 use base::MOST_F;
@@ -44,7 +45,7 @@ pub fn fill_chunk(k: usize, mask: &[u8], chunk: &mut [u8]) -> Filled
     if bad_pair(k, mask.len(), chunk.len()) {
         return Filled::Refused(8);
     }
-    let mut t = [0u8; 12288];
+    let mut t = [0u8; TABLE];
     make_table(&mut t);
     let rk = make_roots();
     told(fill_alone(&t, &rk, k, mask, chunk))

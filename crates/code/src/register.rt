@@ -1,4 +1,5 @@
 // The register of the encoder, eight bytes a step, and what the generator leaves of a chunk.
+use crate::rows::TABLE;
 ghost use mathlib.Core.Path.{_≡_};
 ghost use Prim.Native.Nat.{_+_, _≤_, _<_};
 ghost use lib.ListN.{length, take, drop, replicate};
@@ -24,7 +25,7 @@ fn shifted8(p: [u8; 48]) -> [u8; 48]
 }
 
 // q + x times the power n
-fn byte_in(q: &mut [u8; 48], t: &[u8; 12288], x: u8, n: usize)
+fn byte_in(q: &mut [u8; 48], t: &[u8; TABLE], x: u8, n: usize)
     requires { ⌜ (n < 8) × (length (now q) ≡ 48) × Made (now t) 12288 ⌝ }
     ensures { λ _. ⌜ now (q .exit) ≡ plus x (power n) (now (q .entry)) ⌝ }
 {
@@ -36,7 +37,7 @@ fn byte_in(q: &mut [u8; 48], t: &[u8; 12288], x: u8, n: usize)
 }
 
 // The register takes in the eight bytes of d from at on.
-fn eight(t: &[u8; 12288], p: [u8; 48], d: &[u8; 208], at: usize) -> [u8; 48]
+fn eight(t: &[u8; TABLE], p: [u8; 48], d: &[u8; 208], at: usize) -> [u8; 48]
     requires { ⌜ (at ≤ 200) × (length (now d) ≡ 208) × Made (now t) 12288 ⌝ }
     ensures { λ r. ⌜ r ≡ run p (take 8 (drop at (now (d .entry)))) ⌝ }
 {
@@ -48,7 +49,7 @@ fn eight(t: &[u8; 12288], p: [u8; 48], d: &[u8; 208], at: usize) -> [u8; 48]
 }
 
 // The register after the 208 bytes of d.
-fn register(t: &[u8; 12288], d: &[u8; 208]) -> [u8; 48]
+fn register(t: &[u8; TABLE], d: &[u8; 208]) -> [u8; 48]
     requires { ⌜ (length (now d) ≡ 208) × Made (now t) 12288 ⌝ }
     ensures { λ r. ⌜ r ≡ run (replicate 48 0) (now (d .entry)) ⌝ }
 {
@@ -74,7 +75,7 @@ fn lay(d: &[u8]) -> [u8; 208]
 }
 
 // THE ENCODER: the parity of the data bytes, with the table t.
-pub fn parity_of(t: &[u8; 12288], d: &[u8]) -> [u8; 48]
+pub fn parity_of(t: &[u8; TABLE], d: &[u8]) -> [u8; 48]
     requires { ⌜ (length (now d) ≤ 207) × Made (now t) 12288 ⌝ }
     ensures { λ r. ⌜ r ≡ parity (length (now (d .entry))) (now (d .entry)) ⌝ }
 {
@@ -93,7 +94,7 @@ fn summed(p: [u8; 48], c: &[u8], k: usize) -> [u8; 48]
     q
 }
 
-pub fn remainder_of(t: &[u8; 12288], k: usize, c: &[u8]) -> [u8; 48]
+pub fn remainder_of(t: &[u8; TABLE], k: usize, c: &[u8]) -> [u8; 48]
     requires { ⌜ (k ≤ 207) × (length (now c) ≡ k + 48) × Made (now t) 12288 ⌝ }
     ensures { λ r. ⌜ Left k (now (c .entry)) r ⌝ }
 {

@@ -6,6 +6,9 @@ ghost use lib.ListN.{length};
 ghost use Rattle.codeword.specs.Code.{generator, step};
 ghost use Rattle.code.specs.Kernel.{shift, power, factorOf, Made, RowOf};
 
+// The bytes of the table: eight powers, 32 rows each, 48 bytes a row.
+pub const TABLE: usize = 12288;
+
 const GENERATOR: [u8; 48] = [
     122,
     12,
@@ -92,7 +95,7 @@ fn factor(u: usize) -> u8
     }
 }
 
-fn put_row(t: &mut [u8; 12288], r: usize, row: [u8; 48])
+fn put_row(t: &mut [u8; TABLE], r: usize, row: [u8; 48])
     requires { ⌜ (r < 256) × (length (now t) ≡ 12288) × Made (now t) (r * 48) × RowOf row r ⌝ }
     ensures { λ _. ⌜ (length (now (t .exit)) ≡ 12288) × Made (now (t .exit)) (r * 48 + 48) ⌝ }
 {
@@ -103,7 +106,7 @@ fn put_row(t: &mut [u8; 12288], r: usize, row: [u8; 48])
 }
 
 // The 32 rows of the power n.
-fn put_rows(t: &mut [u8; 12288], n: usize, b: [u8; 48])
+fn put_rows(t: &mut [u8; TABLE], n: usize, b: [u8; 48])
     requires { ⌜ (n < 8) × (b ≡ power n) × (length (now t) ≡ 12288) × Made (now t) (n * 1536) ⌝ }
     ensures { λ _. ⌜ (length (now (t .exit)) ≡ 12288) × Made (now (t .exit)) (n * 1536 + 1536) ⌝ }
 {
@@ -113,7 +116,7 @@ fn put_rows(t: &mut [u8; 12288], n: usize, b: [u8; 48])
     }
 }
 
-pub fn make_table(t: &mut [u8; 12288])
+pub fn make_table(t: &mut [u8; TABLE])
     requires { ⌜ length (now t) ≡ 12288 ⌝ }
     ensures { λ _. ⌜ Made (now (t .exit)) 12288 ⌝ }
 {

@@ -2,6 +2,7 @@
 use crate::bad_size;
 use crate::blocks::encode_block;
 use crate::register::parity_of;
+use crate::rows::TABLE;
 use crate::rows::make_table;
 use base::PARITY;
 use base::PLACE;
@@ -23,7 +24,7 @@ pub fn parity(chunk: &[u8], out: &mut [u8]) -> Written
     if bad_size(chunk.len()) {
         return Written::Refused(8);
     }
-    let mut t = [0u8; 12288];
+    let mut t = [0u8; TABLE];
     make_table(&mut t);
     let p = parity_of(&t, chunk);
     base::put(out, 0, &p)
@@ -52,11 +53,11 @@ fn misfit(l: usize, k: usize, c: usize) -> bool
 }
 
 // The packet, and zeros up to a place's end.
-fn pad(packet: &[u8]) -> [u8; 12288]
+fn pad(packet: &[u8]) -> [u8; PLACE]
     requires { ⌜ length (now packet) ≤ place ⌝ }
     ensures { λ r. ⌜ r ≡ padded (now (packet .entry)) (place - length (now (packet .entry))) ⌝ }
 {
-    let mut w = [0u8; 12288];
+    let mut w = [0u8; PLACE];
     base::put(&mut w, 0, packet);
     w
 }
@@ -66,7 +67,7 @@ fn write_block(packet: &[u8], k: usize, c: usize, out: &mut [u8])
     requires { ⌜ (k ≤ most-k) × (length (now packet) ≤ c * k) × (c * k ≤ place) × (length (now out) ≡ c * (k + 48)) ⌝ }
     ensures { λ _. ⌜ now (out .exit) ≡ blockOf parityOf (padded (now (packet .entry)) (c * k - length (now (packet .entry)))) k c ⌝ }
 {
-    let mut t = [0u8; 12288];
+    let mut t = [0u8; TABLE];
     make_table(&mut t);
     let w = pad(packet);
     let a = c * k;

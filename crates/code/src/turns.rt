@@ -5,6 +5,7 @@ use crate::filling::fill_shared;
 use crate::masks::locators_of;
 use crate::masks::missing_count;
 use crate::pattern::pattern;
+use crate::rows::TABLE;
 ghost use mathlib.Core.Path.{_≡_};
 ghost use Prim.Native.Nat.{_+_, _≤_, _<_};
 ghost use lib.ListN.{length, take, drop, getD};
@@ -24,7 +25,7 @@ fn number(a: Answer) -> u8
 
 // The chunk j by itself.
 fn fill_one(
-    t: &[u8; 12288],
+    t: &[u8; TABLE],
     rk: &[u8; 384],
     k: usize,
     mask: &[u8],
@@ -44,7 +45,7 @@ fn fill_one(
 
 // The chunk j, with what it shares.
 fn fill_same(
-    t: &[u8; 12288],
+    t: &[u8; TABLE],
     rk: &[u8; 384],
     q: &[u8; 2304],
     sc: &[u8; 384],
@@ -89,7 +90,7 @@ fn mark(ans: &mut [u8])
 
 // The chunk j, if its answer is open and it misses what the chunk `from` misses.
 fn turn(
-    t: &[u8; 12288],
+    t: &[u8; TABLE],
     rk: &[u8; 384],
     q: &[u8; 2304],
     sc: &[u8; 384],
@@ -114,7 +115,7 @@ fn turn(
 
 // The chunks from, from + hop, ..: those that miss what the chunk `from` misses.
 fn class_turns(
-    t: &[u8; 12288],
+    t: &[u8; TABLE],
     rk: &[u8; 384],
     q: &[u8; 2304],
     sc: &[u8; 384],
@@ -146,7 +147,7 @@ fn next(j: usize, hop: usize, n: usize) -> usize
 }
 
 fn fill_class(
-    t: &[u8; 12288],
+    t: &[u8; TABLE],
     rk: &[u8; 384],
     k: usize,
     mask: &[u8],
@@ -171,7 +172,7 @@ fn fill_class(
 }
 
 fn classes(
-    t: &[u8; 12288],
+    t: &[u8; TABLE],
     rk: &[u8; 384],
     k: usize,
     mask: &[u8],
@@ -194,7 +195,7 @@ fn classes(
 }
 
 // The chunks whose answers are open still.
-fn rest(t: &[u8; 12288], rk: &[u8; 384], k: usize, mask: &[u8], blk: &mut [u8], ans: &mut [u8])
+fn rest(t: &[u8; TABLE], rk: &[u8; 384], k: usize, mask: &[u8], blk: &mut [u8], ans: &mut [u8])
     requires { ⌜ Sized k (now mask) (now blk) (now ans) × Made (now t) 12288 × Multiples rootsList (now rk) ⌝ }
     ensures { λ _. ⌜ Later k (now (mask .entry)) (now (blk .entry)) (now (ans .entry)) (now (blk .exit)) (now (ans .exit)) × AllDone (now (ans .exit)) (length (now (ans .exit))) ⌝ }
 {
@@ -207,7 +208,7 @@ fn rest(t: &[u8; 12288], rk: &[u8; 384], k: usize, mask: &[u8], blk: &mut [u8], 
 }
 
 fn last_turn(
-    t: &[u8; 12288],
+    t: &[u8; TABLE],
     rk: &[u8; 384],
     k: usize,
     mask: &[u8],
@@ -225,7 +226,7 @@ fn last_turn(
 
 // THE BLOCK'S DECODER: a number for each chunk's answer. Chunks that lie hop apart and miss the same places share what these need.
 pub fn fill_block(
-    t: &[u8; 12288],
+    t: &[u8; TABLE],
     rk: &[u8; 384],
     k: usize,
     mask: &[u8],
