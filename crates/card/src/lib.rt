@@ -11,7 +11,7 @@ fn written_number(w: Written) -> usize
 {
     match w {
         Written::Done => 0,
-        Written::Refused(n) => 0,
+        Written::Refused(n) => n as usize,
     }
 }
 
