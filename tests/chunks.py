@@ -5,9 +5,12 @@
 A chunk of the code is a row's data and parity. Whatever stands in the places of up to 48 missing bytes, the chunk itself has to come
 back, for any two chunks of the code of one length differ in at least 49 places. For the same reason no chunk of the code has the bytes that
 are there where one of them is wrong and up to 47 are missing: it would differ from the row's chunk in at most 48 places. With 48
-missing and one wrong another chunk may fit, so this is not asked.
+missing and one wrong another chunk fits, which `solved` works out by elimination from the roots of the code.
 """
+import functools
 import pathlib
+
+import fields
 
 HERE = pathlib.Path(__file__).resolve().parent
 PARITY = 48  # parity bytes behind each chunk
@@ -49,6 +52,49 @@ def damaged(whole, missing, wrong=()):
     return bytes(given)
 
 
+times = functools.cache(fields.times)
+power = functools.cache(fields.power)
+
+
+@functools.cache
+def inverse(a):
+    return next(b for b in range(256) if times(a, b) == 1)
+
+
+def conditions(k, missing, given):
+    """One row for each root: the coefficients of the missing bytes, and behind them the value at the root of the bytes that are there.
+    The data are the coefficients of x^254 downward, the parity those of x^47 downward (document 01, "The code")."""
+    n = k + PARITY
+    degree = [254 - place if place < k else n - 1 - place for place in range(n)]
+    for root in range(1, PARITY + 1):
+        at = [power(root * d) for d in degree]
+        there = 0
+        for place in set(range(n)) - set(missing):
+            there ^= times(given[place], at[place])
+        yield [at[place] for place in missing] + [there]
+
+
+def eliminated(rows):
+    """The solution of as many linear equations as there are unknowns; a row ends in its constant."""
+    for i in range(len(rows)):
+        pivot = next(r for r in range(i, len(rows)) if rows[r][i])
+        rows[i], rows[pivot] = rows[pivot], rows[i]
+        scale = inverse(rows[i][i])
+        rows[i] = [times(scale, x) for x in rows[i]]
+        for r in range(len(rows)):
+            if r != i and rows[r][i]:
+                rows[r] = [x ^ times(rows[r][i], y) for x, y in zip(rows[r], rows[i])]
+    return [row[-1] for row in rows]
+
+
+def solved(k, missing, given):
+    """The one chunk of the code that has the bytes of `given`, where 48 are missing."""
+    whole = bytearray(given)
+    for place, byte in zip(missing, eliminated(list(conditions(k, missing, given)))):
+        whole[place] = byte
+    return bytes(whole)
+
+
 def spread(n, count, first=0):
     """Some places of n, spread over all of it and not in order; no two are the same, for the step is a prime that does not divide n."""
     step = next(s for s in (7, 17) if n % s)
@@ -87,6 +133,15 @@ def refused_questions():
             yield fill(k, missing, damaged(whole, missing, [wrong])), "none"
 
 
+def other_questions():
+    for k, missing in ((1, list(range(48))), (100, spread(148, 48)), (205, list(range(181, 229))), (207, list(range(207, 255)))):
+        whole = chunk(k)
+        assert solved(k, missing, damaged(whole, missing)) == whole, k  # the elimination, held against the peer's parity
+        wrong = next(place for place in range(k + PARITY)[::-1] if place not in missing)
+        given = damaged(whole, missing, [wrong])
+        yield fill(k, missing, given), "filled " + solved(k, missing, given).hex()
+
+
 def malformed_questions():
     one = chunk(1).hex()
     two = chunk(2).hex()
@@ -105,7 +160,8 @@ def malformed_questions():
 
 
 PARTS = (("parities, of parity.txt", parity_questions), ("chunks that are filled in", filled_questions),
-         ("too many bytes missing, and a wrong byte", refused_questions), ("malformed questions on chunks", malformed_questions))
+         ("too many bytes missing, and a wrong byte", refused_questions),
+         ("48 bytes missing and a wrong one: another chunk fits", other_questions), ("malformed questions on chunks", malformed_questions))
 
 
 if __name__ == "__main__":
