@@ -66,17 +66,18 @@ fn fill_same(
     ans[j] = number(r);
 }
 
-// Whether the parts at a and at b of the mask are the same.
+// Whether the parts at a and at b of the mask are the same. All bytes are compared, with no way out early, so that many go at a time.
 fn same_at(mask: &[u8], a: usize, b: usize, n: usize) -> bool
     requires { ⌜ (a + n ≤ length (now mask)) × (b + n ≤ length (now mask)) ⌝ }
     ensures { λ r. ⌜ SameTest r (take n (drop a (now (mask .entry)))) (take n (drop b (now (mask .entry)))) ⌝ }
 {
+    let mut same = true;
     for x in 0..n {
         if mask[a + x] != mask[b + x] {
-            return false;
+            same = false;
         }
     }
-    true
+    same
 }
 
 fn mark(ans: &mut [u8])
