@@ -2,9 +2,8 @@
 use mathlib.Core.Path.{_≡_, refl, sym, ap, ap₂, _∙_, subst}
 use mathlib.Core.Bool.{Bool, true, false, not, cond}
 use mathlib.Core.List.{List, [], _∷_, _++_}
-use Prim.Native.Nat.{ℕ, zero, suc, _+_, _-_, _*_, _/_, _%_, _≤_, _<_}
-use native.Mathlib.Nat.{suc-mod, mod-self, mod-eq-of-lt, mod-lt, div-add-mod', div-lt-iff-lt-mul, zero-add, suc-inj, suc-ne-zero}
-use native.Mathlib.Numerals.{add-one}
+use Prim.Native.Nat.{ℕ, zero, suc, _+_, _*_, _/_, _%_, _≤_, _<_}
+use native.Mathlib.Nat.{add-mod, add-mod-right, mod-eq-of-lt, mod-lt, div-add-mod', div-lt-iff-lt-mul, zero-add, suc-inj, suc-ne-zero}
 use native.Mathlib.Decide.{decLt}
 use native.Mathlib.Omega.{arith}
 use borrow.Author.Tests.{lt-ltb, le-ltb}
@@ -13,11 +12,13 @@ use lib.ListN.{length, take, drop, getD, length-append, length-drop, take-append
 use lib.Seq.{ext-getD, length-take-le, take-append-le, drop-append-le, drop-at}
 use Rattle.base.specs.Bounds.{parity}
 use Rattle.base.specs.Table.{table}
+use Rattle.base.specs.Bytes.{splice}
 use Rattle.base.specs.Tests.{first}
 use Rattle.base.specs.Answer.{granted, refused, answered}
 use Rattle.base.proofs.Firsts.{due, skip, none-due, clear, clear-rest}
 use Rattle.base.proofs.Logic.{clash}
-use Rattle.base.proofs.Tables.{length-table, at-table}
+use Rattle.base.proofs.Splice.{splice-next}
+use Rattle.base.proofs.Tables.{length-table, at-table, table-add}
 use Rattle.cut.specs.Block.{chunkOf}
 use Rattle.cut.specs.Missing.{bit, gone, missing, suffice}
 use Rattle.cut.specs.Sizes.{receivedC}
@@ -34,26 +35,15 @@ use Rattle.code.proofs.FillLaws.{erase-twice}
 use Rattle.code.proofs.MaskLaws.{erase-at, length-marks}
 use Rattle.code.proofs.PartLaws.{room, length-part, part-at}
 
--- ---- the fragment of the next cell
+-- ---- a row: one cell of each fragment
 
-module _ (q f i : ℕ) (below : i < f) (here : i ≡ q % f) where
-  next-is : (q + 1) % f ≡ suc i % f
-  next-is = ap (λ (x : ℕ). x % f) (add-one q) ∙ suc-mod q f ∙ ap (λ (x : ℕ). suc x % f) (sym here)
+module _ (q f : ℕ) (here : q % f ≡ 0) where
+  pub in-row : (i : ℕ) → i < f → (q + i) % f ≡ i
+  in-row i below =
+      add-mod q i f ∙ ap₂ (λ (x y : ℕ). (x + y) % f) here (mod-eq-of-lt below) ∙ ap (λ (x : ℕ). x % f) (zero-add i) ∙ mod-eq-of-lt below
 
-  pub round : f - i ≡ 1 → 0 ≡ (q + 1) % f
-  round e =
-      let last : suc i ≡ f = omega arith in
-      sym (next-is ∙ ap (λ (x : ℕ). x % f) last ∙ mod-self f)
-
-  pub onward : (f - i ≡ 1 → ⊥) → i + 1 ≡ (q + 1) % f
-  onward e =
-      let more : suc i < f = far (f - i) refl e in
-      add-one i ∙ sym (next-is ∙ mod-eq-of-lt more)
-    where
-      far : (d : ℕ) → d ≡ f - i → (f - i ≡ 1 → ⊥) → suc i < f
-      far zero w e = absurd (omega arith)
-      far (suc zero) w e = absurd (e (sym w))
-      far (suc (suc d)) w e = omega arith
+  pub next-row : (q + f) % f ≡ 0
+  next-row = add-mod-right q f ∙ here
 
 -- ---- the cells that are lost
 
@@ -66,6 +56,15 @@ module _ (kept : List Bool) (f : ℕ) where
   pub length-lost : (a n : ℕ) → length (lostCells kept f a n) ≡ n
   unfolding lostCells
   length-lost a n = length-table (λ q. bit (gone (notKept kept) f q)) a n
+
+  -- cells behind the first q of a buffer
+  pub lost-on : (d : List ℕ) (q m : ℕ) {x y : List ℕ} → x ≡ splice d 0 (lostCells kept f 0 q) → y ≡ splice x q (lostCells kept f q m)
+      → y ≡ splice d 0 (lostCells kept f 0 (q + m))
+  unfolding lostCells
+  lost-on d q m ex ey =
+      let rule : ℕ → ℕ = λ q. bit (gone (notKept kept) f q) in
+      ey ∙ ap (λ (l : List ℕ). splice l q (table rule q m)) ex ∙ splice-next d (table rule 0 q) (table rule q m) q (length-table rule 0 q)
+      ∙ ap (splice d 0) (ap (λ (z : ℕ). table rule 0 q ++ table rule z m) (sym (zero-add q)) ∙ sym (table-add rule 0 q m))
 
   count-lost : (a n : ℕ) → count (marks (lostCells kept f a n)) ≡ Rattle.cut.specs.Missing.count (gone (notKept kept) f) a n
   unfolding lostCells table marks count Rattle.cut.specs.Missing.count

@@ -2,7 +2,7 @@
 use base::MOST_F;
 ghost use mathlib.Core.Path.{_≡_};
 ghost use mathlib.Core.Bool.{not};
-ghost use Prim.Native.Nat.{ℕ, _+_, _%_, _≤_, _<_};
+ghost use Prim.Native.Nat.{_+_, _%_, _≤_, _<_};
 ghost use lib.ListN.{length};
 ghost use Rattle.base.specs.Bounds.{most-f};
 ghost use Rattle.base.specs.Bytes.{splice};
@@ -16,24 +16,26 @@ fn lost(kept: bool) -> u8
     if kept { 0 } else { 1 }
 }
 
-// The fragment of the next cell.
-fn following(i: usize, f: usize) -> usize
-    requires { ⌜ i < f ⌝ }
-    ensures { λ r. ⌜ (r < f) × ((q : ℕ) → i ≡ q % f → r ≡ (q + 1) % f) ⌝ }
+// The masks of the m cells from `at` on, the first of a row: one cell of each fragment.
+fn mark_row(kept: &[bool; MOST_F], f: usize, at: usize, m: usize, mask: &mut [u8])
+    requires { ⌜ (at % f ≡ 0) × (m ≤ f) × (f ≤ most-f) × (at + m ≤ length (now mask)) ⌝ }
+    ensures { λ _. ⌜ now (mask .exit) ≡ splice (now (mask .entry)) at (lostCells (now (kept .entry)) f at m) ⌝ }
 {
-    if f - i == 1 { 0 } else { i + 1 }
+    for i in 0..m {
+        mask[at + i] = lost(kept[i]);
+    }
 }
 
-// The masks of the first n cells: 1 where the cell's fragment is not kept. No cell costs a division.
+// The masks of the first n cells: 1 where the cell's fragment is not kept. Whole rows and the rest: no cell costs a division, and none
+// waits for the one before.
 pub fn mark_lost(kept: [bool; MOST_F], f: usize, n: usize, mask: &mut [u8])
     requires { ⌜ (0 < f) × (f ≤ most-f) × (n ≤ length (now mask)) ⌝ }
     ensures { λ _. ⌜ now (mask .exit) ≡ splice (now (mask .entry)) 0 (lostCells kept f 0 n) ⌝ }
 {
-    let mut i = 0;
     let mut q = 0;
-    while q < n {
-        mask[q] = lost(kept[i]);
-        i = following(i, f);
-        q += 1;
+    while f <= n - q {
+        mark_row(&kept, f, q, f, mask);
+        q += f;
     }
+    mark_row(&kept, f, q, n - q, mask);
 }

@@ -1,43 +1,32 @@
--- `mark_lost` meets its contract. Assumes nothing.
-use mathlib.Core.Path.{_≡_, sym, ap, _∙_}
-use mathlib.Core.Bool.{Bool, false, not}
-use mathlib.Core.List.{List}
-use Prim.Native.Nat.{ℕ, _-_, _%_, _≤_, _<_}
-use native.Mathlib.Nat.{zero-add, zero-mod}
+-- `mark_lost` meets its contract: a row a turn, and the rest. Assumes nothing.
+use mathlib.Core.Path.{_≡_, refl, ap, _∙_}
+use Prim.Native.Nat.{ℕ, _+_, _-_, _%_, _≤_, _<_}
+use native.Mathlib.Nat.{zero-mod}
 use native.Mathlib.Omega.{arith}
 use borrow.Author.Needs.{needs}
-use lib.ListN.{length, getD}
+use lib.ListN.{length}
 use Rattle.base.specs.Bytes.{splice}
-use Rattle.base.proofs.Tables.{filled-none, filled-more}
-use Rattle.cut.specs.Missing.{bit}
+use Rattle.base.proofs.Tables.{filled-none}
 use Rattle.code.specs.Calls.{lostCells}
+use Rattle.code.proofs.CellLaws.{next-row, lost-on}
 use Rattle.code.proofs.cells.mark_lost.Statement.{statement}
 use Rattle.code.proofs.cells.mark_lost.Tie as tie
 
-abbrev rule : List Bool → ℕ → ℕ → ℕ
-rule kept f q = bit (not (getD kept (q % f) false))
-
 abbrev Inv-loop : tie.InvT-loop
-Inv-loop f n mask₀ kept i₀ q₀ mask i q = (0 < f) × (f ≤ 256) × (n ≤ length mask₀) × (q ≤ n) × (i < f) × (i ≡ q % f) × (length mask ≡ length mask₀) × (mask ≡ splice mask₀ 0 (lostCells kept f 0 q))
+Inv-loop f n mask₀ kept q₀ mask q = (0 < f) × (f ≤ 256) × (n ≤ length mask₀) × (q ≤ n) × (q % f ≡ 0) × (length mask ≡ length mask₀) × (mask ≡ splice mask₀ 0 (lostCells kept f 0 q))
 
 abbrev μ-loop : tie.MeasureT-loop
-μ-loop f n mask₀ kept i₀ q₀ mask i q = n - q
+μ-loop f n mask₀ kept q₀ mask q = n - q
 
 loop-holds : tie.Need-loop-holds Inv-loop μ-loop
 unfolding lostCells
-loop-holds c = (c .before .pre .0, c .before .pre .1, c .before .pre .2, search needs, search needs, sym (zero-mod (c .before .args .f)), search needs, filled-none _ 0 (c .before .args .mask .now) 0)
+loop-holds c = (c .before .pre .0, c .before .pre .1, c .before .pre .2, search needs, zero-mod (c .before .args .f), refl, filled-none _ 0 (c .before .args .mask .now) 0)
 
-array-read-lost : tie.Need-array-read-lost Inv-loop μ-loop
-array-read-lost c = search needs
+sub-loop : tie.Need-sub-loop Inv-loop μ-loop
+sub-loop c = search needs
 
-lost-requires : tie.Need-lost-requires Inv-loop μ-loop
-lost-requires c κs = search needs
-
-slice-write-mask : tie.Need-slice-write-mask Inv-loop μ-loop
-slice-write-mask c = search needs
-
-following-requires : tie.Need-following-requires Inv-loop μ-loop
-following-requires c κs = c .before .before .loop .inv .4
+mark-row-requires : tie.Need-mark-row-requires Inv-loop μ-loop
+mark-row-requires c κs = (c .before .before .before .loop .inv .4, search needs, c .before .before .before .loop .inv .1, omega (arith, c .before .before .before .loop .inv .2, c .before .before .before .loop .inv .3, c .before .before .before .loop .inv .5, c .before .before .loop-test .taken))
 
 add-q : tie.Need-add-q Inv-loop μ-loop
 add-q c = search needs
@@ -46,19 +35,28 @@ loop-less : tie.Need-loop-less Inv-loop μ-loop
 loop-less c = search needs
 
 loop-again : tie.Need-loop-again Inv-loop μ-loop
-unfolding lostCells
 loop-again c =
-    let I = c .before .before .before .loop .inv in
-    let q = c .before .before .before .loop .q in
-    (I .0, I .1, I .2, search needs, c .following .ensures .0, c .following .ensures .1 q (I .5), search needs, filled-more (rule (c .before .before .before .before .before .args .t1) (c .before .before .before .before .before .args .f)) 0 (c .before .before .before .before .before .args .mask .now) 0 q (I .7) (sym (zero-add q)) (c .before .lost .ensures ∙ ap (λ (x : ℕ). bit (not (getD (c .before .before .before .before .before .args .t1) x false))) (I .5 ∙ ap (λ (x : ℕ). x % c .before .before .before .before .before .args .f) (sym (zero-add q)))) (omega (arith, I .2, c .before .before .loop-test .taken)))
+    let I = c .before .before .before .before .before .before .loop .inv in
+    let q : ℕ = c .before .before .before .before .before .before .loop .q in
+    let f : ℕ = c .before .before .before .before .before .before .before .before .args .f in
+    (I .0, I .1, I .2, omega (arith, I .3, c .before .before .before .before .before .loop-test .taken), next-row q f (I .4), search needs, lost-on (c .before .before .before .before .before .before .before .before .args .t1) f (c .before .before .before .before .before .before .before .before .args .mask .now) q f (I .6) (c .before .before .mark-row .ensures))
+
+sub-mark-row : tie.Need-sub-mark-row Inv-loop μ-loop
+sub-mark-row c = search needs
+
+mark-row-requires-2 : tie.Need-mark-row-requires-2 Inv-loop μ-loop
+mark-row-requires-2 c κs = (c .before .before .before .loop .inv .4, omega (arith, c .before .before .loop-test .left), c .before .before .before .loop .inv .1, omega (arith, c .before .before .before .loop .inv .2, c .before .before .before .loop .inv .3, c .before .before .before .loop .inv .5))
 
 same-length : tie.Need-same-length Inv-loop μ-loop
-same-length c = c .before .loop .inv .6
+same-length c = search needs
 
 returns : tie.Need-returns Inv-loop μ-loop
 returns c =
-    let e : c .before .loop .q ≡ c .before .before .before .args .n = omega (arith, c .before .loop .inv .3, c .loop-test .left) in
-    c .before .loop .inv .7 ∙ ap (λ (x : ℕ). splice (c .before .before .before .args .mask .now) 0 (lostCells (c .before .before .before .args .t1) (c .before .before .before .args .f) 0 x)) e
+    let I = c .before .before .before .before .before .before .loop .inv in
+    let q : ℕ = c .before .before .before .before .before .before .loop .q in
+    let n : ℕ = c .before .before .before .before .before .before .before .before .args .n in
+    let e : q + (n - q) ≡ n = omega (arith, I .3) in
+    lost-on (c .before .before .before .before .before .before .before .before .args .t1) (c .before .before .before .before .before .before .before .before .args .f) (c .before .before .before .before .before .before .before .before .args .mask .now) q (n - q) (I .6) (c .before .before .mark-row2 .ensures) ∙ ap (λ (x : ℕ). splice (c .before .before .before .before .before .before .before .before .args .mask .now) 0 (lostCells (c .before .before .before .before .before .before .before .before .args .t1) (c .before .before .before .before .before .before .before .before .args .f) 0 x)) e
 
 pub mark-lost-spec : {M : Type 1} → statement M
 mark-lost-spec =
@@ -67,12 +65,12 @@ mark-lost-spec =
     Inv-loop
     μ-loop
     loop-holds
-    array-read-lost
-    lost-requires
-    slice-write-mask
-    following-requires
+    sub-loop
+    mark-row-requires
     add-q
     loop-less
     loop-again
+    sub-mark-row
+    mark-row-requires-2
     same-length
     returns)
