@@ -9,7 +9,7 @@ use native.Mathlib.Omega.{arith}
 use lib.ListN.{length, take, drop, getD, set, replicate, length-append, length-replicate, length-drop, length-set, getD-replicate}
 use lib.Seq.{ext-getD, getD-set-same, getD-set-other, take-all}
 use Rattle.field.specs.Field.{_⊕_, _⊗_, times2, alpha}
-use Rattle.field.proofs.Sums.{add-0-l, add-self, add-swap}
+use Rattle.field.proofs.Sums.{add-0-l, add-0-r, add-self, add-swap}
 use Rattle.field.proofs.Products.{mul-0-l}
 use Rattle.field.proofs.Powers.{alpha-lt}
 use Rattle.codeword.specs.Code.{horner, value, step, run, full}
@@ -149,6 +149,11 @@ chain-at k m d h =
 pub lane-at : (xs s r : List ℕ) (i : ℕ) → i < 48 → getD (lane xs s r) i 0 ≡ getD s i 0 ⊗ getD xs i 0 ⊕ getD r i 0
 unfolding lane
 lane-at xs s r i h = getD-table 48 (λ i. getD s i 0 ⊗ getD xs i 0 ⊕ getD r i 0) i h
+
+-- x times each of b, with the multiples of b in k
+pub lane-same : (b k : List ℕ) (x : ℕ) → Multiples b k → (j : ℕ) → j < 48 → getD (lane k (replicate 48 x) (replicate 48 0)) j 0 ≡ x ⊗ getD b j 0
+lane-same b k x m j h =
+    lane-at k (replicate 48 x) (replicate 48 0) j h ∙ ap₂ _⊕_ (ap₂ _⊗_ (getD-replicate 48 j x 0 h) (m .firsts j h)) (zeros-at 48 j) ∙ add-0-r _
 
 pub length-lane : (xs s r : List ℕ) → length (lane xs s r) ≡ 48
 unfolding lane

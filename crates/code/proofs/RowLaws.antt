@@ -8,15 +8,13 @@ use native.Mathlib.Decide.{ℕ-discrete, decLt}
 use native.Mathlib.Omega.{arith}
 use borrow.Author.Tests.{lt-ltb, le-ltb}
 use lib.Dec.{ltb}
-use lib.ListN.{length, getD, set, replicate, length-replicate, getD-replicate}
+use lib.ListN.{length, getD, set, replicate}
 use lib.Seq.{getD-set-same, getD-set-other, ext-getD}
 use Rattle.field.specs.Field.{_⊕_, _⊗_}
-use Rattle.field.proofs.Sums.{add-0-l, add-comm}
+use Rattle.field.proofs.Sums.{add-comm}
 use Rattle.field.proofs.Products.{mul-add-l, split-add}
-use Rattle.codeword.specs.Code.{plus}
 use Rattle.code.specs.Kernel.{power, factorOf, entry, Made, RowOf}
-use Rattle.code.proofs.LoopLaws.{Upto, plus-at}
-use Rattle.code.proofs.RegisterLaws.{length-power}
+use Rattle.code.proofs.LoopLaws.{Upto}
 
 pub made-0 : (t : List ℕ) → Made t 0
 unfolding Made
@@ -35,12 +33,10 @@ unfolding RowOf
 row-at row r j h l = h j l
 
 -- row u of the power n
-pub row-is : (n u : ℕ) (row : List ℕ) → n < 8 → u < 32 → row ≡ plus (factorOf u) (power n) (replicate 48 0) → RowOf row (n * 32 + u)
+pub row-is : (n u : ℕ) (row : List ℕ) → n < 8 → u < 32 → ((j : ℕ) → j < 48 → getD row j 0 ≡ factorOf u ⊗ getD (power n) j 0) → RowOf row (n * 32 + u)
 unfolding RowOf entry
 row-is n u row hn hu e j h =
-    ap (λ l. getD l j 0) e ∙ plus-at (factorOf u) (power n) (replicate 48 0) j (length-power n ∙ sym (length-replicate {A = ℕ} 48 0))
-    ∙ ap (λ z. z ⊕ factorOf u ⊗ getD (power n) j 0) (getD-replicate 48 j 0 0 h) ∙ add-0-l (factorOf u ⊗ getD (power n) j 0)
-    ∙ ap₂ _⊗_ (ap factorOf q1) (ap₂ (λ m i. getD (power m) i 0) q2 q3)
+    e j h ∙ ap₂ _⊗_ (ap factorOf q1) (ap₂ (λ m i. getD (power m) i 0) q2 q3)
   where
     q1 : u ≡ ((n * 32 + u) * 48 + j) / 48 % 32
     q1 = omega arith

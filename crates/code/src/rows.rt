@@ -1,5 +1,7 @@
 // The table that the register reads: for each of eight powers of x modulo the generator, its multiples by each half of a byte.
 use crate::products::added;
+use crate::products::lanes;
+use crate::products::multiples;
 ghost use mathlib.Core.Path.{_≡_};
 ghost use Prim.Native.Nat.{_+_, _*_, _<_};
 ghost use lib.ListN.{length};
@@ -105,14 +107,17 @@ fn put_row(t: &mut [u8; TABLE], r: usize, row: [u8; 48])
     }
 }
 
-// The 32 rows of the power n.
+// The 32 rows of the power n. All lanes of a row have one factor, so its bits are tested once, and not those of each lane.
 fn put_rows(t: &mut [u8; TABLE], n: usize, b: [u8; 48])
     requires { ⌜ (n < 8) × (b ≡ power n) × (length (now t) ≡ 12288) × Made (now t) (n * 1536) ⌝ }
     ensures { λ _. ⌜ (length (now (t .exit)) ≡ 12288) × Made (now (t .exit)) (n * 1536 + 1536) ⌝ }
 {
+    let k = multiples(b);
     let none = [0u8; 48];
     for u in 0..32 {
-        put_row(t, n * 32 + u, added(none, factor(u), b));
+        let x = factor(u);
+        let xs = [x; 48];
+        put_row(t, n * 32 + u, lanes(&k, xs, none));
     }
 }
 
