@@ -24,6 +24,7 @@ enum {
     ROUNDS = 15,
     OURS = 20,          /* packets that libcard.a does in a round */
     THEIRS = 4,         /* packets that libfec does in a round */
+    MOST = 2,           /* calls that a counted run does at most */
 };
 
 static void *rs;                        /* libfec's code */
@@ -158,6 +159,18 @@ static void their_fill(void)
         decode_rs_char(rs, their_words[j], their_holes[j], hole_count[j]);
 }
 
+/* A call, what is to be done before each of its turns, and its turns in a round. */
+struct side {
+    int times;
+    void (*before)(void);
+    void (*call)(void);
+};
+
+static const struct side our_encoding = {OURS, before_our_encode, our_encode};
+static const struct side their_encoding = {THEIRS, before_their_encode, their_encode};
+static const struct side our_filling = {OURS, before_our_fill, our_fill};
+static const struct side their_filling = {THEIRS, before_their_fill, their_fill};
+
 /* ---- the comparison of the results */
 
 /* Whether a block and full words have the same bytes, and the words their zeros. */
@@ -202,6 +215,13 @@ static void compare_fill(int lost)
         fail("fill: libfec's words are not the original");
 }
 
+static void compare_all(void)
+{
+    compare_encode();
+    compare_fill(3);
+    compare_fill(1);
+}
+
 /* ---- the times */
 
 /* The process's CPU time in ns. */
@@ -211,13 +231,6 @@ static double now(void)
     clock_gettime(CLOCK_PROCESS_CPUTIME_ID, &t);
     return t.tv_sec * 1e9 + t.tv_nsec;
 }
-
-/* A call, and what is to be done before each of its turns. */
-struct side {
-    int times;
-    void (*before)(void);
-    void (*call)(void);
-};
 
 /* The mean time of a turn. */
 static double mean(struct side s)
@@ -252,7 +265,7 @@ static void measure_encode(void)
 {
     char what[64];
     snprintf(what, sizeof what, "encode %d chunks k %d", C, K);
-    measure(what, (struct side){OURS, before_our_encode, our_encode}, (struct side){THEIRS, before_their_encode, their_encode});
+    measure(what, our_encoding, their_encoding);
 }
 
 static void measure_fill(int lost)
@@ -261,30 +274,96 @@ static void measure_fill(int lost)
     make_holes();
     char what[64];
     snprintf(what, sizeof what, "fill %d missing, %d chunks k %d", most_holes(), C, K);
-    measure(what, (struct side){OURS, before_our_fill, our_fill}, (struct side){THEIRS, before_their_fill, their_fill});
+    measure(what, our_filling, their_filling);
 }
 
 static void print_method(void)
 {
     struct utsname u;
     uname(&u);
-    printf("%s: ns a packet, process CPU time, best of %d rounds, both interleaved in each round, libfec's words laid out before\n", u.machine, ROUNDS);
+    printf("method: times on %s: ns a packet, process CPU time, best of %d rounds, both interleaved in each round, libfec's words laid out before\n", u.machine, ROUNDS);
 }
 
-int main(void)
+static void time_all(void)
+{
+    print_method();
+    compare_all();
+    measure_encode();
+    measure_fill(3);
+    measure_fill(1);
+}
+
+/* ---- the counted runs: bench/count has an emulator count their instructions */
+
+/* The block by libcard.a, and the words from it. Every instruction of a counted run is slow, so libfec's own are not made here:
+ * bench/count has compare_all run before, which finds them the same. */
+static void lay_block(void)
+{
+    before_our_encode();
+    our_encode();
+    if (our_answer != 0)
+        fail("bailhammer_encode refuses the packet");
+    memcpy(block, our_block, sizeof block);
+    for (int q = 0; q < BLOCK; q++)
+        words[q / N][place_of(q % N)] = block[q];
+}
+
+/* Calls n times. It lays out MOST times whatever n is, so that runs with n and n + 1 differ by one call. */
+static void call_times(struct side s, int n)
+{
+    for (int i = 0; i < MOST; i++) {
+        s.before();
+        if (i < n)
+            s.call();
+    }
+}
+
+static void count_fill(int lost, struct side s, int n)
+{
+    lay_block();
+    lose(lost);
+    make_holes();
+    call_times(s, n);
+}
+
+/* Does n calls of the work that is named, by libcard.a or by libfec; 0 if there is no such work. */
+static int count(const char *what, int ours, int n)
+{
+    struct side filling = ours ? our_filling : their_filling;
+    if (!strcmp(what, "encode"))
+        call_times(ours ? our_encoding : their_encoding, n);
+    else if (!strcmp(what, "fill48"))
+        count_fill(3, filling, n);
+    else if (!strcmp(what, "fill16"))
+        count_fill(1, filling, n);
+    else
+        return 0;
+    return 1;
+}
+
+/* The words behind `count`: what is done, by which side, how many times; 0 if they are not understood. */
+static int count_words(char **word)
+{
+    int ours = !strcmp(word[1], "bailhammer");
+    int n = word[2][0] - '0';
+    if ((!ours && strcmp(word[1], "libfec")) || n < 0 || MOST < n || word[2][1])
+        return 0;
+    return count(word[0], ours, n);
+}
+
+int main(int argc, char **argv)
 {
     rs = init_rs_char(8, 0x11d, 1, 1, PARITY, 0);
     if (!rs)
         fail("libfec makes no code");
     make_packet();
     lay_words();
-    print_method();
-    compare_encode();
-    compare_fill(3);
-    compare_fill(1);
-    measure_encode();
-    measure_fill(3);
-    measure_fill(1);
+    if (argc == 1)
+        time_all();
+    else if (argc == 2 && !strcmp(argv[1], "compare"))
+        compare_all();
+    else if (argc != 5 || strcmp(argv[1], "count") || !count_words(argv + 2))
+        fail("usage: rs [compare | count encode|fill48|fill16 bailhammer|libfec 0|1|2]");
     free_rs_char(rs);
     return 0;
 }
