@@ -16,6 +16,7 @@ use Rattle.code.specs.Words.{parity, encode}
 use Rattle.codeword.specs.Erasure.{marks, erase, count}
 use Rattle.codeword.proofs.Erasure.{missing, fill, locators, syndromes, bytes-locators, positive-locators, distinct-locators, length-missing, bytes-missing, fill-missing, length-erase, syndromes-right}
 use Rattle.codeword.proofs.Poly.{value-zeros}
+use Rattle.codeword.proofs.Proved.{r3}
 use Rattle.code.proofs.WordLaws.{encode-codeword, length-encode, bytes-encode}
 use Rattle.base.proofs.ByteLaws.{bytes-take}
 use Rattle.codeword.proofs.Chunk.{bytes-full, erase-append, erase-none, erase-full, length-full, length-locators, count-append, count-none, count-full, one-chunk}
@@ -217,9 +218,9 @@ guessed t rk q sc mask c r s y after e k S lc lr es ey ea =
     record {
       size = ap length ea ∙ length-fill (marks mask) c (take e y);
       keeps = ap (erase (marks mask)) ea ∙ erase-fill (marks mask) c (take e y);
-      right = λ w lw bw cw ew.
+      right = λ w cw ew.
           ea ∙ ap₂ (fill (marks mask)) (sym ew)
-          (guess-right k (marks mask) w q sc s y e (S .short) lw (length-marks mask ∙ S .masked) bw cw (S .counted ∙ sym (length-locs k mask)) (S .found)
+          (guess-right k (marks mask) w q sc s y e (S .short) (cw .size) (length-marks mask ∙ S .masked) (cw .bytes) (cw .word) (S .counted ∙ sym (length-locs k mask)) (S .found)
           (es ∙ ap syndromes (lr .rest ∙ ap (remainder k) (sym ew))) ey)
           ∙ fill-missing (marks mask) w;
     }
@@ -233,9 +234,7 @@ module _ (k : ℕ) (mask c cleared after r : List ℕ) (h : k ≤ 207) (few : co
   fills-found z = (
     few,
     record {
-      size = size-after;
-      bytes = lr .bytes;
-      word = word-of-zero k after h size-after (sym (lr .rest) ∙ z);
+      coded = record { size = size-after; bytes = lr .bytes; word = word-of-zero k after h size-after (sym (lr .rest) ∙ z) };
       keeps = g .keeps ∙ ap (erase (marks mask)) ec ∙ erase-twice (marks mask) c;
     },
   )
@@ -243,9 +242,9 @@ module _ (k : ℕ) (mask c cleared after r : List ℕ) (h : k ≤ 207) (few : co
   pub fills-none : (last : List ℕ) → (r ≡ replicate 48 0 → ⊥) → last ≡ erase (marks mask) after
       → (count (marks mask) ≤ 48) × ((w : List ℕ) → Agrees k mask c w → ⊥) × (last ≡ erase (marks mask) c)
   fills-none last n el =
-      (few, λ w a. n (lr .rest ∙ ap (remainder k) (g .right w (a .size) (a .bytes) (a .word) (a .keeps ∙ sym ec)) ∙ zero-of-word k w h (a .size) (a .bytes) (a .word)), el ∙ g .keeps ∙ ap (erase (marks mask)) ec ∙ erase-twice (marks mask) c)
+      (few, λ w a. n (lr .rest ∙ ap (remainder k) (g .right w (a .coded) (a .keeps ∙ sym ec)) ∙ zero-of-word k w h (a .coded .size) (a .coded .bytes) (a .coded .word)), el ∙ g .keeps ∙ ap (erase (marks mask)) ec ∙ erase-twice (marks mask) c)
 
--- AT MOST ONE ANSWER FITS
+-- at most one chunk of the code agrees (R3)
 pub one-filling : (k : ℕ) (mask c v w : List ℕ) → k ≤ 207 → length mask ≡ k + 48 → count (marks mask) ≤ 48 → Agrees k mask c v → Agrees k mask c w → v ≡ w
 one-filling k mask c v w h lm few a b =
-    one-chunk k (marks mask) v w h (a .size) (b .size) (length-marks mask ∙ lm) few (a .bytes) (b .bytes) (a .word) (b .word) (a .keeps ∙ sym (b .keeps))
+    r3 .masked k (marks mask) v w h (length-marks mask ∙ lm) few (a .coded) (b .coded) (a .keeps ∙ sym (b .keeps))

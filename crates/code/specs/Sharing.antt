@@ -5,7 +5,7 @@ use mathlib.Core.List.{List}
 use Prim.Native.Nat.{ℕ, _+_, _≤_, _<_}
 use lib.ListN.{length, replicate}
 use Rattle.base.specs.Bytes.{Bytes}
-use Rattle.codeword.specs.Code.{Codeword, full}
+use Rattle.codeword.specs.Code.{Coded, full}
 use Rattle.codeword.specs.Erasure.{marks, erase, count}
 use Rattle.codeword.proofs.Erasure.{locators}
 use Rattle.code.specs.Kernel.{remainder, Made, Multiples, rootsList}
@@ -24,7 +24,7 @@ pub record Left (k : ℕ) (c r : List ℕ) : Type 0 where
 pub record Guessed (k : ℕ) (mask c after : List ℕ) : Type 0 where
   pub size : length after ≡ length c
   pub keeps : erase (marks mask) after ≡ erase (marks mask) c
-  pub right : (w : List ℕ) → length w ≡ k + 48 → Bytes w → Codeword (full 0 k w) → erase (marks mask) w ≡ c → after ≡ w
+  pub right : (w : List ℕ) → Coded k w → erase (marks mask) w ≡ c → after ≡ w
 
 -- whether 48 bytes are all 0 (clause 7.4.4)
 abbrev pub ZeroTest : List ℕ → Bool → Type 0
