@@ -10,6 +10,7 @@ pub mod MaskLaws
 pub mod Only
 pub mod PartLaws
 pub mod PlaceLaws
+pub mod Proved
 pub mod RegisterLaws
 pub mod RowLaws
 pub mod SolveLaws

@@ -1,5 +1,6 @@
 pub mod Fill
 pub mod Calls
+pub mod Claims
 pub mod Words
 pub mod Kernel
 pub mod Filling
