@@ -8,7 +8,7 @@ use native.Mathlib.Omega.{arith}
 use borrow.Author.Tests.{ltb-false, eqb-false, lt-ltb, le-ltb}
 use lib.Dec.{ltb, eqb, lit<, eqb→eq}
 use lib.ListN.{length, take, drop, replicate, length-replicate, length-drop, take-append-drop, replicate-append-replicate, drop-of-length-le, length-append}
-use lib.Seq.{length-take-le, take-at, drop-at, take-append-add, drop-drop}
+use lib.Seq.{take-at, drop-at, take-append-add, drop-drop}
 use Rattle.base.specs.Answer.{granted, refused, Outcome, outcome, settled}
 use Rattle.base.specs.Bounds.{most-k, place, parity}
 use Rattle.base.specs.Bytes.{splice}
@@ -17,23 +17,21 @@ use Rattle.base.specs.Written.{numberOf, putFault, putOf}
 use Rattle.base.specs.declared.Written.{Written}
 use Rattle.base.specs.declared.Written.the-variants as written
 use Rattle.base.proofs.Answers.{writes, leaves, put-done}
-use Rattle.base.proofs.Firsts.{due, skip, none-due, clear}
+use Rattle.base.proofs.Firsts.{due, skip, none-due}
 use Rattle.base.proofs.Logic.{or-left, or-right}
 use Rattle.base.proofs.Splice.{splice-next}
 use Rattle.cut.specs.Block.{padded, wordOf, blockOf}
 use Rattle.cut.proofs.Blocks.{length-block, length-padded}
-use Rattle.code.specs.Words.{encode}
-use Rattle.codeword.proofs.Encoder.{length-run}
+use Rattle.codeword.proofs.Encoder.{length-parity}
 use Rattle.code.specs.Block.{part, Encoded}
 use Rattle.code.specs.Fill.{Fills}
-use Rattle.codeword.specs.Code.{parityOf}
+use Rattle.codeword.specs.Code.{parityOf, encode}
 use Rattle.code.specs.Calls.{badSize, parityFault, parityCall, overPlace, misfits, encodeFault, encodeCall, badPair, chunkFault, ChunkFilled}
 use Rattle.code.specs.Inner.{filledOf}
 use Rattle.code.specs.declared.Answer.{Answer}
 use Rattle.code.specs.declared.Answer.the-variants as answers
 use Rattle.code.specs.declared.Filled.{Filled}
 use Rattle.code.specs.declared.Filled.the-variants.{Done, Nothing, NotEnough, Refused}
-use Rattle.code.proofs.FillLaws.{one-filling}
 
 -- ---- what the tests tell
 
@@ -95,8 +93,8 @@ put-is d s y at r h e =
     cc
 
 -- a chunk and its parity put into as many bytes
-pub encode-put : (out d p x y : List ℕ) → length out ≡ length d + 48 → length p ≡ 48 → p ≡ Rattle.code.specs.Words.parity (length d) d
-    → x ≡ splice out 0 d → y ≡ splice x (length d) p → y ≡ encode (length d) d
+pub encode-put : (out d p x y : List ℕ) → length out ≡ length d + 48 → length p ≡ 48 → p ≡ parityOf d
+    → x ≡ splice out 0 d → y ≡ splice x (length d) p → y ≡ encode d
 unfolding encode splice
 encode-put out d p x y lo lp ep ex ey =
     let whole : length out ≤ 0 + length (d ++ p) = omega (arith, length-append d p) in
@@ -124,22 +122,17 @@ pad-take packet n m h q =
     ∙ ap (λ (x : List ℕ). packet ++ x)
     (ap (take (n - l)) (sym (replicate-append-replicate (n - l) (m - n) 0)) ∙ take-at (replicate (n - l) 0) (replicate (m - n) 0) (n - l) (length-replicate {A = ℕ} (n - l) 0))
 
-pub length-parityOf : (d : List ℕ) → length (parityOf d) ≡ 48
-unfolding parityOf
-length-parityOf d = length-run (replicate 48 0) (d ++ replicate (207 - length d) 0) (length-replicate {A = ℕ} 48 0)
-
 module _ (k c : ℕ) (src out : List ℕ) where
   head : suc c * k ≤ length src → length out ≡ suc c * (k + 48) → Encoded k (suc c) src out → take (k + 48) out ≡ wordOf parityOf (take k src)
-  unfolding part wordOf encode Rattle.code.specs.Words.parity parityOf
+  unfolding part wordOf encode
   head hs e d =
       ap (λ (x : ℕ). take (k + 48) (drop x out)) (sym (zero-mul (k + 48)))
       ∙ d .each 0 (omega arith)
-      ∙ ap (λ (x : ℕ). take k (drop x src) ++ Rattle.code.specs.Words.parity k (take k (drop x src))) (zero-mul k)
-      ∙ ap (λ (x : ℕ). take k src ++ Rattle.code.specs.Words.parity x (take k src)) (sym (length-take-le k src (omega arith)))
+      ∙ ap (λ (x : ℕ). encode (take k (drop x src))) (zero-mul k)
 
   behind : Encoded k (suc c) src out → Encoded k c (drop k src) (drop (k + 48) out)
   unfolding part
-  behind d = record { each = λ j h. past (k + 48) j out ∙ d .each (suc j) (omega arith) ∙ ap (encode k) (sym (past k j src)) }
+  behind d = record { each = λ j h. past (k + 48) j out ∙ d .each (suc j) (omega arith) ∙ ap encode (sym (past k j src)) }
     where
       past : (n j : ℕ) (l : List ℕ) → take n (drop (j * n) (drop n l)) ≡ take n (drop (suc j * n) l)
       past n j l = ap (take n) (drop-drop (j * n) n l ∙ ap (λ (x : ℕ). drop x l) (add-comm n (j * n) ∙ sym (suc-mul j n)))
@@ -155,7 +148,7 @@ block-is k (suc c) src out hs e d =
 
 pub length-whole : (packet : List ℕ) (k c : ℕ) → length packet ≤ c * k → length (blockOf parityOf (padded packet (c * k - length packet)) k c) ≡ c * (k + 48)
 length-whole packet k c h =
-    length-block parityOf k (λ xs e. length-parityOf xs) (padded packet (c * k - length packet)) c (omega (arith, length-padded packet (c * k - length packet)))
+    length-block parityOf k (λ xs e. length-parity xs) (padded packet (c * k - length packet)) c (omega (arith, length-padded packet (c * k - length packet)))
 
 -- the block written in a part that was lent from the start
 pub block-lent : (out new block : List ℕ) (n : ℕ) → length block ≡ n → new ≡ block → new ++ drop n out ≡ splice out 0 block

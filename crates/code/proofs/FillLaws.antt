@@ -6,20 +6,18 @@ use Prim.Native.Nat.{ℕ, zero, suc, _+_, _-_, _≤_, _<_}
 use native.Mathlib.Nat.{suc-inj, suc-ne-zero, not-suc-le-zero}
 use native.Mathlib.Omega.{arith}
 use native.Mathlib.Decide.{ℕ-discrete}
-use lib.ListN.{length, take, drop, getD, replicate, length-append, length-replicate, take-append-drop}
+use lib.ListN.{length, take, drop, getD, replicate, length-replicate, take-append-drop}
 use lib.Seq.{length-take-le, ext-getD, getD-take, drop-at}
 use Rattle.field.specs.Field.{_⊕_, _⊗_, alpha}
 use Rattle.field.proofs.Sums.{add-0-r, add-self}
-use Rattle.codeword.specs.Code.{value, Codeword, full}
+use Rattle.codeword.specs.Code.{value, Codeword, Coded, full, parityOf, encode}
 use Rattle.base.specs.Bytes.{Bytes}
-use Rattle.code.specs.Words.{parity, encode}
 use Rattle.codeword.specs.Erasure.{marks, erase, count}
 use Rattle.codeword.proofs.Erasure.{missing, fill, locators, syndromes, bytes-locators, positive-locators, distinct-locators, length-missing, bytes-missing, fill-missing, length-erase, syndromes-right}
 use Rattle.codeword.proofs.Poly.{value-zeros}
-use Rattle.codeword.proofs.Proved.{r3}
-use Rattle.code.proofs.WordLaws.{encode-codeword, length-encode, bytes-encode}
-use Rattle.base.proofs.ByteLaws.{bytes-take}
-use Rattle.codeword.proofs.Chunk.{bytes-full, erase-append, erase-none, erase-full, length-full, length-locators, count-append, count-none, count-full, one-chunk}
+use Rattle.codeword.proofs.Proved.{r3, systematic}
+use Rattle.codeword.proofs.Encoder.{length-parity}
+use Rattle.codeword.proofs.Chunk.{bytes-full, erase-full, length-full, length-locators, count-full}
 use Rattle.codeword.specs.Locators.{sumAt}
 use Rattle.codeword.proofs.Vandermonde.{getD-table}
 use Rattle.code.specs.Kernel.{sumOf, remainder, lane}
@@ -29,7 +27,7 @@ use Rattle.code.specs.Sharing.{locs, Left, Guessed, Shared}
 use Rattle.code.proofs.MaskLaws.{length-marks}
 use Rattle.codeword.proofs.Masks.{marks-full}
 use Rattle.code.proofs.RowLaws.{zeros-at}
-use Rattle.code.proofs.LaneLaws.{lane-at, length-lane, remainder-value, remainder-syndromes, parity-size, drop-size}
+use Rattle.code.proofs.LaneLaws.{lane-at, length-lane, remainder-value, remainder-syndromes}
 use Rattle.code.proofs.LocatorLaws.{solved}
 
 -- ---- the missing bytes of a chunk in its 255 places
@@ -140,50 +138,17 @@ unfolding sumOf
 sumOf-self [] = refl
 sumOf-self (x ∷ l) = ap₂ _∷_ (add-self x) (sumOf-self l)
 
-erase-all : (n : ℕ) (l : List ℕ) → length l ≡ n → erase (replicate n true) l ≡ replicate n 0
-unfolding erase
-erase-all zero [] e = refl
-erase-all zero (x ∷ l) e = absurd (suc-ne-zero (length l) e)
-erase-all (suc n) [] e = absurd (suc-ne-zero n (sym e))
-erase-all (suc n) (x ∷ l) e = ap (λ t. 0 ∷ t) (erase-all n l (suc-inj e))
+pub word-of-zero : (k : ℕ) (w : List ℕ) → k ≤ 207 → length w ≡ k + 48 → remainder k w ≡ replicate 48 0 → Codeword (full 0 k w)
+unfolding Codeword
+word-of-zero k w h lw z j l = sym (remainder-value k w h lw j l) ∙ ap (value (alpha (suc j))) z ∙ value-zeros (alpha (suc j)) 48
 
-count-all : (n : ℕ) → count (replicate n true) ≡ n
-unfolding count
-count-all zero = refl
-count-all (suc n) = ap suc (count-all n)
-
-module _ (k : ℕ) (w : List ℕ) (h : k ≤ 207) (lw : length w ≡ k + 48) where
-  pub word-of-zero : remainder k w ≡ replicate 48 0 → Codeword (full 0 k w)
-  unfolding Codeword
-  word-of-zero z j l = sym (remainder-value k w h lw j l) ∙ ap (value (alpha (suc j))) z ∙ value-zeros (alpha (suc j)) 48
-
-  lk : length (take k w) ≡ k
-  lk = length-take-le k w (omega arith)
-
-  behindK : List Bool
-  behindK = replicate k false ++ replicate 48 true
-
-  erased : (p : List ℕ) → length p ≡ 48 → erase behindK (take k w ++ p) ≡ take k w ++ replicate 48 0
-  unfolding behindK
-  erased p e =
-      erase-append (replicate k false) (replicate 48 true) (take k w) p (length-replicate k false ∙ sym lk)
-      ∙ ap₂ _++_ (erase-none k (take k w)) (erase-all 48 p e)
-
-  pub zero-of-word : Bytes w → Codeword (full 0 k w) → remainder k w ≡ replicate 48 0
-  unfolding remainder behindK encode
-  zero-of-word b c =
-      ap (λ l. sumOf (parity k (take k w)) l) (sym parts) ∙ sumOf-self (parity k (take k w)) ∙ ap (λ n. replicate n 0) (parity-size k w h lw)
-    where
-      same : encode k (take k w) ≡ w
-      same =
-          one-chunk k behindK (encode k (take k w)) w h (length-encode (take k w) k ∙ ap (λ n. n + 48) lk) lw
-          (length-append (replicate k false) (replicate 48 true) ∙ ap₂ _+_ (length-replicate k false) (length-replicate 48 true))
-          (omega (arith, count-append (replicate k false) (replicate 48 true), count-none k, count-all 48))
-          (bytes-encode k (take k w) (bytes-take k w b)) b (encode-codeword (take k w) k lk h) c
-          (erased (parity k (take k w)) (parity-size k w h lw) ∙ sym (erased (drop k w) (drop-size k w h lw)) ∙ ap (erase behindK) (take-append-drop k w))
-
-      parts : parity k (take k w) ≡ drop k w
-      parts = sym (drop-at (take k w) (parity k (take k w)) k lk) ∙ ap (drop k) same
+pub zero-of-word : (k : ℕ) (w : List ℕ) → k ≤ 207 → Coded k w → remainder k w ≡ replicate 48 0
+unfolding remainder encode
+zero-of-word k w h c =
+    ap (sumOf (parityOf (take k w))) rest ∙ sumOf-self (parityOf (take k w)) ∙ ap (λ n. replicate n 0) (length-parity (take k w))
+  where
+    rest : drop k w ≡ parityOf (take k w)
+    rest = ap (drop k) (systematic k w h c) ∙ drop-at (take k w) (parityOf (take k w)) k (length-take-le k w (omega (arith, c .size)))
 
 -- ---- the functions
 
@@ -242,7 +207,7 @@ module _ (k : ℕ) (mask c cleared after r : List ℕ) (h : k ≤ 207) (few : co
   pub fills-none : (last : List ℕ) → (r ≡ replicate 48 0 → ⊥) → last ≡ erase (marks mask) after
       → (count (marks mask) ≤ 48) × ((w : List ℕ) → Agrees k mask c w → ⊥) × (last ≡ erase (marks mask) c)
   fills-none last n el =
-      (few, λ w a. n (lr .rest ∙ ap (remainder k) (g .right w (a .coded) (a .keeps ∙ sym ec)) ∙ zero-of-word k w h (a .coded .size) (a .coded .bytes) (a .coded .word)), el ∙ g .keeps ∙ ap (erase (marks mask)) ec ∙ erase-twice (marks mask) c)
+      (few, λ w a. n (lr .rest ∙ ap (remainder k) (g .right w (a .coded) (a .keeps ∙ sym ec)) ∙ zero-of-word k w h (a .coded)), el ∙ g .keeps ∙ ap (erase (marks mask)) ec ∙ erase-twice (marks mask) c)
 
 -- at most one chunk of the code agrees (R3)
 pub one-filling : (k : ℕ) (mask c v w : List ℕ) → k ≤ 207 → length mask ≡ k + 48 → count (marks mask) ≤ 48 → Agrees k mask c v → Agrees k mask c w → v ≡ w

@@ -1,26 +1,26 @@
 -- Lists of 48 lanes, the data in their places, the remainder of a chunk. Assumes nothing.
 use mathlib.Core.Path.{_≡_, refl, sym, ap, ap₂, _∙_, subst}
 use mathlib.Core.List.{List, [], _∷_, _++_, append-assoc}
-use Prim.Native.Nat.{ℕ, zero, suc, _+_, _-_, _≤_, _<_, suc-le-suc}
-use native.Mathlib.Nat.{suc-inj, suc-ne-zero, not-suc-le-zero, le-of-suc-le-suc, zero-lt-suc}
+use Prim.Native.Nat.{ℕ, zero, suc, _+_, _-_, _≤_, _<_}
+use native.Mathlib.Nat.{suc-inj, suc-ne-zero, not-suc-le-zero, le-of-suc-le-suc}
 use native.Mathlib.Numerals.{add-one}
 use native.Mathlib.Decide.{ℕ-discrete}
 use native.Mathlib.Omega.{arith}
 use lib.ListN.{length, take, drop, getD, set, replicate, length-append, length-replicate, length-drop, length-set, getD-replicate}
-use lib.Seq.{ext-getD, getD-set-same, getD-set-other, take-all}
+use lib.Seq.{ext-getD, getD-set-same, getD-set-other, take-all, length-take-le}
 use Rattle.field.specs.Field.{_⊕_, _⊗_, times2, alpha}
 use Rattle.field.proofs.Sums.{add-0-l, add-0-r, add-self, add-swap}
 use Rattle.field.proofs.Products.{mul-0-l}
 use Rattle.field.proofs.Powers.{alpha-lt}
-use Rattle.codeword.specs.Code.{horner, value, step, run, full}
-use Rattle.code.specs.Words.{parity, table}
+use Rattle.codeword.specs.Code.{horner, value, step, run, parityOf, full}
+use Rattle.code.specs.Words.{table}
 use Rattle.base.specs.Bytes.{Bytes}
 use Rattle.base.specs.Table as tables
+use Rattle.base.proofs.Tables as table-laws
 use Rattle.codeword.proofs.Erasure.{syndromes}
 use Rattle.codeword.proofs.Poly.{raise, raise-add, raise-0, value-cons, value-nil, value-append, value-zeros}
-use Rattle.codeword.proofs.Encoder.{length-run, value-run, generator-root}
+use Rattle.codeword.proofs.Encoder.{length-parity, value-run, generator-root}
 use Rattle.codeword.proofs.Vandermonde.{getD-table}
-use Rattle.code.proofs.WordLaws.{length-table}
 use Rattle.code.specs.Kernel.{laid, sumOf, remainder, Doubles, Multiples, Chain, lane, rootsList}
 use mir.Val.{Fits}
 use mir.Syntax.{w8}
@@ -28,6 +28,9 @@ use Rattle.code.proofs.LoopLaws.{Upto, step-at, length-step, padded-at,
 use Rattle.code.proofs.RowLaws.{past-end, zeros-at}
 
 -- ---- tables
+
+pub length-table : (n : ℕ) (f : ℕ → ℕ) → length (table n f) ≡ n
+length-table n f = table-laws.length-table f 0 n
 
 pub table-ext : (n : ℕ) (f g : ℕ → ℕ) → ((i : ℕ) → i < n → f i ≡ g i) → table n f ≡ table n g
 table-ext n f g h =
@@ -68,8 +71,8 @@ step-zeros =
     l : length {A = ℕ} (replicate 48 0) ≡ 48
     l = length-replicate {A = ℕ} 48 0
 
-pub run-laid : (d : List ℕ) → run (replicate 48 0) (laid d) ≡ parity (length d) d
-unfolding run laid parity
+pub run-laid : (d : List ℕ) → run (replicate 48 0) (laid d) ≡ parityOf d
+unfolding run laid parityOf
 run-laid d = ap (λ s. run s (d ++ replicate (207 - length d) 0)) step-zeros
 
 -- ---- sums of lists
@@ -104,17 +107,14 @@ value-sumOf x (c ∷ a) (d ∷ b) e =
 -- ---- the remainder of a chunk has the chunk's values at the roots
 
 module _ (k : ℕ) (c : List ℕ) (h : k ≤ 207) (e : length c ≡ k + 48) where
-  pub parity-size : length (parity k (take k c)) ≡ 48
-  unfolding parity
-  parity-size = length-run (replicate 48 0) (take k c ++ replicate (207 - k) 0) (length-replicate {A = ℕ} 48 0)
-
   pub drop-size : length (drop k c) ≡ 48
   drop-size = omega (arith, length-drop k c)
 
   pub remainder-value : (j : ℕ) → j < 48 → value (alpha (suc j)) (remainder k c) ≡ value (alpha (suc j)) (full 0 k c)
-  unfolding remainder full parity value
+  unfolding remainder full parityOf value
   remainder-value j l =
-      value-sumOf (alpha (suc j)) (parity k (take k c)) (drop k c) (parity-size ∙ sym drop-size)
+      value-sumOf (alpha (suc j)) (parityOf (take k c)) (drop k c) (length-parity (take k c) ∙ sym drop-size)
+      ∙ ap (λ n. value (alpha (suc j)) (run (replicate 48 0) (take k c ++ replicate (207 - n) 0)) ⊕ value (alpha (suc j)) (drop k c)) (length-take-le k c (omega arith))
       ∙ ap (λ y. y ⊕ value (alpha (suc j)) (drop k c))
       (value-run (alpha (suc j)) (alpha-lt (suc j)) (generator-root j l) (replicate 48 0) (take k c ++ replicate (207 - k) 0) 0 (length-replicate {A = ℕ} 48 0)
       (value-zeros (alpha (suc j)) 48 ∙ sym (raise-0 (alpha (suc j)) 48)))

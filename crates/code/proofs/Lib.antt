@@ -1,4 +1,3 @@
-pub mod WordLaws
 pub mod BitLaws
 pub mod CallCases
 pub mod CellLaws

@@ -9,7 +9,7 @@ use Rattle.base.proofs.Logic.{clash}
 use lib.Dec.{ltb}
 use lib.ListN.{length, take, drop, take-append-drop}
 use lib.Seq.{drop-drop}
-use Rattle.base.specs.Bounds.{most-k, parity}
+use Rattle.base.specs.Bounds.{parity}
 use Rattle.base.proofs.Firsts.{clear, clear-rest}
 use Rattle.cut.specs.Block.{chunkOf}
 use Rattle.cut.specs.Missing.{suffice}

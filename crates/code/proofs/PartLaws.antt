@@ -8,8 +8,8 @@ use native.Mathlib.Omega.{arith}
 use borrow.Rule.Slice.PartMut.{putMid, post-is}
 use lib.ListN.{length, take, drop, getD, set, length-append, length-drop, length-set, List·getD-append}
 use lib.Seq.{length-take-le, ext-getD, getD-take, getD-drop, getD-append-add, getD-set-same, getD-set-other}
-use Rattle.code.specs.Words.{encode}
-use Rattle.code.proofs.WordLaws.{length-encode}
+use Rattle.codeword.specs.Code.{encode}
+use Rattle.codeword.proofs.Encoder.{length-encode}
 use Rattle.code.specs.Fill.{Fills}
 use Rattle.code.specs.declared.Answer.{Answer}
 use Rattle.code.specs.declared.Answer.the-variants.{Found, Nothing, NotEnough}
@@ -245,7 +245,7 @@ sized-open k mask blk ans ans' s o =
 -- ---- the sender
 
 pub one-encoded : (k c j : ℕ) (src out new : List ℕ) → EncSized k c src out → j < c
-    → new ≡ encode (length (take (j * k + k - j * k) (drop (j * k) src))) (take (j * k + k - j * k) (drop (j * k) src))
+    → new ≡ encode (take (j * k + k - j * k) (drop (j * k) src))
     → OneEncoded k c j src out (putMid (j * (k + 48)) (j * (k + 48) + (k + 48) - j * (k + 48)) out new)
 one-encoded k c j src out new z h e =
     record {
@@ -254,17 +254,17 @@ one-encoded k c j src out new z h e =
       others = λ i b d. part-other (k + 48) c j out new (z .chunks) h ln i b d;
     }
   where
-    en : new ≡ encode k (part k j src)
-    en = e ∙ ap (λ d. encode (length d) d) (mid-part k j src) ∙ ap (λ n. encode n (part k j src)) (length-part k c j src (z .datas) h)
+    en : new ≡ encode (part k j src)
+    en = e ∙ ap encode (mid-part k j src)
 
     ln : length new ≡ k + 48
-    ln = ap length en ∙ length-encode (part k j src) k ∙ ap (λ n. n + 48) (length-part k c j src (z .datas) h)
+    ln = ap length en ∙ length-encode (part k j src) ∙ ap (λ n. n + 48) (length-part k c j src (z .datas) h)
 
 pub encoded-more : (k c j : ℕ) (src out out' : List ℕ) → j < c → Encoded k j src out → OneEncoded k c j src out out' → Encoded k (j + 1) src out'
 encoded-more k c j src out out' h p o = record { each = λ i b. go i b (ℕ-discrete i j) }
   where
-    go : (i : ℕ) → i < j + 1 → Dec (i ≡ j) → part (k + 48) i out' ≡ encode k (part k i src)
-    go i b (yes w) = subst (λ i. part (k + 48) i out' ≡ encode k (part k i src)) (sym w) (o .made)
+    go : (i : ℕ) → i < j + 1 → Dec (i ≡ j) → part (k + 48) i out' ≡ encode (part k i src)
+    go i b (yes w) = subst (λ i. part (k + 48) i out' ≡ encode (part k i src)) (sym w) (o .made)
     go i b (no w) = o .others i (omega arith) w ∙ p .each i (omega arith)
 
 pub encoded-start : (k : ℕ) (src out : List ℕ) → Encoded k 0 src out

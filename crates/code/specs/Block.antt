@@ -4,7 +4,7 @@ use mathlib.Core.Bool.{Bool, true, false}
 use mathlib.Core.List.{List}
 use Prim.Native.Nat.{ℕ, zero, suc, _+_, _*_, _≤_, _<_}
 use lib.ListN.{length, take, drop, getD}
-use Rattle.code.specs.Words.{encode}
+use Rattle.codeword.specs.Code.{encode}
 use Rattle.codeword.specs.Erasure.{marks, erase, count}
 use Rattle.code.specs.Fill.{Agrees, Fills}
 use Rattle.code.specs.declared.Answer.{Answer}
@@ -70,7 +70,7 @@ AllDone ans n = (j : ℕ) → j < n → getD ans j 0 < 3
 
 -- c chunks of the data: the first n are made (clause 7.3.1)
 pub record Encoded (k n : ℕ) (src out : List ℕ) : Type 0 where
-  pub each : (j : ℕ) → j < n → part (k + 48) j out ≡ encode k (part k j src)
+  pub each : (j : ℕ) → j < n → part (k + 48) j out ≡ encode (part k j src)
 
 -- room for c chunks of the data (clause 7.3.1)
 pub record EncSized (k c : ℕ) (src out : List ℕ) : Type 0 where
@@ -81,7 +81,7 @@ pub record EncSized (k c : ℕ) (src out : List ℕ) : Type 0 where
 -- chunk j is made, and no other is touched (clause 7.3.1)
 pub record OneEncoded (k c j : ℕ) (src out out' : List ℕ) : Type 0 where
   pub size : length out' ≡ length out
-  pub made : part (k + 48) j out' ≡ encode k (part k j src)
+  pub made : part (k + 48) j out' ≡ encode (part k j src)
   pub others : (i : ℕ) → i < c → (i ≡ j → ⊥) → part (k + 48) i out' ≡ part (k + 48) i out
 
 -- no answer but 0 (clause 7.4.4)

@@ -6,8 +6,8 @@ use Prim.Native.Nat.{ℕ, zero, suc, _+_, _-_, _*_, _/_, _%_, _<_}
 use lib.Dec.{ltb}
 use lib.ListN.{length, take, drop, getD, replicate}
 use Rattle.field.specs.Field.{_⊕_, _⊗_, times2, alpha}
-use Rattle.codeword.specs.Code.{generator, step}
-use Rattle.code.specs.Words.{parity, table}
+use Rattle.codeword.specs.Code.{generator, step, parityOf}
+use Rattle.code.specs.Words.{table}
 
 -- one place on, and 0 at the end (clause 7.3.1)
 unfoldable pub shift : List ℕ → List ℕ
@@ -62,7 +62,7 @@ sumOf (a ∷ l) (b ∷ bs) = a ⊕ b ∷ sumOf l bs
 
 -- what the generator leaves of a chunk of k data bytes and 48 parity bytes (clause 7.4.4)
 unfoldable pub remainder : ℕ → List ℕ → List ℕ
-remainder k c = sumOf (parity k (take k c)) (drop k c)
+remainder k c = sumOf (parityOf (take k c)) (drop k c)
 
 -- eight rows of 48, each twice the one before (clause 7.4.4)
 unfoldable pub Doubles : List ℕ → Type 0

@@ -4,14 +4,14 @@ use crate::rows::TABLE;
 ghost use mathlib.Core.Path.{_≡_};
 ghost use Prim.Native.Nat.{_+_, _≤_, _<_};
 ghost use lib.ListN.{length};
-ghost use Rattle.code.specs.Words.{encode};
+ghost use Rattle.codeword.specs.Code.{encode};
 ghost use Rattle.code.specs.Kernel.{Made};
 ghost use Rattle.code.specs.Block.{Encoded, EncSized, OneEncoded};
 
 // The chunk of the data bytes d: the data and their parity.
 fn encode_chunk(t: &[u8; TABLE], d: &[u8], out: &mut [u8])
     requires { ⌜ (length (now d) ≤ 207) × (length (now out) ≡ length (now d) + 48) × Made (now t) 12288 ⌝ }
-    ensures { λ _. ⌜ now (out .exit) ≡ encode (length (now (d .entry))) (now (d .entry)) ⌝ }
+    ensures { λ _. ⌜ now (out .exit) ≡ encode (now (d .entry)) ⌝ }
 {
     let p = parity_of(t, d);
     base::put(out, 0, d);

@@ -3,8 +3,7 @@ use crate::rows::TABLE;
 ghost use mathlib.Core.Path.{_≡_};
 ghost use Prim.Native.Nat.{_+_, _≤_, _<_};
 ghost use lib.ListN.{length, take, drop, replicate};
-ghost use Rattle.codeword.specs.Code.{plus, run};
-ghost use Rattle.code.specs.Words.{parity};
+ghost use Rattle.codeword.specs.Code.{plus, run, parityOf};
 ghost use Rattle.code.specs.Kernel.{back, power, Made, laid, sumOf};
 ghost use Rattle.code.specs.Sharing.{Left};
 
@@ -77,7 +76,7 @@ fn lay(d: &[u8]) -> [u8; 208]
 // THE ENCODER: the parity of the data bytes, with the table t.
 pub fn parity_of(t: &[u8; TABLE], d: &[u8]) -> [u8; 48]
     requires { ⌜ (length (now d) ≤ 207) × Made (now t) 12288 ⌝ }
-    ensures { λ r. ⌜ r ≡ parity (length (now (d .entry))) (now (d .entry)) ⌝ }
+    ensures { λ r. ⌜ r ≡ parityOf (now (d .entry)) ⌝ }
 {
     let w = lay(d);
     register(t, &w)

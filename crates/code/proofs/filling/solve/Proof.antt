@@ -5,7 +5,7 @@ use native.Mathlib.Omega.{arith}
 use borrow.Author.Needs.{needs}
 use lib.ListN.{length, drop, replicate}
 use Rattle.code.specs.Words.{table}
-use Rattle.code.proofs.WordLaws.{length-table}
+use Rattle.code.proofs.LaneLaws.{length-table}
 use Rattle.code.specs.Kernel.{Doubles, lane}
 use Rattle.code.specs.Filling.{rowOf, colOf, mix}
 use Rattle.code.proofs.SolveLaws.{mixed-start, mixed-more, mixed-end}

@@ -5,7 +5,6 @@ use native.Mathlib.Omega.{arith}
 use borrow.Author.Needs.{needs}
 use lib.ListN.{length, take, drop}
 use lib.Seq.{length-take-le}
-use Rattle.code.specs.Words.{parity}
 use Rattle.code.specs.Kernel.{sumOf, remainder}
 use Rattle.code.proofs.LaneLaws.{bytes-of, fits-byte}
 use Rattle.code.proofs.register.remainder_of.Statement.{statement}
@@ -28,9 +27,7 @@ summed-requires c κs = search needs
 returns : tie.Need-returns
 unfolding remainder
 returns c =
-    let h : c .before .before .before .before .args .k ≤ length (c .before .before .before .before .args .c .now) = search needs in
-    let e : length (take (c .before .before .before .before .args .k) (c .before .before .before .before .args .c .now)) ≡ c .before .before .before .before .args .k = length-take-le (c .before .before .before .before .args .k) (c .before .before .before .before .args .c .now) h in
-    record { rest = c .summed .ensures ∙ ap (λ p. sumOf p (drop (c .before .before .before .before .args .k) (c .before .before .before .before .args .c .now))) (c .before .parity-of .ensures ∙ ap (λ n. parity n (take (c .before .before .before .before .args .k) (c .before .before .before .before .args .c .now))) e); bytes = bytes-of (c .before .before .before .before .args .c .now) (λ i. fits-byte (c .before .before .before .shared-slice-known .given i)) }
+    record { rest = c .summed .ensures ∙ ap (λ p. sumOf p (drop (c .before .before .before .before .args .k) (c .before .before .before .before .args .c .now))) (c .before .parity-of .ensures); bytes = bytes-of (c .before .before .before .before .args .c .now) (λ i. fits-byte (c .before .before .before .shared-slice-known .given i)) }
 
 pub remainder-of-spec : {M : Type 1} → statement M
 remainder-of-spec =

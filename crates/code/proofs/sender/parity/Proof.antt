@@ -3,7 +3,6 @@ use borrow.Author.Needs.{needs}
 use lib.ListN.{length}
 use Rattle.base.proofs.Logic.{told}
 use Rattle.base.specs.Written.{numberOf}
-use Rattle.codeword.specs.Code.{parityOf}
 use Rattle.code.proofs.CallCases as cases
 use Rattle.code.proofs.sender.parity.Statement.{statement}
 use Rattle.code.proofs.sender.parity.Tie as tie
@@ -31,7 +30,6 @@ same-length : tie.Need-same-length
 same-length c = search needs
 
 returns-2 : tie.Need-returns-2
-unfolding parityOf Rattle.code.specs.Words.parity
 returns-2 c = cases.parity-put (c .before .before .before .before .before .before .before .before .before .before .before .before .before .args .chunk .now) (c .before .before .before .before .before .before .before .before .before .before .before .before .before .args .out .now) (c .before .before .before .before .before .parity-of .result) (told (c .before .before .before .before .before .before .before .before .before .before .bad-size .ensures) (c .before .before .before .before .before .before .before .before .before .if1 .left)) (search needs) (c .before .before .before .before .before .parity-of .ensures) (c .before .before .put .ensures)
 
 pub parity-spec : {M : Type 1} → statement M
