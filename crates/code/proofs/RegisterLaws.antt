@@ -39,6 +39,10 @@ unfolding back
 length-back zero s = refl
 length-back (suc n) s = length-shift (back n s) ∙ length-back n s
 
+pub back-one : (s : List ℕ) → back 1 s ≡ shift s
+unfolding back
+back-one s = refl
+
 pub step-is : (s : List ℕ) (b : ℕ) → length s ≡ 48 → step s b ≡ plus (first s ⊕ b) generator (shift s)
 unfolding step shift
 step-is [] b e = absurd (suc-ne-zero 47 (sym e))

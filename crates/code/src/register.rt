@@ -1,26 +1,17 @@
 // The register of the encoder, eight bytes a step, and what the generator leaves of a chunk.
 use crate::rows::TABLE;
+use crate::rows::shifted;
 ghost use mathlib.Core.Path.{_≡_};
 ghost use Prim.Native.Nat.{_+_, _≤_, _<_};
 ghost use lib.ListN.{length, take, drop, replicate};
 ghost use Rattle.codeword.specs.Code.{plus, run, parityOf};
-ghost use Rattle.code.specs.Kernel.{back, power, Made, laid, sumOf};
+ghost use Rattle.code.specs.Kernel.{power, Made, laid, sumOf};
 ghost use Rattle.code.specs.Sharing.{Left};
 
 fn wide(x: u8) -> usize
     ensures { λ r. ⌜ r ≡ x ⌝ }
 {
     x as usize
-}
-
-fn shifted8(p: [u8; 48]) -> [u8; 48]
-    ensures { λ r. ⌜ r ≡ back 8 p ⌝ }
-{
-    let mut q = [0u8; 48];
-    for j in 0..40 {
-        q[j] = p[j + 8];
-    }
-    q
 }
 
 // q + x times the power n
@@ -40,7 +31,7 @@ fn eight(t: &[u8; TABLE], p: [u8; 48], d: &[u8; 208], at: usize) -> [u8; 48]
     requires { ⌜ (at ≤ 200) × (length (now d) ≡ 208) × Made (now t) 12288 ⌝ }
     ensures { λ r. ⌜ r ≡ run p (take 8 (drop at (now (d .entry)))) ⌝ }
 {
-    let mut q = shifted8(p);
+    let mut q = shifted(p, 8);
     for n in 0..8 {
         byte_in(&mut q, t, field::sum(p[7 - n], d[at + (7 - n)]), n);
     }

@@ -3,10 +3,10 @@ use crate::products::added;
 use crate::products::lanes;
 use crate::products::multiples;
 ghost use mathlib.Core.Path.{_≡_};
-ghost use Prim.Native.Nat.{_+_, _*_, _<_};
+ghost use Prim.Native.Nat.{_+_, _*_, _≤_, _<_};
 ghost use lib.ListN.{length};
 ghost use Rattle.codeword.specs.Code.{generator, step};
-ghost use Rattle.code.specs.Kernel.{shift, power, factorOf, Made, RowOf};
+ghost use Rattle.code.specs.Kernel.{back, power, factorOf, Made, RowOf};
 
 // The bytes of the table: eight powers, 32 rows each, 48 bytes a row.
 pub const TABLE: usize = 12288;
@@ -62,12 +62,14 @@ const GENERATOR: [u8; 48] = [
     228,
 ];
 
-fn shifted(p: [u8; 48]) -> [u8; 48]
-    ensures { λ r. ⌜ r ≡ shift p ⌝ }
+// The register moved `by` places to the front, with zeros behind.
+pub fn shifted(p: [u8; 48], by: usize) -> [u8; 48]
+    requires { ⌜ by ≤ 48 ⌝ }
+    ensures { λ r. ⌜ r ≡ back by p ⌝ }
 {
     let mut q = [0u8; 48];
-    for j in 0..47 {
-        q[j] = p[j + 1];
+    for j in 0..48 - by {
+        q[j] = p[j + by];
     }
     q
 }
@@ -83,7 +85,7 @@ fn next_power(b: [u8; 48], g: [u8; 48]) -> [u8; 48]
     requires { ⌜ g ≡ generator ⌝ }
     ensures { λ r. ⌜ r ≡ step b 0 ⌝ }
 {
-    added(shifted(b), b[0], g)
+    added(shifted(b, 1), b[0], g)
 }
 
 fn factor(u: usize) -> u8

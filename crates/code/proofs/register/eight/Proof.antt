@@ -16,13 +16,13 @@ abbrev μ-loop : tie.MeasureT-loop
 μ-loop t d at p q₀ n₀ q n =
     8 - n
 
-shifted8-requires : tie.Need-shifted8-requires Inv-loop μ-loop
-shifted8-requires c κs = search needs
+shifted-requires : tie.Need-shifted-requires Inv-loop μ-loop
+shifted-requires c κs = search needs
 
 loop-holds : tie.Need-loop-holds Inv-loop μ-loop
 loop-holds c =
     let e : length (c .before .args .t2) ≡ 48 = search needs in
-    (c .before .pre .0, c .before .pre .1, c .before .pre .2, e, search needs, eight-start (c .before .args .t2) (c .before .args .d .now) (c .before .args .at) 0 e (c .before .pre .1) (c .before .pre .0) (c .shifted8 .result) (c .shifted8 .ensures))
+    (c .before .pre .0, c .before .pre .1, c .before .pre .2, e, search needs, eight-start (c .before .args .t2) (c .before .args .d .now) (c .before .args .at) 0 e (c .before .pre .1) (c .before .pre .0) (c .shifted .result) (c .shifted .ensures))
 
 sub-sum : tie.Need-sub-sum Inv-loop μ-loop
 sub-sum c = search needs
@@ -71,7 +71,7 @@ eight-spec =
     (tie.spec
     Inv-loop
     μ-loop
-    shifted8-requires
+    shifted-requires
     loop-holds
     sub-sum
     array-read-sum

@@ -5,7 +5,7 @@ use Prim.Native.Nat.{ℕ, _-_}
 use borrow.Author.Needs.{needs}
 use lib.ListN.{length, getD}
 use Rattle.field.proofs.Sums.{add-0-r}
-use Rattle.code.proofs.RegisterLaws.{step-is}
+use Rattle.code.proofs.RegisterLaws.{back-one, step-is}
 use Rattle.code.proofs.rows.next_power.Statement.{statement}
 use Rattle.code.proofs.rows.next_power.Tie as tie
 
@@ -22,7 +22,7 @@ returns : tie.Need-returns
 returns c =
     let b : List ℕ = c .before .before .args .t1 in
     let e : length b ≡ 48 = search needs in
-    cc (step-is b 0 e, add-0-r (getD b 0 0))
+    cc (back-one b, step-is b 0 e, add-0-r (getD b 0 0))
 
 pub next-power-spec : {M : Type 1} → statement M
 next-power-spec = tie.close (tie.spec shifted-requires array-read-added added-requires returns)

@@ -5,24 +5,27 @@ use Prim.Native.Nat.{ℕ, _+_, _-_, _≤_}
 use native.Mathlib.Omega.{arith}
 use borrow.Author.Needs.{needs}
 use lib.ListN.{length, getD, replicate}
-use Rattle.code.specs.Kernel.{shift}
+use Rattle.code.specs.Kernel.{back}
 use Rattle.code.proofs.LoopLaws.{Upto, upto-start, upto-more}
-use Rattle.code.proofs.RegisterLaws.{shift-at, length-shift}
+use Rattle.code.proofs.RegisterLaws.{back-at, length-back}
 use Rattle.code.proofs.RowLaws.{upto-rest, past-end, zeros-at}
 use Rattle.code.proofs.rows.shifted.Statement.{statement}
 use Rattle.code.proofs.rows.shifted.Tie as tie
 
 abbrev Inv-loop : tie.InvT-loop
-Inv-loop p q₀ j₀ q j =
-    (length p ≡ 48) × (j ≤ 47) × Upto (shift p) (replicate 48 0) j q
+Inv-loop by p q₀ j₀ j-end q j =
+    (length p ≡ 48) × (by ≤ 48) × (j-end ≡ 48 - by) × (j ≤ j-end) × Upto (back by p) (replicate 48 0) j q
 
 abbrev μ-loop : tie.MeasureT-loop
-μ-loop p q₀ j₀ q j =
-    47 - j
+μ-loop by p q₀ j₀ j-end q j =
+    j-end - j
+
+sub-j-end : tie.Need-sub-j-end Inv-loop μ-loop
+sub-j-end c = search needs
 
 loop-holds : tie.Need-loop-holds Inv-loop μ-loop
 loop-holds c =
-    (search needs, search needs, upto-start _ _)
+    (search needs, search needs, search needs, search needs, upto-start _ _)
 
 add-q : tie.Need-add-q Inv-loop μ-loop
 add-q c = search needs
@@ -42,17 +45,19 @@ loop-less c = search needs
 loop-again : tie.Need-loop-again Inv-loop μ-loop
 loop-again c =
     let p : List ℕ = c .before .before .args .t1 in
+    let by : ℕ = c .before .before .args .by in
     let j : ℕ = c .before .loop .j in
     let I = c .before .loop .inv in
-    (I .0, search needs, upto-more (shift p) (replicate 48 0) j (c .before .loop .q) (getD p (j + 1) 0) (I .2) (omega arith) (sym (shift-at p j)))
+    (I .0, I .1, I .2, search needs, upto-more (back by p) (replicate 48 0) j (c .before .loop .q) (getD p (j + by) 0) (I .4) (omega arith) (sym (back-at by p j)))
 
 returns : tie.Need-returns Inv-loop μ-loop
 returns c =
     let p : List ℕ = c .before .before .args .t1 in
+    let by : ℕ = c .before .before .args .by in
     let I = c .before .loop .inv in
     let e : length p ≡ 48 = I .0 in
-    let h : 47 ≤ c .before .loop .j = search needs in
-    upto-rest (shift p) (replicate 48 0) (c .before .loop .j) (c .before .loop .q) (I .2) (length-shift p ∙ e) (λ i l m. zeros-at 48 i ∙ sym (shift-at p i ∙ past-end p (i + 1) (omega arith)))
+    let h : 48 - by ≤ c .before .loop .j = search needs in
+    upto-rest (back by p) (replicate 48 0) (c .before .loop .j) (c .before .loop .q) (I .4) (length-back by p ∙ e) (λ i l m. zeros-at 48 i ∙ sym (back-at by p i ∙ past-end p (i + by) (omega arith)))
 
 pub shifted-spec : {M : Type 1} → statement M
 shifted-spec =
@@ -60,6 +65,7 @@ shifted-spec =
     (tie.spec
     Inv-loop
     μ-loop
+    sub-j-end
     loop-holds
     add-q
     array-read-q
