@@ -6,13 +6,12 @@ use Prim.Native.Nat.{ℕ, zero, suc}
 use lib.Dec.{eqb}
 use lib.ListN.{getD}
 use Rattle.base.specs.Bounds.{most-f}
-use Rattle.base.specs.Answer.{outcome}
-use Rattle.base.specs.Written.{numberOf}
+use Rattle.base.specs.Answer.{Answer, granted, refused, outcome}
+use Rattle.base.specs.Written as written
 use Rattle.base.specs.declared.Written.{Written}
-use Rattle.base.specs.declared.Written.the-variants as written
+use Rattle.code.specs.Calls as filled
 use Rattle.code.specs.Calls.{encodeCall, BlockFilled}
 use Rattle.code.specs.declared.Filled.{Filled}
-use Rattle.code.specs.declared.Filled.the-variants as filled
 
 -- test a, test (a + 1), .., n of them
 unfoldable pub flags : (ℕ → Bool) → ℕ → ℕ → List Bool
@@ -27,22 +26,24 @@ isKept bytes i = not (eqb (getD bytes i 0) 0)
 unfoldable pub keptOf : List ℕ → List Bool
 keptOf bytes = flags (isKept bytes) 0 most-f
 
--- the number of a writing's answer: 0 where all was written, else the refusal's
-abbrev pub writtenNumber : Written → ℕ
-writtenNumber written.Done = 0
-writtenNumber (written.Refused n) = n
+-- an answer as one number: the refusal's, else the first value, and 0 where there is none
+unfoldable pub oneNumber : Answer → ℕ
+oneNumber (granted []) = 0
+oneNumber (granted (v ∷ values)) = v
+oneNumber (refused n) = n
 
--- the number of a filling's answer: 0, 256 and 257 are no refusal's
+-- that of a writing's answer
+abbrev pub writtenNumber : Written → ℕ
+writtenNumber w = oneNumber (written.numberOf w)
+
+-- that of a filling's answer: 256 and 257 are its values
 abbrev pub filledNumber : Filled → ℕ
-filledNumber filled.Done = 0
-filledNumber filled.Nothing = 256
-filledNumber filled.NotEnough = 257
-filledNumber (filled.Refused n) = n
+filledNumber a = oneNumber (filled.numberOf a)
 
 -- the block's call of crate code was answered, and r is the number of its answer
 pub record CardEncoded (packet : List ℕ) (k c : ℕ) (before after : List ℕ) (r : ℕ) : Type 0 where
   pub answer : Written
-  pub left : outcome (numberOf answer) after ≡ encodeCall packet k c before
+  pub left : outcome (written.numberOf answer) after ≡ encodeCall packet k c before
   pub number : r ≡ writtenNumber answer
 
 -- the filling's call of crate code was answered, and r is the number of its answer

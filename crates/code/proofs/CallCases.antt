@@ -9,14 +9,14 @@ use borrow.Author.Tests.{ltb-false, eqb-false, lt-ltb, le-ltb}
 use lib.Dec.{ltb, eqb, lit<, eqb→eq}
 use lib.ListN.{length, take, drop, replicate, length-replicate, length-drop, take-append-drop, replicate-append-replicate, drop-of-length-le, length-append}
 use lib.Seq.{take-at, drop-at, take-append-add, drop-drop}
-use Rattle.base.specs.Answer.{granted, refused, Outcome, outcome, settled}
+use Rattle.base.specs.Answer.{granted, refused, answered, Outcome, outcome, settled}
 use Rattle.base.specs.Bounds.{most-k, place, parity}
 use Rattle.base.specs.Bytes.{splice}
 use Rattle.base.specs.Tests.{first}
 use Rattle.base.specs.Written.{numberOf, putFault, putOf}
 use Rattle.base.specs.declared.Written.{Written}
 use Rattle.base.specs.declared.Written.the-variants as written
-use Rattle.base.proofs.Answers.{writes, leaves, put-done}
+use Rattle.base.proofs.Answers.{grants, refuses, writes, leaves, put-done}
 use Rattle.base.proofs.Firsts.{due, skip, none-due}
 use Rattle.base.proofs.Logic.{or-left, or-right}
 use Rattle.base.proofs.Splice.{splice-next}
@@ -24,10 +24,10 @@ use Rattle.cut.specs.Block.{padded, wordOf, blockOf}
 use Rattle.cut.proofs.Blocks.{length-block, length-padded}
 use Rattle.codeword.proofs.Encoder.{length-parity}
 use Rattle.code.specs.Block.{part, Encoded}
-use Rattle.code.specs.Fill.{Fills}
+use Rattle.code.specs.Fill.{Fills, filledOf}
 use Rattle.codeword.specs.Code.{parityOf, encode}
 use Rattle.code.specs.Calls.{badSize, parityFault, parityCall, overPlace, misfits, encodeFault, encodeCall, badPair, chunkFault, ChunkFilled}
-use Rattle.code.specs.Inner.{filledOf}
+use Rattle.code.specs.Calls as calls
 use Rattle.code.specs.declared.Answer.{Answer}
 use Rattle.code.specs.declared.Answer.the-variants as answers
 use Rattle.code.specs.declared.Filled.{Filled}
@@ -184,12 +184,24 @@ module _ (packet out : List ℕ) (k c : ℕ) where
         encode-done y h e =
             writes _ _ _ _ _ (skip 8 _ sized (skip 8 _ placed (skip 8 _ fits (skip 1 _ (le-ltb (length out) (c * (k + parity)) h) none-due)))) e
 
+-- ---- what the number of an answer tells
+
+pub granted-by : (fault : ℕ) (v w : List ℕ) → granted v ≡ answered fault w → (0 ≡ fault) × (v ≡ w)
+unfolding answered
+granted-by zero v w e = (refl, cc)
+granted-by (suc n) v w e = let z : _≡_ {A = ℕ} 0 1 = cc in absurd (omega arith)
+
+pub refused-by : (n fault : ℕ) (w : List ℕ) → refused n ≡ answered fault w → (n ≡ fault) × (0 < n)
+unfolding answered
+refused-by n zero w e = let z : _≡_ {A = ℕ} 0 1 = cc in absurd (omega arith)
+refused-by n (suc m) w e = let q : n ≡ suc m = cc in (q, omega arith)
+
 -- ---- the missing bytes of a chunk
 
 module _ (k : ℕ) (mask c : List ℕ) where
   pub chunk-refused : badPair k (length mask) (length c) ≡ true → ChunkFilled k mask c c (Refused 8)
-  unfolding ChunkFilled chunkFault
-  chunk-refused e = (due 8 _ e, lit< tt, refl)
+  unfolding calls.numberOf chunkFault
+  chunk-refused e = record { number = refuses 8 _ _ (lit< tt) (due 8 _ e); left = refl }
 
   module _ (fine : badPair k (length mask) (length c) ≡ false) where
     pub pair-size : badSize k ≡ false
@@ -218,10 +230,10 @@ module _ (k : ℕ) (mask c : List ℕ) where
     none = skip 8 _ fine none-due
 
     told-by : (after : List ℕ) (a : Answer) → Fills k mask c after a → ChunkFilled k mask c after (filledOf a)
-    unfolding ChunkFilled
-    told-by after answers.Found f = (none, f .0, f .1)
-    told-by after answers.Nothing f = (none, f .0, f .1, f .2)
-    told-by after answers.NotEnough f = (none, f .0, f .1)
+    unfolding calls.numberOf
+    told-by after answers.Found f = record { number = grants _ _ none; left = f }
+    told-by after answers.Nothing f = record { number = grants _ _ none; left = f }
+    told-by after answers.NotEnough f = record { number = grants _ _ none; left = f }
 
     pub chunk-told : (after : List ℕ) (a : Answer) (r : Filled) → Fills k mask c after a → r ≡ filledOf a → ChunkFilled k mask c after r
     chunk-told after a r f e = subst (ChunkFilled k mask c after) (sym e) (told-by after a f)

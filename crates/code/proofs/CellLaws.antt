@@ -14,7 +14,8 @@ use Rattle.base.specs.Bounds.{parity}
 use Rattle.base.specs.Table.{table}
 use Rattle.base.specs.Bytes.{splice}
 use Rattle.base.specs.Tests.{first}
-use Rattle.base.specs.Answer.{granted, refused, answered}
+use Rattle.base.specs.Answer.{granted, refused}
+use Rattle.base.proofs.Answers.{grants, refuses}
 use Rattle.base.proofs.Firsts.{due, skip, none-due, clear, clear-rest}
 use Rattle.base.proofs.Logic.{clash}
 use Rattle.base.proofs.Splice.{splice-next}
@@ -28,9 +29,10 @@ use Rattle.codeword.specs.Erasure.{marks, erase, count}
 use Rattle.codeword.proofs.Erasure.{length-erase}
 use Rattle.code.specs.Fill.{Agrees}
 use Rattle.code.specs.Block.{part, Status, Filling, SomeLeft, Ready, Unmended, Mended}
-use Rattle.code.specs.Calls.{lostCells, fillFault, BlockFilled}
+use Rattle.code.specs.Calls.{numberOf, lostCells, fillFault, BlockFilled}
 use Rattle.code.specs.Inner.{Standing, Holds}
 use Rattle.code.specs.declared.Filled.the-variants.{Done, Nothing, NotEnough, Refused}
+use Rattle.code.proofs.CallCases.{granted-by, refused-by}
 use Rattle.code.proofs.FillLaws.{erase-twice}
 use Rattle.code.proofs.MaskLaws.{erase-at, length-marks}
 use Rattle.code.proofs.PartLaws.{room, length-part, part-at}
@@ -217,8 +219,14 @@ module _ (kept : List Bool) (f s k : ℕ) (block : List ℕ) (enough : Bool) (st
   c = f * s / (k + 48)
 
   pub fill-room : length block < f * s / (k + 48) * (k + 48) → BlockFilled kept f s k block block (Refused 1)
-  unfolding BlockFilled fillFault receivedC
-  fill-room h = (skip 7 _ (st .counted) (skip 8 _ (st .placed) (skip 8 _ (st .sound) (due 1 _ (lt-ltb (length block) (f * s / (k + parity) * (k + parity)) h)))), lit< tt, refl)
+  unfolding numberOf fillFault receivedC
+  fill-room h =
+      record {
+        number =
+            refuses 1 _ _ (lit< tt)
+            (skip 7 _ (st .counted) (skip 8 _ (st .placed) (skip 8 _ (st .sound) (due 1 _ (lt-ltb (length block) (f * s / (k + parity) * (k + parity)) h)))));
+        left = refl;
+      }
 
   module _ (whole : f * s / (k + 48) * (k + 48) ≤ length block) where
     no-fault : 0 ≡ fillFault f s k (length block)
@@ -226,8 +234,8 @@ module _ (kept : List Bool) (f s k : ℕ) (block : List ℕ) (enough : Bool) (st
     no-fault = skip 7 _ (st .counted) (skip 8 _ (st .placed) (skip 8 _ (st .sound) (skip 1 _ (le-ltb (length block) (f * s / (k + parity) * (k + parity)) whole) none-due)))
 
     pub fill-not-enough : enough ≡ false → BlockFilled kept f s k block block NotEnough
-    unfolding BlockFilled receivedC
-    fill-not-enough e = (no-fault, st .told ∙ e, refl)
+    unfolding numberOf receivedC
+    fill-not-enough e = record { number = grants _ _ no-fault; left = (st .told ∙ e, refl) }
 
     all : ℕ
     all = f * s / (k + 48) * (k + 48)
@@ -242,44 +250,48 @@ module _ (kept : List Bool) (f s k : ℕ) (block : List ℕ) (enough : Bool) (st
     module _ (new after : List ℕ) (size : length new ≡ f * s / (k + 48) * (k + 48)) (is : after ≡ new ++ drop (f * s / (k + 48) * (k + 48)) block) (yes-enough : enough ≡ true) where
       pub fill-done : Mended k (lostCells kept f 0 (f * s / (k + 48) * (k + 48))) (f * s / (k + 48)) (take (f * s / (k + 48) * (k + 48)) block) new true
           → BlockFilled kept f s k block after Done
-      unfolding BlockFilled receivedC all front c
-      fill-done m = (
-        no-fault,
-        st .told ∙ yes-enough,
-        record {
-          size = ap length is ∙ length-append new (drop all block) ∙ omega (arith, length-drop all block);
-          each = λ j h.
-              subst (λ (x : List ℕ). Agrees k x (chunkOf block (k + 48) j) (chunkOf after (k + 48) j)) (part-lost kept f (k + 48) c j h)
-              (subst (λ (x : List ℕ). Agrees k (part (k + 48) j (lostCells kept f 0 all)) x (chunkOf after (k + 48) j))
-              (part-front (k + 48) c j front (drop all block) length-front h ∙ ap (λ (l : List ℕ). chunkOf l (k + 48) j) (take-append-drop all block))
-              (subst (λ (x : List ℕ). Agrees k (part (k + 48) j (lostCells kept f 0 all)) (part (k + 48) j front) x)
-              (part-front (k + 48) c j new (drop all block) size h ∙ ap (λ (l : List ℕ). chunkOf l (k + 48) j) (sym is))
-              (m j h)));
-          behind = ap (drop all) is ∙ drop-at new (drop all block) all size;
-        },
-      )
+      unfolding numberOf receivedC all front c
+      fill-done m = record {
+        number = grants _ _ no-fault;
+        left = (
+          st .told ∙ yes-enough,
+          record {
+            size = ap length is ∙ length-append new (drop all block) ∙ omega (arith, length-drop all block);
+            each = λ j h.
+                subst (λ (x : List ℕ). Agrees k x (chunkOf block (k + 48) j) (chunkOf after (k + 48) j)) (part-lost kept f (k + 48) c j h)
+                (subst (λ (x : List ℕ). Agrees k (part (k + 48) j (lostCells kept f 0 all)) x (chunkOf after (k + 48) j))
+                (part-front (k + 48) c j front (drop all block) length-front h ∙ ap (λ (l : List ℕ). chunkOf l (k + 48) j) (take-append-drop all block))
+                (subst (λ (x : List ℕ). Agrees k (part (k + 48) j (lostCells kept f 0 all)) (part (k + 48) j front) x)
+                (part-front (k + 48) c j new (drop all block) size h ∙ ap (λ (l : List ℕ). chunkOf l (k + 48) j) (sym is))
+                (m j h)));
+            behind = ap (drop all) is ∙ drop-at new (drop all block) all size;
+          },
+        );
+      }
 
       pub fill-nothing : Mended k (lostCells kept f 0 (f * s / (k + 48) * (k + 48))) (f * s / (k + 48)) (take (f * s / (k + 48) * (k + 48)) block) new false
           → BlockFilled kept f s k block after Nothing
-      unfolding BlockFilled receivedC all front c
-      fill-nothing m = (
-        no-fault,
-        st .told ∙ yes-enough,
-        record {
-          at = m .at;
-          below = m .below;
-          none = λ w g.
-              m .none w
-              (subst (λ (x : List ℕ). Agrees k x (part (k + 48) (m .at) front) w) (sym (part-lost kept f (k + 48) c (m .at) (m .below)))
-              (subst (λ (x : List ℕ). Agrees k (lostCells kept f (m .at * (k + 48)) (k + 48)) x w)
-              (sym (part-front (k + 48) c (m .at) front (drop all block) length-front (m .below) ∙ ap (λ (l : List ℕ). chunkOf l (k + 48) (m .at)) (take-append-drop all block)))
-              g));
-          zeros =
-              is ∙ ap (λ (l : List ℕ). l ++ drop all block) (m .zeros)
-              ∙ sym (erase-front (marks (lostCells kept f 0 all)) front (drop all block) (length-marks (lostCells kept f 0 all) ∙ length-lost kept f 0 all ∙ sym length-front))
-              ∙ ap (erase (marks (lostCells kept f 0 all))) (take-append-drop all block);
-        },
-      )
+      unfolding numberOf receivedC all front c
+      fill-nothing m = record {
+        number = grants _ _ no-fault;
+        left = (
+          st .told ∙ yes-enough,
+          record {
+            at = m .at;
+            below = m .below;
+            none = λ w g.
+                m .none w
+                (subst (λ (x : List ℕ). Agrees k x (part (k + 48) (m .at) front) w) (sym (part-lost kept f (k + 48) c (m .at) (m .below)))
+                (subst (λ (x : List ℕ). Agrees k (lostCells kept f (m .at * (k + 48)) (k + 48)) x w)
+                (sym (part-front (k + 48) c (m .at) front (drop all block) length-front (m .below) ∙ ap (λ (l : List ℕ). chunkOf l (k + 48) (m .at)) (take-append-drop all block)))
+                g));
+            zeros =
+                is ∙ ap (λ (l : List ℕ). l ++ drop all block) (m .zeros)
+                ∙ sym (erase-front (marks (lostCells kept f 0 all)) front (drop all block) (length-marks (lostCells kept f 0 all) ∙ length-lost kept f 0 all ∙ sym length-front))
+                ∙ ap (erase (marks (lostCells kept f 0 all))) (take-append-drop all block);
+          },
+        );
+      }
 
 -- ---- what the test of sufficing tells
 
@@ -300,16 +312,6 @@ module _ (kept : List Bool) (f s k : ℕ) where
       let q = clear-rest (tooMuch f s) 8 ((badChunk f s k, 8) ∷ []) (λ z. omega arith) r in
       (clear (badCount f) 7 ((tooMuch f s, 8) ∷ (badChunk f s k, 8) ∷ []) (λ z. omega arith) e, clear (tooMuch f s) 8 ((badChunk f s k, 8) ∷ []) (λ z. omega arith) r, clear (badChunk f s k) 8 [] (λ z. omega arith) q)
 
-  granted-by : (fault v w : ℕ) → granted (v ∷ []) ≡ answered fault (w ∷ []) → (fault ≡ 0) × (v ≡ w)
-  unfolding answered
-  granted-by zero v w e = (refl, cc)
-  granted-by (suc n) v w e = let z : _≡_ {A = ℕ} 0 1 = cc in absurd (omega arith)
-
-  refused-by : (fault n w : ℕ) → refused n ≡ answered fault (w ∷ []) → (n ≡ fault) × (0 < n)
-  unfolding answered
-  refused-by zero n w e = let z : _≡_ {A = ℕ} 0 1 = cc in absurd (omega arith)
-  refused-by (suc m) n w e = let q : n ≡ suc m = cc in (q, omega arith)
-
   bit-back : (a b : Bool) → bit a ≡ bit b → b ≡ a
   bit-back true true e = refl
   bit-back false false e = refl
@@ -319,9 +321,9 @@ module _ (kept : List Bool) (f s k : ℕ) where
   pub standing : (b : Bool) → granted (bit b ∷ []) ≡ enoughOf kept f s k → Standing kept f s k b
   unfolding enoughOf receivedC
   standing b e =
-      let g = granted-by (enoughFault f s k) (bit b) (bit (suffice (notKept kept) f (k + parity) (f * s / (k + parity)))) e in
-      let t = sound-by (g .0) in
-      record { counted = t .0; placed = t .1; sound = t .2; told = bit-back b (suffice (notKept kept) f (k + parity) (f * s / (k + parity))) (g .1) }
+      let g = granted-by (enoughFault f s k) (bit b ∷ []) (bit (suffice (notKept kept) f (k + parity) (f * s / (k + parity))) ∷ []) e in
+      let t = sound-by (sym (g .0)) in
+      record { counted = t .0; placed = t .1; sound = t .2; told = bit-back b (suffice (notKept kept) f (k + parity) (f * s / (k + parity))) (ap (λ (l : List ℕ). getD l 0 0) (g .1)) }
 
   same-fault : (n len : ℕ) → n ≡ enoughFault f s k → 0 < n → enoughFault f s k ≡ fillFault f s k len
   unfolding enoughFault fillFault
@@ -331,7 +333,7 @@ module _ (kept : List Bool) (f s k : ℕ) where
       go a b d x q = firsts-same n a b d x h q
 
   pub fill-refused : (n : ℕ) (block : List ℕ) → refused n ≡ enoughOf kept f s k → BlockFilled kept f s k block block (Refused n)
-  unfolding enoughOf BlockFilled
+  unfolding enoughOf numberOf
   fill-refused n block e =
-      let g = refused-by (enoughFault f s k) n (bit (suffice (notKept kept) f (k + parity) (receivedC f s k))) e in
-      (g .0 ∙ same-fault n (length block) (g .0) (g .1), g .1, refl)
+      let g = refused-by n (enoughFault f s k) (bit (suffice (notKept kept) f (k + parity) (receivedC f s k)) ∷ []) e in
+      record { number = refuses n _ _ (g .1) (g .0 ∙ same-fault n (length block) (g .0) (g .1)); left = refl }

@@ -9,6 +9,7 @@ use Rattle.base.proofs.Logic.{clash}
 use lib.Dec.{ltb}
 use lib.ListN.{length, take, drop, take-append-drop}
 use lib.Seq.{drop-drop}
+use Rattle.base.specs.Answer.{granted, refused, answered}
 use Rattle.base.specs.Bounds.{parity}
 use Rattle.base.proofs.Firsts.{clear, clear-rest}
 use Rattle.cut.specs.Block.{chunkOf}
@@ -18,12 +19,45 @@ use Rattle.weave.specs.Calls.{badCount, tooMuch, badChunk, notKept}
 use Rattle.weave.proofs.CallCases.{chunk-some}
 use Rattle.codeword.specs.Erasure.{marks, count}
 use Rattle.code.specs.Fill.{Agrees}
-use Rattle.code.specs.Calls.{badPair, chunkFault, ChunkFilled, lostCells, fillFault, BlockFilled}
+use Rattle.code.specs.Calls.{numberOf, valuesOf, badPair, chunkFault, ChunkFilled, lostCells, fillFault, BlockFilled}
 use Rattle.code.specs.declared.Filled.{Filled}
 use Rattle.code.specs.declared.Filled.the-variants.{Done, Nothing, NotEnough, Refused}
-use Rattle.code.proofs.CallCases.{size-most, pair-size, pair-mask}
+use Rattle.code.proofs.CallCases.{granted-by, refused-by, size-most, pair-size, pair-mask}
 use Rattle.code.proofs.FillLaws.{one-filling}
 use Rattle.code.proofs.CellLaws.{length-lost, part-lost, few-lost}
+
+-- ---- numbers
+
+-- no two answers have one number
+pub one-filled : (a b : Filled) → numberOf a ≡ numberOf b → a ≡ b
+unfolding numberOf valuesOf
+one-filled Done Done e = refl
+one-filled Done Nothing e = cc
+one-filled Done NotEnough e = cc
+one-filled Done (Refused n) e = cc
+one-filled Nothing Done e = cc
+one-filled Nothing Nothing e = refl
+one-filled Nothing NotEnough e = let z : _≡_ {A = ℕ} 256 257 = cc in absurd (omega arith)
+one-filled Nothing (Refused n) e = cc
+one-filled NotEnough Done e = cc
+one-filled NotEnough Nothing e = let z : _≡_ {A = ℕ} 257 256 = cc in absurd (omega arith)
+one-filled NotEnough NotEnough e = refl
+one-filled NotEnough (Refused n) e = cc
+one-filled (Refused m) Done e = cc
+one-filled (Refused m) Nothing e = cc
+one-filled (Refused m) NotEnough e = cc
+one-filled (Refused m) (Refused n) e = cc
+
+-- nothing is both granted and refused
+not-both : (n fault : ℕ) (u v w : List ℕ) → granted u ≡ answered fault v → refused n ≡ answered fault w → ⊥
+not-both n fault u v w a b =
+    let g = granted-by fault u v a in
+    let r = refused-by n fault w b in
+    omega (arith, g .0, r .0, r .1)
+
+-- nor refused for two numbers
+one-number : (n m fault : ℕ) (v w : List ℕ) → refused n ≡ answered fault v → refused m ≡ answered fault w → refused n ≡ refused m
+one-number n m fault v w a b = ap refused (refused-by n fault v a .0 ∙ sym (refused-by m fault w b .0))
 
 -- ---- a chunk
 
@@ -32,29 +66,26 @@ module _ (k : ℕ) (mask c v w : List ℕ) where
   unfolding chunkFault
   no-fault e = clear _ 8 [] (λ z. omega arith) (sym e)
 
-  due-not : {n : ℕ} → n ≡ chunkFault k (length mask) (length c) → 0 < n → 0 ≡ chunkFault k (length mask) (length c) → ⊥
-  due-not e h z = omega arith
-
   pub one-chunk-filled : (r s : Filled) → ChunkFilled k mask c v r → ChunkFilled k mask c w s → (r ≡ s) × (v ≡ w)
-  unfolding ChunkFilled
+  unfolding numberOf
   one-chunk-filled Done Done a b =
-      let fine : badPair k (length mask) (length c) ≡ false = no-fault (a .0) in
-      (refl, one-filling k mask c v w (size-most k (pair-size k mask c fine)) (pair-mask k mask c fine) (a .1) (a .2) (b .2))
-  one-chunk-filled Done Nothing a b = absurd (b .2 v (a .2))
-  one-chunk-filled Done NotEnough a b = absurd (omega (arith, a .1, b .1))
-  one-chunk-filled Done (Refused n) a b = absurd (due-not (b .0) (b .1) (a .0))
-  one-chunk-filled Nothing Done a b = absurd (a .2 w (b .2))
-  one-chunk-filled Nothing Nothing a b = (refl, a .3 ∙ sym (b .3))
-  one-chunk-filled Nothing NotEnough a b = absurd (omega (arith, a .1, b .1))
-  one-chunk-filled Nothing (Refused n) a b = absurd (due-not (b .0) (b .1) (a .0))
-  one-chunk-filled NotEnough Done a b = absurd (omega (arith, a .1, b .1))
-  one-chunk-filled NotEnough Nothing a b = absurd (omega (arith, a .1, b .1))
-  one-chunk-filled NotEnough NotEnough a b = (refl, a .2 ∙ sym (b .2))
-  one-chunk-filled NotEnough (Refused n) a b = absurd (due-not (b .0) (b .1) (a .0))
-  one-chunk-filled (Refused n) Done a b = absurd (due-not (a .0) (a .1) (b .0))
-  one-chunk-filled (Refused n) Nothing a b = absurd (due-not (a .0) (a .1) (b .0))
-  one-chunk-filled (Refused n) NotEnough a b = absurd (due-not (a .0) (a .1) (b .0))
-  one-chunk-filled (Refused n) (Refused m) a b = (ap Refused (a .0 ∙ sym (b .0)), a .2 ∙ sym (b .2))
+      let fine : badPair k (length mask) (length c) ≡ false = no-fault (granted-by _ _ _ (a .number) .0) in
+      (refl, one-filling k mask c v w (size-most k (pair-size k mask c fine)) (pair-mask k mask c fine) (a .left .0) (a .left .1) (b .left .1))
+  one-chunk-filled Done Nothing a b = absurd (b .left .1 v (a .left .1))
+  one-chunk-filled Done NotEnough a b = absurd (omega (arith, a .left .0, b .left .0))
+  one-chunk-filled Done (Refused n) a b = absurd (not-both _ _ _ _ _ (a .number) (b .number))
+  one-chunk-filled Nothing Done a b = absurd (a .left .1 w (b .left .1))
+  one-chunk-filled Nothing Nothing a b = (refl, a .left .2 ∙ sym (b .left .2))
+  one-chunk-filled Nothing NotEnough a b = absurd (omega (arith, a .left .0, b .left .0))
+  one-chunk-filled Nothing (Refused n) a b = absurd (not-both _ _ _ _ _ (a .number) (b .number))
+  one-chunk-filled NotEnough Done a b = absurd (omega (arith, a .left .0, b .left .0))
+  one-chunk-filled NotEnough Nothing a b = absurd (omega (arith, a .left .0, b .left .0))
+  one-chunk-filled NotEnough NotEnough a b = (refl, a .left .1 ∙ sym (b .left .1))
+  one-chunk-filled NotEnough (Refused n) a b = absurd (not-both _ _ _ _ _ (a .number) (b .number))
+  one-chunk-filled (Refused n) Done a b = absurd (not-both _ _ _ _ _ (b .number) (a .number))
+  one-chunk-filled (Refused n) Nothing a b = absurd (not-both _ _ _ _ _ (b .number) (a .number))
+  one-chunk-filled (Refused n) NotEnough a b = absurd (not-both _ _ _ _ _ (b .number) (a .number))
+  one-chunk-filled (Refused n) (Refused m) a b = (one-filled (Refused n) (Refused m) (one-number _ _ _ _ _ (a .number) (b .number)), a .left ∙ sym (b .left))
 
 -- ---- lists that have the same chunks, and the same behind them
 
@@ -95,25 +126,23 @@ module _ (kept : List Bool) (f s k : ℕ) (block v w : List ℕ) where
       (short fine) (length-lost kept f (j * (k + parity)) (k + parity))
       (subst (λ (m : List ℕ). count (marks m) ≤ 48) (part-lost kept f (k + parity) (receivedC f s k) j l) (few-lost kept f (k + parity) (receivedC f s k) enough j l)) a b
 
-  refusal : {n : ℕ} → n ≡ fillFault f s k (length block) → 0 < n → 0 ≡ fillFault f s k (length block) → ⊥
-  refusal e h z = omega arith
-
   pub one-block-filled : (r q : Filled) → BlockFilled kept f s k block v r → BlockFilled kept f s k block w q → (r ≡ q) × (v ≡ w)
-  unfolding BlockFilled
+  unfolding numberOf
   one-block-filled Done Done a b =
-      (refl, by-chunks (k + parity) (receivedC f s k) v w (λ j l. same-chunk (a .0) (a .1) j l (a .2 .each j l) (b .2 .each j l)) (a .2 .behind ∙ sym (b .2 .behind)))
-  one-block-filled Done Nothing a b = absurd (b .2 .none (chunkOf v (k + parity) (b .2 .at)) (a .2 .each (b .2 .at) (b .2 .below)))
-  one-block-filled Done NotEnough a b = clash (a .1) (b .1)
-  one-block-filled Done (Refused n) a b = absurd (refusal (b .0) (b .1) (a .0))
-  one-block-filled Nothing Done a b = absurd (a .2 .none (chunkOf w (k + parity) (a .2 .at)) (b .2 .each (a .2 .at) (a .2 .below)))
-  one-block-filled Nothing Nothing a b = (refl, a .2 .zeros ∙ sym (b .2 .zeros))
-  one-block-filled Nothing NotEnough a b = clash (a .1) (b .1)
-  one-block-filled Nothing (Refused n) a b = absurd (refusal (b .0) (b .1) (a .0))
-  one-block-filled NotEnough Done a b = clash (b .1) (a .1)
-  one-block-filled NotEnough Nothing a b = clash (b .1) (a .1)
-  one-block-filled NotEnough NotEnough a b = (refl, a .2 ∙ sym (b .2))
-  one-block-filled NotEnough (Refused n) a b = absurd (refusal (b .0) (b .1) (a .0))
-  one-block-filled (Refused n) Done a b = absurd (refusal (a .0) (a .1) (b .0))
-  one-block-filled (Refused n) Nothing a b = absurd (refusal (a .0) (a .1) (b .0))
-  one-block-filled (Refused n) NotEnough a b = absurd (refusal (a .0) (a .1) (b .0))
-  one-block-filled (Refused n) (Refused m) a b = (ap Refused (a .0 ∙ sym (b .0)), a .2 ∙ sym (b .2))
+      let fine : 0 ≡ fillFault f s k (length block) = granted-by _ _ _ (a .number) .0 in
+      (refl, by-chunks (k + parity) (receivedC f s k) v w (λ j l. same-chunk fine (a .left .0) j l (a .left .1 .each j l) (b .left .1 .each j l)) (a .left .1 .behind ∙ sym (b .left .1 .behind)))
+  one-block-filled Done Nothing a b = absurd (b .left .1 .none (chunkOf v (k + parity) (b .left .1 .at)) (a .left .1 .each (b .left .1 .at) (b .left .1 .below)))
+  one-block-filled Done NotEnough a b = clash (a .left .0) (b .left .0)
+  one-block-filled Done (Refused n) a b = absurd (not-both _ _ _ _ _ (a .number) (b .number))
+  one-block-filled Nothing Done a b = absurd (a .left .1 .none (chunkOf w (k + parity) (a .left .1 .at)) (b .left .1 .each (a .left .1 .at) (a .left .1 .below)))
+  one-block-filled Nothing Nothing a b = (refl, a .left .1 .zeros ∙ sym (b .left .1 .zeros))
+  one-block-filled Nothing NotEnough a b = clash (a .left .0) (b .left .0)
+  one-block-filled Nothing (Refused n) a b = absurd (not-both _ _ _ _ _ (a .number) (b .number))
+  one-block-filled NotEnough Done a b = clash (b .left .0) (a .left .0)
+  one-block-filled NotEnough Nothing a b = clash (b .left .0) (a .left .0)
+  one-block-filled NotEnough NotEnough a b = (refl, a .left .1 ∙ sym (b .left .1))
+  one-block-filled NotEnough (Refused n) a b = absurd (not-both _ _ _ _ _ (a .number) (b .number))
+  one-block-filled (Refused n) Done a b = absurd (not-both _ _ _ _ _ (b .number) (a .number))
+  one-block-filled (Refused n) Nothing a b = absurd (not-both _ _ _ _ _ (b .number) (a .number))
+  one-block-filled (Refused n) NotEnough a b = absurd (not-both _ _ _ _ _ (b .number) (a .number))
+  one-block-filled (Refused n) (Refused m) a b = (one-filled (Refused n) (Refused m) (one-number _ _ _ _ _ (a .number) (b .number)), a .left ∙ sym (b .left))

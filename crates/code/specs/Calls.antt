@@ -2,12 +2,12 @@
 use mathlib.Core.Path.{_≡_}
 use mathlib.Core.Bool.{Bool, true, false, not, _||_}
 use mathlib.Core.List.{List, [], _∷_}
-use Prim.Native.Nat.{ℕ, _+_, _-_, _*_, _≤_, _<_}
+use Prim.Native.Nat.{ℕ, _+_, _-_, _*_, _<_}
 use lib.Dec.{leb, ltb, eqb}
 use lib.ListN.{length, drop}
 use Rattle.base.specs.Bounds.{most-k, place, parity}
 use Rattle.base.specs.Tests.{first}
-use Rattle.base.specs.Answer.{Outcome, settled}
+use Rattle.base.specs.Answer.{Answer, granted, refused, answered, Outcome, settled}
 use Rattle.base.specs.Bytes.{splice}
 use Rattle.base.specs.Table.{table}
 use Rattle.cut.specs.Block.{padded, chunkOf, blockOf}
@@ -15,8 +15,8 @@ use Rattle.cut.specs.Missing.{bit, gone, suffice}
 use Rattle.cut.specs.Sizes.{receivedC}
 use Rattle.weave.specs.Calls.{badCount, tooMuch, badChunk, notKept}
 use Rattle.codeword.specs.Code.{parityOf}
-use Rattle.codeword.specs.Erasure.{marks, erase, count}
-use Rattle.code.specs.Fill.{Agrees}
+use Rattle.codeword.specs.Erasure.{marks, erase}
+use Rattle.code.specs.Fill.{Agrees, ChunkAfter}
 use Rattle.code.specs.declared.Filled.{Filled}
 use Rattle.code.specs.declared.Filled.the-variants.{Done, Nothing, NotEnough, Refused}
 
@@ -49,6 +49,20 @@ unfoldable pub encodeCall : List ℕ → ℕ → ℕ → List ℕ → Outcome
 encodeCall packet k c out =
     settled (encodeFault (length packet) k c (length out)) [] (splice out 0 (blockOf parityOf (padded packet (c * k - length packet)) k c)) out
 
+-- the values of a filling's answer; 256 and 257 are no refusal's number, which is a byte
+unfoldable pub valuesOf : Filled → List ℕ
+valuesOf Done = []
+valuesOf Nothing = 256 ∷ []
+valuesOf NotEnough = 257 ∷ []
+valuesOf (Refused n) = []
+
+-- document 01's number for each case
+unfoldable pub numberOf : Filled → Answer
+numberOf Done = granted (valuesOf Done)
+numberOf Nothing = granted (valuesOf Nothing)
+numberOf NotEnough = granted (valuesOf NotEnough)
+numberOf (Refused n) = refused n
+
 -- document 01, 8 SIZE: k is no chunk's size, or mask and chunk have not k + 48 bytes
 unfoldable pub badPair : ℕ → ℕ → ℕ → Bool
 badPair k mask chunk = badSize k || (not (eqb mask (k + parity)) || not (eqb chunk (k + parity)))
@@ -57,14 +71,10 @@ badPair k mask chunk = badSize k || (not (eqb mask (k + parity)) || not (eqb chu
 unfoldable pub chunkFault : ℕ → ℕ → ℕ → ℕ
 chunkFault k mask chunk = first ((badPair k mask chunk, 8) ∷ [])
 
--- clause 7.4.4: the chunk c, whose bytes that the mask marks are missing, what stands in its place after, and the answer. Filled in:
--- a chunk of the code that has the bytes that are there. Nothing: there is none, and 0 for each missing byte.
-unfoldable pub ChunkFilled : ℕ → List ℕ → List ℕ → List ℕ → Filled → Type 0
-ChunkFilled k mask c after Done = (0 ≡ chunkFault k (length mask) (length c)) × (count (marks mask) ≤ parity) × Agrees k mask c after
-ChunkFilled k mask c after Nothing =
-    (0 ≡ chunkFault k (length mask) (length c)) × (count (marks mask) ≤ parity) × ((w : List ℕ) → Agrees k mask c w → ⊥) × (after ≡ erase (marks mask) c)
-ChunkFilled k mask c after NotEnough = (0 ≡ chunkFault k (length mask) (length c)) × (parity < count (marks mask)) × (after ≡ c)
-ChunkFilled k mask c after (Refused n) = (n ≡ chunkFault k (length mask) (length c)) × (0 < n) × (after ≡ c)
+-- clause 7.4.4: the answer r for the chunk c, whose bytes that the mask marks are missing, and what stands in its place after
+pub record ChunkFilled (k : ℕ) (mask c after : List ℕ) (r : Filled) : Type 0 where
+  pub number : numberOf r ≡ answered (chunkFault k (length mask) (length c)) (valuesOf r)
+  pub left : ChunkAfter k mask c after r
 
 -- document 01, "The four places": the cells from a on, n of them, with 1 for each whose fragment is not kept
 unfoldable pub lostCells : List Bool → ℕ → ℕ → ℕ → List ℕ
@@ -88,14 +98,14 @@ pub record BlockNothing (kept : List Bool) (f k c : ℕ) (block after : List ℕ
   pub none : (w : List ℕ) → Agrees k (lostCells kept f (at * (k + parity)) (k + parity)) (chunkOf block (k + parity) at) w → ⊥
   pub zeros : after ≡ erase (marks (lostCells kept f 0 (c * (k + parity)))) block
 
--- clause 7.4.4: the block of f fragments of s bytes, what stands in its place after, and the answer
-unfoldable pub BlockFilled : List Bool → ℕ → ℕ → ℕ → List ℕ → List ℕ → Filled → Type 0
-BlockFilled kept f s k block after Done =
-    (0 ≡ fillFault f s k (length block)) × (suffice (notKept kept) f (k + parity) (receivedC f s k) ≡ true)
-    × BlockDone kept f k (receivedC f s k) block after
-BlockFilled kept f s k block after Nothing =
-    (0 ≡ fillFault f s k (length block)) × (suffice (notKept kept) f (k + parity) (receivedC f s k) ≡ true)
-    × BlockNothing kept f k (receivedC f s k) block after
-BlockFilled kept f s k block after NotEnough =
-    (0 ≡ fillFault f s k (length block)) × (suffice (notKept kept) f (k + parity) (receivedC f s k) ≡ false) × (after ≡ block)
-BlockFilled kept f s k block after (Refused n) = (n ≡ fillFault f s k (length block)) × (0 < n) × (after ≡ block)
+-- clause 7.4.4: the block of c chunks, and what stands in its place after, by the answer; "enough" as weave's call answers it
+abbrev pub BlockAfter : List Bool → ℕ → ℕ → ℕ → List ℕ → List ℕ → Filled → Type 0
+BlockAfter kept f k c block after Done = (suffice (notKept kept) f (k + parity) c ≡ true) × BlockDone kept f k c block after
+BlockAfter kept f k c block after Nothing = (suffice (notKept kept) f (k + parity) c ≡ true) × BlockNothing kept f k c block after
+BlockAfter kept f k c block after NotEnough = (suffice (notKept kept) f (k + parity) c ≡ false) × (after ≡ block)
+BlockAfter kept f k c block after (Refused n) = after ≡ block
+
+-- clause 7.4.4: the answer r for the block of f fragments of s bytes, and what stands in its place after
+pub record BlockFilled (kept : List Bool) (f s k : ℕ) (block after : List ℕ) (r : Filled) : Type 0 where
+  pub number : numberOf r ≡ answered (fillFault f s k (length block)) (valuesOf r)
+  pub left : BlockAfter kept f k (receivedC f s k) block after r

@@ -7,16 +7,6 @@ use lib.ListN.{length}
 use Rattle.base.specs.Bounds.{place, parity}
 use Rattle.cut.specs.Missing.{suffice}
 use Rattle.weave.specs.Calls.{badCount, tooMuch, badChunk, notKept}
-use Rattle.code.specs.declared.Answer.{Answer}
-use Rattle.code.specs.declared.Answer.the-variants as answers
-use Rattle.code.specs.declared.Filled.{Filled}
-use Rattle.code.specs.declared.Filled.the-variants.{Done, Nothing, NotEnough}
-
--- the call's answer for a chunk's (clause 7.4.4)
-abbrev pub filledOf : Answer → Filled
-filledOf answers.Found = Done
-filledOf answers.Nothing = Nothing
-filledOf answers.NotEnough = NotEnough
 
 -- sound figures, and whether the fragments kept suffice (document 01, "The four places")
 pub record Standing (kept : List Bool) (f s k : ℕ) (enough : Bool) : Type 0 where

@@ -1,0 +1,27 @@
+-- `written_number` meets its contract, case by case. Assumes nothing.
+use mathlib.Core.Path.{sym, ap}
+use borrow.Author.Needs.{needs}
+use Rattle.base.specs.Written.{numberOf}
+use Rattle.card.specs.Calls.{oneNumber, writtenNumber}
+use Rattle.card.proofs.written_number.Statement.{statement}
+use Rattle.card.proofs.written_number.Tie as tie
+
+enum-told : tie.Need-enum-told
+enum-told c = search needs
+
+enum-known-w : tie.Need-enum-known-w
+enum-known-w c = search needs
+
+cast-result : tie.Need-cast-result
+cast-result c = search needs
+
+returns : tie.Need-returns
+unfolding oneNumber numberOf
+returns c = sym (ap writtenNumber (c .enum-told .given .1))
+
+returns-2 : tie.Need-returns-2
+unfolding oneNumber numberOf
+returns-2 c = search needs
+
+pub written-number-spec : {M : Type 1} → statement M
+written-number-spec = tie.close (tie.spec enum-told enum-known-w cast-result returns returns-2)
