@@ -2,8 +2,9 @@
 use mathlib.Core.Path.{_≡_}
 use mathlib.Core.Bool.{Bool, true, false}
 use mathlib.Core.List.{List}
-use Prim.Native.Nat.{ℕ, zero, suc, _+_, _*_, _≤_, _<_}
+use Prim.Native.Nat.{ℕ, zero, suc, _+_, _*_, _/_, _≤_, _<_}
 use lib.ListN.{length, take, drop, getD}
+use Rattle.base.specs.Bounds.{most-k, place, parity}
 use Rattle.codeword.specs.Code.{encode}
 use Rattle.codeword.specs.Erasure.{marks, erase, count}
 use Rattle.code.specs.Fill.{Agrees, Fills}
@@ -29,18 +30,18 @@ Status k m a b (suc (suc (suc x))) = b ≡ a
 
 -- each number of ans says what became of its chunk of `old` (clause 7.4.4)
 pub record Partly (k : ℕ) (mask old new ans : List ℕ) : Type 0 where
-  pub each : (j : ℕ) → j < length ans → Status k (part (k + 48) j mask) (part (k + 48) j old) (part (k + 48) j new) (getD ans j 0)
+  pub each : (j : ℕ) → j < length ans → Status k (part (k + parity) j mask) (part (k + parity) j old) (part (k + parity) j new) (getD ans j 0)
 
 -- THE BLOCK'S ANSWER: each of its chunks has one (clause 7.4.4)
 pub record Filling (k : ℕ) (mask old new ans : List ℕ) : Type 0 where
-  pub each : (j : ℕ) → j < length ans → Status k (part (k + 48) j mask) (part (k + 48) j old) (part (k + 48) j new) (getD ans j 0)
+  pub each : (j : ℕ) → j < length ans → Status k (part (k + parity) j mask) (part (k + parity) j old) (part (k + parity) j new) (getD ans j 0)
   pub all : (j : ℕ) → j < length ans → getD ans j 0 < 3
 
 -- a mask and a block of as many chunks as answers (clause 7.4.4)
 pub record Sized (k : ℕ) (mask blk ans : List ℕ) : Type 0 where
-  pub short : k ≤ 207
-  pub masks : length mask ≡ length ans * (k + 48)
-  pub chunks : length blk ≡ length ans * (k + 48)
+  pub short : k ≤ most-k
+  pub masks : length mask ≡ length ans * (k + parity)
+  pub chunks : length blk ≡ length ans * (k + parity)
 
 -- from one state of the block to a later one (clause 7.4.4)
 pub record Later (k : ℕ) (mask blk ans blk' ans' : List ℕ) : Type 0 where
@@ -70,19 +71,19 @@ AllDone ans n = (j : ℕ) → j < n → getD ans j 0 < 3
 
 -- c chunks of the data: the first n are made (clause 7.3.1)
 pub record Encoded (k n : ℕ) (src out : List ℕ) : Type 0 where
-  pub each : (j : ℕ) → j < n → part (k + 48) j out ≡ encode (part k j src)
+  pub each : (j : ℕ) → j < n → part (k + parity) j out ≡ encode (part k j src)
 
 -- room for c chunks of the data (clause 7.3.1)
 pub record EncSized (k c : ℕ) (src out : List ℕ) : Type 0 where
-  pub short : k ≤ 207
+  pub short : k ≤ most-k
   pub datas : length src ≡ c * k
-  pub chunks : length out ≡ c * (k + 48)
+  pub chunks : length out ≡ c * (k + parity)
 
 -- chunk j is made, and no other is touched (clause 7.3.1)
 pub record OneEncoded (k c j : ℕ) (src out out' : List ℕ) : Type 0 where
   pub size : length out' ≡ length out
-  pub made : part (k + 48) j out' ≡ encode (part k j src)
-  pub others : (i : ℕ) → i < c → (i ≡ j → ⊥) → part (k + 48) i out' ≡ part (k + 48) i out
+  pub made : part (k + parity) j out' ≡ encode (part k j src)
+  pub others : (i : ℕ) → i < c → (i ≡ j → ⊥) → part (k + parity) i out' ≡ part (k + parity) i out
 
 -- no answer but 0 (clause 7.4.4)
 pub record SomeLeft (ans : List ℕ) : Type 0 where
@@ -97,20 +98,20 @@ FoundTest ans false = SomeLeft ans
 
 -- c chunks and their masks, of which none marks more than 48 bytes (clause 7.4.4)
 pub record Ready (k : ℕ) (mask : List ℕ) (c : ℕ) (block : List ℕ) : Type 0 where
-  pub short : k ≤ 207
-  pub some : c ≤ 256
-  pub masks : length mask ≡ c * (k + 48)
-  pub chunks : length block ≡ c * (k + 48)
-  pub few : (j : ℕ) → j < c → count (marks (part (k + 48) j mask)) ≤ 48
+  pub short : k ≤ most-k
+  pub some : c ≤ place / parity
+  pub masks : length mask ≡ c * (k + parity)
+  pub chunks : length block ≡ c * (k + parity)
+  pub few : (j : ℕ) → j < c → count (marks (part (k + parity) j mask)) ≤ parity
 
 -- one of c chunks has no filling, and the missing bytes of all are 0 (clause 7.4.4)
 pub record Unmended (k : ℕ) (mask : List ℕ) (c : ℕ) (old new : List ℕ) : Type 0 where
   pub at : ℕ
   pub below : at < c
-  pub none : (w : List ℕ) → Agrees k (part (k + 48) at mask) (part (k + 48) at old) w → ⊥
+  pub none : (w : List ℕ) → Agrees k (part (k + parity) at mask) (part (k + parity) at old) w → ⊥
   pub zeros : new ≡ erase (marks mask) old
 
 -- whether all c chunks are filled in (clause 7.4.4)
 abbrev pub Mended : ℕ → List ℕ → ℕ → List ℕ → List ℕ → Bool → Type 0
-Mended k mask c old new true = (j : ℕ) → j < c → Agrees k (part (k + 48) j mask) (part (k + 48) j old) (part (k + 48) j new)
+Mended k mask c old new true = (j : ℕ) → j < c → Agrees k (part (k + parity) j mask) (part (k + parity) j old) (part (k + parity) j new)
 Mended k mask c old new false = Unmended k mask c old new

@@ -3,6 +3,7 @@ use mathlib.Core.Path.{_≡_}
 use mathlib.Core.List.{List, [], _∷_}
 use Prim.Native.Nat.{ℕ, _+_, _*_, _≤_, _<_}
 use lib.ListN.{length, take, getD}
+use Rattle.base.specs.Bounds.{parity}
 use Rattle.field.specs.Field.{_⊕_, _⊗_, inv}
 use Rattle.codeword.specs.Code.{horner, value, timesRoot}
 use Rattle.code.specs.Words.{table}
@@ -37,47 +38,47 @@ Same a b = (m : ℕ) → getD a m 0 ≡ getD b m 0
 
 -- p times z + x, in 49 places from the highest coefficient down (clause 7.4.4)
 unfoldable pub rootStep : List ℕ → ℕ → List ℕ
-rootStep p x = table 49 (λ m. getD p m 0 ⊕ x ⊗ getD (0 ∷ p) m 0)
+rootStep p x = table (parity + 1) (λ m. getD p m 0 ⊕ x ⊗ getD (0 ∷ p) m 0)
 
 -- 48 members of q from row m on (clause 7.4.4)
 unfoldable pub rowOf : List ℕ → ℕ → List ℕ
-rowOf q m = table 48 (λ j. getD q (m * 48 + j) 0)
+rowOf q m = table parity (λ j. getD q (m * parity + j) 0)
 
 -- the member j of each of the e rows of q (clause 7.4.4)
 unfoldable pub colOf : List ℕ → ℕ → ℕ → List ℕ
-colOf q e j = table e (λ m. getD q (m * 48 + j) 0)
+colOf q e j = table e (λ m. getD q (m * parity + j) 0)
 
 -- the same for each of 48 columns (clause 7.4.4)
 unfoldable pub mixed : List ℕ → List ℕ → ℕ → List ℕ
-mixed s q e = table 48 (λ j. mix s (colOf q e j))
+mixed s q e = table parity (λ j. mix s (colOf q e j))
 
 -- a list of rows of 48 with s put in as row m (clause 7.4.4)
 pub record Put (q : List ℕ) (m : ℕ) (s q' : List ℕ) : Type 0 where
   pub size : length q' ≡ length q
-  pub row : (j : ℕ) → j < 48 → getD q' (m * 48 + j) 0 ≡ getD s j 0
-  pub before : (i : ℕ) → i < m * 48 → getD q' i 0 ≡ getD q i 0
+  pub row : (j : ℕ) → j < parity → getD q' (m * parity + j) 0 ≡ getD s j 0
+  pub before : (i : ℕ) → i < m * parity → getD q' i 0 ≡ getD q i 0
 
 -- e rows: Horner's rule at the 48 first members of k after each of e coefficients p; and d is Horner's rule over these in each column (clause 7.4.4)
 pub record Columns (k p : List ℕ) (e : ℕ) (q d : List ℕ) : Type 0 where
-  pub size : length q ≡ 2304
-  pub rows : (m j : ℕ) → m < e → j < 48 → getD q (m * 48 + j) 0 ≡ horner (getD k j 0) 0 (take (m + 1) p)
-  pub last : d ≡ table 48 (λ j. horner (getD k j 0) 0 (prefixes (getD k j 0) 0 (take e p)))
+  pub size : length q ≡ parity * parity
+  pub rows : (m j : ℕ) → m < e → j < parity → getD q (m * parity + j) 0 ≡ horner (getD k j 0) 0 (take (m + 1) p)
+  pub last : d ≡ table parity (λ j. horner (getD k j 0) 0 (prefixes (getD k j 0) 0 (take e p)))
 
 -- the factor of each missing byte: the inverse of x d (clause 7.4.4)
 unfoldable pub scalesOf : List ℕ → List ℕ → List ℕ
-scalesOf x d = table 48 (λ j. inv (getD x j 0 ⊗ getD d j 0))
+scalesOf x d = table parity (λ j. inv (getD x j 0 ⊗ getD d j 0))
 
 -- all that depends on the missing places alone: xs their locators (clause 7.4.4)
 pub record Pattern (xs q sc : List ℕ) : Type 0 where
-  pub few : length xs ≤ 48
+  pub few : length xs ≤ parity
   pub cols : (j : ℕ) → j < length xs → colOf q (length xs) j ≡ column xs (getD xs j 0)
   pub scales : (j : ℕ) → j < length xs → getD sc j 0 ≡ inv (getD xs j 0 ⊗ value (getD xs j 0) (column xs (getD xs j 0)))
   pub twos : Doubles sc
 
 -- a b in each of 48 lanes (clause 7.4.4)
 unfoldable pub timesAll : List ℕ → List ℕ → List ℕ
-timesAll a b = table 48 (λ i. getD b i 0 ⊗ getD a i 0)
+timesAll a b = table parity (λ i. getD b i 0 ⊗ getD a i 0)
 
 -- the inverse in each of 48 lanes (clause 7.4.4)
 unfoldable pub inversesOf : List ℕ → List ℕ
-inversesOf x = table 48 (λ i. inv (getD x i 0))
+inversesOf x = table parity (λ i. inv (getD x i 0))

@@ -4,7 +4,7 @@ use mathlib.Core.Bool.{Bool, true, false}
 use mathlib.Core.List.{List}
 use Prim.Native.Nat.{ℕ, _+_, _*_, _/_, _≤_, _<_}
 use lib.ListN.{length}
-use Rattle.base.specs.Bounds.{place, parity}
+use Rattle.base.specs.Bounds.{most-f, most-k, place, parity}
 use Rattle.cut.specs.Missing.{suffice}
 use Rattle.weave.specs.Calls.{badCount, tooMuch, badChunk, notKept}
 
@@ -18,8 +18,8 @@ pub record Standing (kept : List Bool) (f s k : ℕ) (enough : Bool) : Type 0 wh
 -- a block of c chunks, for which the fragments kept suffice (document 01, "The four places")
 pub record Holds (kept : List Bool) (f k c : ℕ) (block : List ℕ) : Type 0 where
   pub some : 0 < f
-  pub most : f ≤ 256
-  pub short : k ≤ 207
-  pub within : c * (k + 48) ≤ place
-  pub chunks : length block ≡ c * (k + 48)
-  pub enough : suffice (notKept kept) f (k + 48) c ≡ true
+  pub most : f ≤ most-f
+  pub short : k ≤ most-k
+  pub within : c * (k + parity) ≤ place
+  pub chunks : length block ≡ c * (k + parity)
+  pub enough : suffice (notKept kept) f (k + parity) c ≡ true

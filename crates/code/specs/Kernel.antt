@@ -5,9 +5,10 @@ use mathlib.Core.List.{List, [], _∷_, _++_}
 use Prim.Native.Nat.{ℕ, zero, suc, _+_, _-_, _*_, _/_, _%_, _<_}
 use lib.Dec.{ltb}
 use lib.ListN.{length, take, drop, getD, replicate}
+use Rattle.base.specs.Bounds.{most-k, parity}
 use Rattle.field.specs.Field.{_⊕_, _⊗_, times2, alpha}
 use Rattle.codeword.specs.Code.{generator, step, parityOf}
-use Rattle.code.specs.Words.{table}
+use Rattle.code.specs.Words.{table, power-size}
 
 -- one place on, and 0 at the end (clause 7.3.1)
 unfoldable pub shift : List ℕ → List ℕ
@@ -30,7 +31,7 @@ factorOf u = cond (ltb u 16) u ((u - 16) * 16)
 
 -- the table's byte i: 8 powers of 32 rows of 48 (clause 7.3.1)
 unfoldable pub entry : ℕ → ℕ
-entry i = factorOf (i / 48 % 32) ⊗ getD (power (i / 1536)) (i % 48) 0
+entry i = factorOf (i / parity % 32) ⊗ getD (power (i / power-size)) (i % parity) 0
 
 -- the first n bytes of the table are made (clause 7.3.1)
 unfoldable pub Made : List ℕ → ℕ → Type 0
@@ -38,7 +39,7 @@ Made t n = (i : ℕ) → i < n → getD t i 0 ≡ entry i
 
 -- a list is row r of the table (clause 7.3.1)
 unfoldable pub RowOf : List ℕ → ℕ → Type 0
-RowOf row r = (j : ℕ) → j < 48 → getD row j 0 ≡ entry (r * 48 + j)
+RowOf row r = (j : ℕ) → j < parity → getD row j 0 ≡ entry (r * parity + j)
 
 -- each is twice the one before (clause 7.4.4)
 pub record Chain (k0 k1 k2 k3 k4 k5 k6 k7 : ℕ) : Type 0 where
@@ -52,7 +53,7 @@ pub record Chain (k0 k1 k2 k3 k4 k5 k6 k7 : ℕ) : Type 0 where
 
 -- the data bytes in 208 places: a zero, the data, the zeros of the shortened code (clause 7.3.1)
 unfoldable pub laid : List ℕ → List ℕ
-laid d = 0 ∷ (d ++ replicate (207 - length d) 0)
+laid d = 0 ∷ (d ++ replicate (most-k - length d) 0)
 
 -- two lists added place by place (clause 7.4.4)
 unfoldable pub sumOf : List ℕ → List ℕ → List ℕ
@@ -66,17 +67,17 @@ remainder k c = sumOf (parityOf (take k c)) (drop k c)
 
 -- eight rows of 48, each twice the one before (clause 7.4.4)
 unfoldable pub Doubles : List ℕ → Type 0
-Doubles k = (i : ℕ) → i < 336 → getD k (i + 48) 0 ≡ times2 (getD k i 0)
+Doubles k = (i : ℕ) → i < 7 * parity → getD k (i + parity) 0 ≡ times2 (getD k i 0)
 
 -- eight rows of 48 whose first is xs (clause 7.4.4)
 pub record Multiples (xs k : List ℕ) : Type 0 where
-  pub firsts : (i : ℕ) → i < 48 → getD k i 0 ≡ getD xs i 0
+  pub firsts : (i : ℕ) → i < parity → getD k i 0 ≡ getD xs i 0
   pub twos : Doubles k
 
 -- one step of Horner's rule in each of 48 lanes (clause 7.4.4)
 unfoldable pub lane : List ℕ → List ℕ → List ℕ → List ℕ
-lane xs s r = table 48 (λ i. getD s i 0 ⊗ getD xs i 0 ⊕ getD r i 0)
+lane xs s r = table parity (λ i. getD s i 0 ⊗ getD xs i 0 ⊕ getD r i 0)
 
 -- the roots of the code (clause 7.4.4)
 unfoldable pub rootsList : List ℕ
-rootsList = table 48 (λ j. alpha (suc j))
+rootsList = table parity (λ j. alpha (suc j))

@@ -4,10 +4,12 @@ use mathlib.Core.Bool.{Bool, true, false}
 use mathlib.Core.List.{List}
 use Prim.Native.Nat.{ℕ, _+_, _≤_}
 use lib.ListN.{length, replicate}
+use Rattle.base.specs.Bounds.{most-k, parity}
 use Rattle.base.specs.Bytes.{Bytes}
 use Rattle.codeword.specs.Code.{Coded, full}
 use Rattle.codeword.specs.Erasure.{marks, erase, count}
 use Rattle.codeword.proofs.Erasure.{locators}
+use Rattle.code.specs.Words.{table-size}
 use Rattle.code.specs.Kernel.{remainder, Made, Multiples, rootsList}
 use Rattle.code.specs.Filling.{Pattern}
 
@@ -28,15 +30,15 @@ pub record Guessed (k : ℕ) (mask c after : List ℕ) : Type 0 where
 
 -- whether 48 bytes are all 0 (clause 7.4.4)
 abbrev pub ZeroTest : List ℕ → Bool → Type 0
-ZeroTest r true = r ≡ replicate 48 0
-ZeroTest r false = r ≡ replicate 48 0 → ⊥
+ZeroTest r true = r ≡ replicate parity 0
+ZeroTest r false = r ≡ replicate parity 0 → ⊥
 
 -- what the chunks that miss the same places share (clause 7.4.4)
 pub record Shared (t rk q sc mask : List ℕ) (e k : ℕ) : Type 0 where
-  pub short : k ≤ 207
-  pub masked : length mask ≡ k + 48
-  pub few : e ≤ 48
+  pub short : k ≤ most-k
+  pub masked : length mask ≡ k + parity
+  pub few : e ≤ parity
   pub counted : e ≡ count (marks mask)
-  pub table : Made t 12288
+  pub table : Made t table-size
   pub roots : Multiples rootsList rk
   pub found : Pattern (locs k mask) q sc

@@ -1,7 +1,8 @@
 -- What the definitions of the private functions write short.
 use mathlib.Core.List.{List}
-use Prim.Native.Nat.{ℕ}
+use Prim.Native.Nat.{ℕ, _*_}
 use lib.ListN.{getD}
+use Rattle.base.specs.Bounds.{parity}
 use Rattle.base.specs.Table as base
 
 -- the first of a list, 0 where there is none
@@ -11,3 +12,10 @@ first l = getD l 0 0
 -- f 0, f 1, .., n of them
 abbrev pub table : ℕ → (ℕ → ℕ) → List ℕ
 table n f = base.table f 0 n
+
+-- bytes of a power's rows in the register's table: 32 of 48 bytes; and of the table: eight powers (clause 7.3.1)
+abbrev pub power-size : ℕ
+power-size = 32 * parity
+
+abbrev pub table-size : ℕ
+table-size = 8 * power-size
