@@ -11,9 +11,13 @@ use base::PLACE;
 ghost use mathlib.Core.Path.{_≡_};
 ghost use Prim.Native.Nat.{_+_, _*_, _<_};
 ghost use lib.ListN.{length};
+ghost use Rattle.base.specs.Bounds.{parity};
 ghost use Rattle.code.specs.Block.{FoundTest, Ready, Mended};
 ghost use Rattle.code.specs.Calls.{lostCells};
 ghost use Rattle.code.specs.Inner.{Holds};
+
+// No block has more chunks.
+const MOST_C: usize = PLACE / PARITY;
 
 // Whether the answer of each chunk is that its missing bytes are found.
 fn all_found(ans: &[u8]) -> bool
@@ -48,11 +52,11 @@ fn mend_by(k: usize, mask: &[u8], hop: usize, block: &mut [u8], ans: &mut [u8]) 
 // The missing cells of the c chunks that are all of the block, where f fragments were sent and those kept suffice.
 pub fn mend(kept: [bool; MOST_F], f: usize, k: usize, c: usize, block: &mut [u8]) -> bool
     requires { ⌜ Holds kept f k c (now block) ⌝ }
-    ensures { λ r. ⌜ (length (now (block .exit)) ≡ length (now (block .entry))) × Mended k (lostCells kept f 0 (c * (k + 48))) c (now (block .entry)) (now (block .exit)) r ⌝ }
+    ensures { λ r. ⌜ (length (now (block .exit)) ≡ length (now (block .entry))) × Mended k (lostCells kept f 0 (c * (k + parity))) c (now (block .entry)) (now (block .exit)) r ⌝ }
 {
     let mut mask = [0u8; PLACE];
     let all = c * (k + PARITY);
     mark_lost(kept, f, all, &mut mask);
-    let mut ans = [0u8; 256];
+    let mut ans = [0u8; MOST_C];
     mend_by(k, &mask[..all], f, block, &mut ans[..c])
 }

@@ -2,16 +2,23 @@
 use crate::products::added;
 use crate::products::lanes;
 use crate::products::multiples;
+use base::PARITY;
 ghost use mathlib.Core.Path.{_≡_};
 ghost use Prim.Native.Nat.{_+_, _*_, _≤_, _<_};
 ghost use lib.ListN.{length};
+ghost use Rattle.base.specs.Bounds.{parity};
 ghost use Rattle.codeword.specs.Code.{generator, step};
+ghost use Rattle.code.specs.Words.{power-size, table-size};
 ghost use Rattle.code.specs.Kernel.{back, power, factorOf, Made, RowOf};
 
-// The bytes of the table: eight powers, 32 rows each, 48 bytes a row.
-pub const TABLE: usize = 12288;
+// The bytes of a power's 32 rows, of half of them, and of the table of eight powers.
+pub const POWER: usize = 32 * PARITY;
 
-const GENERATOR: [u8; 48] = [
+pub const HALF: usize = 16 * PARITY;
+
+pub const TABLE: usize = 8 * POWER;
+
+const GENERATOR: [u8; PARITY] = [
     122,
     12,
     14,
@@ -63,25 +70,25 @@ const GENERATOR: [u8; 48] = [
 ];
 
 // The register moved `by` places to the front, with zeros behind.
-pub fn shifted(p: [u8; 48], by: usize) -> [u8; 48]
-    requires { ⌜ by ≤ 48 ⌝ }
+pub fn shifted(p: [u8; PARITY], by: usize) -> [u8; PARITY]
+    requires { ⌜ by ≤ parity ⌝ }
     ensures { λ r. ⌜ r ≡ back by p ⌝ }
 {
-    let mut q = [0u8; 48];
-    for j in 0..48 - by {
+    let mut q = [0u8; PARITY];
+    for j in 0..PARITY - by {
         q[j] = p[j + by];
     }
     q
 }
 
-fn coefficients() -> [u8; 48]
+fn coefficients() -> [u8; PARITY]
     ensures { λ r. ⌜ r ≡ generator ⌝ }
 {
     GENERATOR
 }
 
 // The next power of x modulo the generator g.
-fn next_power(b: [u8; 48], g: [u8; 48]) -> [u8; 48]
+fn next_power(b: [u8; PARITY], g: [u8; PARITY]) -> [u8; PARITY]
     requires { ⌜ g ≡ generator ⌝ }
     ensures { λ r. ⌜ r ≡ step b 0 ⌝ }
 {
@@ -99,33 +106,33 @@ fn factor(u: usize) -> u8
     }
 }
 
-fn put_row(t: &mut [u8; TABLE], r: usize, row: [u8; 48])
-    requires { ⌜ (r < 256) × (length (now t) ≡ 12288) × Made (now t) (r * 48) × RowOf row r ⌝ }
-    ensures { λ _. ⌜ (length (now (t .exit)) ≡ 12288) × Made (now (t .exit)) (r * 48 + 48) ⌝ }
+fn put_row(t: &mut [u8; TABLE], r: usize, row: [u8; PARITY])
+    requires { ⌜ (r < 256) × (length (now t) ≡ table-size) × Made (now t) (r * parity) × RowOf row r ⌝ }
+    ensures { λ _. ⌜ (length (now (t .exit)) ≡ table-size) × Made (now (t .exit)) (r * parity + parity) ⌝ }
 {
-    let at = r * 48;
-    for j in 0..48 {
+    let at = r * PARITY;
+    for j in 0..PARITY {
         t[at + j] = row[j];
     }
 }
 
 // The 32 rows of the power n. All lanes of a row have one factor, so its bits are tested once, and not those of each lane.
-fn put_rows(t: &mut [u8; TABLE], n: usize, b: [u8; 48])
-    requires { ⌜ (n < 8) × (b ≡ power n) × (length (now t) ≡ 12288) × Made (now t) (n * 1536) ⌝ }
-    ensures { λ _. ⌜ (length (now (t .exit)) ≡ 12288) × Made (now (t .exit)) (n * 1536 + 1536) ⌝ }
+fn put_rows(t: &mut [u8; TABLE], n: usize, b: [u8; PARITY])
+    requires { ⌜ (n < 8) × (b ≡ power n) × (length (now t) ≡ table-size) × Made (now t) (n * power-size) ⌝ }
+    ensures { λ _. ⌜ (length (now (t .exit)) ≡ table-size) × Made (now (t .exit)) (n * power-size + power-size) ⌝ }
 {
     let k = multiples(b);
-    let none = [0u8; 48];
+    let none = [0u8; PARITY];
     for u in 0..32 {
         let x = factor(u);
-        let xs = [x; 48];
+        let xs = [x; PARITY];
         put_row(t, n * 32 + u, lanes(&k, xs, none));
     }
 }
 
 pub fn make_table(t: &mut [u8; TABLE])
-    requires { ⌜ length (now t) ≡ 12288 ⌝ }
-    ensures { λ _. ⌜ Made (now (t .exit)) 12288 ⌝ }
+    requires { ⌜ length (now t) ≡ table-size ⌝ }
+    ensures { λ _. ⌜ Made (now (t .exit)) table-size ⌝ }
 {
     let g = coefficients();
     let mut b = g;

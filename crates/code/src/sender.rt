@@ -11,7 +11,7 @@ ghost use mathlib.Core.Path.{_≡_};
 ghost use Prim.Native.Nat.{_+_, _-_, _*_, _≤_};
 ghost use lib.ListN.{length};
 ghost use Rattle.base.specs.Answer.{outcome};
-ghost use Rattle.base.specs.Bounds.{most-k, place};
+ghost use Rattle.base.specs.Bounds.{most-k, place, parity};
 ghost use Rattle.base.specs.Written.{numberOf};
 ghost use Rattle.cut.specs.Block.{padded, blockOf};
 ghost use Rattle.codeword.specs.Code.{parityOf};
@@ -64,7 +64,7 @@ fn pad(packet: &[u8]) -> [u8; PLACE]
 
 // The block of c chunks of k bytes, which has all of out.
 fn write_block(packet: &[u8], k: usize, c: usize, out: &mut [u8])
-    requires { ⌜ (k ≤ most-k) × (length (now packet) ≤ c * k) × (c * k ≤ place) × (length (now out) ≡ c * (k + 48)) ⌝ }
+    requires { ⌜ (k ≤ most-k) × (length (now packet) ≤ c * k) × (c * k ≤ place) × (length (now out) ≡ c * (k + parity)) ⌝ }
     ensures { λ _. ⌜ now (out .exit) ≡ blockOf parityOf (padded (now (packet .entry)) (c * k - length (now (packet .entry)))) k c ⌝ }
 {
     let mut t = [0u8; TABLE];
