@@ -19,12 +19,12 @@ use Rattle.base.specs.Table as tables
 use Rattle.base.proofs.Tables as table-laws
 use Rattle.codeword.proofs.Erasure.{syndromes}
 use Rattle.codeword.proofs.Poly.{raise, raise-add, raise-0, value-cons, value-nil, value-append, value-zeros}
-use Rattle.codeword.proofs.Encoder.{length-parity, value-run, generator-root}
+use Rattle.codeword.proofs.Encoder.{length-parity, length-step, step-at, padded-at, value-run, generator-root}
 use Rattle.codeword.proofs.Vandermonde.{getD-table}
 use Rattle.code.specs.Kernel.{laid, sumOf, remainder, Doubles, Multiples, Chain, lane, rootsList}
 use mir.Val.{Fits}
 use mir.Syntax.{w8}
-use Rattle.code.proofs.LoopLaws.{Upto, step-at, length-step, padded-at, horner-take}
+use Rattle.code.proofs.LoopLaws.{Upto, horner-take}
 use Rattle.code.proofs.RowLaws.{past-end, zeros-at}
 
 -- ---- tables
@@ -64,7 +64,7 @@ laid-past d j h =
 
 step-zeros : step (replicate 48 0) 0 ≡ replicate 48 0
 step-zeros =
-    ext-getD 0 (step (replicate 48 0) 0) (replicate 48 0) (length-step (replicate 48 0) 0 l)
+    ext-getD 0 (step (replicate 48 0) 0) (replicate 48 0) (length-step (replicate 48 0) 0 l ∙ sym l)
     (λ i h. step-at (replicate 48 0) 0 i l ∙ ap₂ (λ a b. a ⊕ (b ⊕ 0) ⊗ getD Rattle.codeword.specs.Code.generator i 0) (zeros-at 48 (i + 1)) (zeros-at 48 0)
     ∙ add-0-l _ ∙ ap (λ a. a ⊗ getD Rattle.codeword.specs.Code.generator i 0) (add-self 0) ∙ mul-0-l _ ∙ sym (zeros-at 48 i))
   where

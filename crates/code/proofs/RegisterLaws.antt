@@ -12,10 +12,9 @@ use Rattle.field.proofs.Sums.{add-assoc, add-comm, add-left-comm, add-0-l, add-
 use Rattle.field.proofs.Products.{mul-assoc, mul-add-l, mul-add-r, mul-0-l}
 use Rattle.codeword.specs.Code.{generator, plus, step, run}
 use Rattle.code.specs.Words.{first}
-use Rattle.codeword.proofs.Poly.{length-plus}
-use Rattle.codeword.proofs.Encoder.{length-generator, length-run}
+use Rattle.codeword.proofs.Poly.{length-plus, plus-at}
+use Rattle.codeword.proofs.Encoder.{length-generator, length-snoc, snoc-at, length-step, step-at, length-run}
 use Rattle.code.specs.Kernel.{shift, back, power}
-use Rattle.code.proofs.LoopLaws.{plus-at, step-at, length-step, snoc-at, length-snoc}
 
 -- ---- shifts
 
@@ -51,14 +50,14 @@ step-is (c ∷ ss) b e = refl
 pub length-power : (n : ℕ) → length (power n) ≡ 48
 unfolding power
 length-power zero = length-generator
-length-power (suc n) = length-step (power n) 0 (length-power n) ∙ length-power n
+length-power (suc n) = length-step (power n) 0 (length-power n)
 
 -- ---- linear
 
 step-plus : (f b : ℕ) (gs us : List ℕ) → length gs ≡ 48 → length us ≡ 48 → step (plus f gs us) b ≡ plus f (step gs 0) (step us b)
 step-plus f b gs us eg eu =
     ext-getD 0 (step (plus f gs us) b) (plus f (step gs 0) (step us b))
-    (length-step (plus f gs us) b lp ∙ lp ∙ sym (length-plus f (step gs 0) (step us b) ls ∙ length-step us b eu ∙ eu))
+    (length-step (plus f gs us) b lp ∙ sym (length-plus f (step gs 0) (step us b) ls ∙ length-step us b eu))
     (λ i h. step-at (plus f gs us) b i lp
     ∙ ap₂ (λ x y. x ⊕ (y ⊕ b) ⊗ getD generator i 0) (plus-at f gs us (i + 1) (eg ∙ sym eu)) (plus-at f gs us 0 (eg ∙ sym eu))
     ∙ mid (getD us (i + 1) 0) (getD gs (i + 1) 0) (getD us 0 0) (getD gs 0 0) (getD generator i 0)
@@ -68,7 +67,7 @@ step-plus f b gs us eg eu =
     lp = length-plus f gs us (eg ∙ sym eu) ∙ eu
 
     ls : length (step gs 0) ≡ length (step us b)
-    ls = length-step gs 0 eg ∙ eg ∙ sym (length-step us b eu ∙ eu)
+    ls = length-step gs 0 eg ∙ sym (length-step us b eu)
 
     mid : (u1 g1 u0 g0 G : ℕ) → u1 ⊕ f ⊗ g1 ⊕ (u0 ⊕ f ⊗ g0 ⊕ b) ⊗ G ≡ u1 ⊕ (u0 ⊕ b) ⊗ G ⊕ f ⊗ (g1 ⊕ (g0 ⊕ 0) ⊗ G)
     mid u1 g1 u0 g0 G = simp (mul-add-l, mul-add-r, mul-assoc, mul-0-l, add-assoc, add-comm, add-left-comm, add-0-l, add-0-r)
@@ -78,7 +77,7 @@ unfolding run
 run-plus f gs us [] eg eu = refl
 run-plus f gs us (b ∷ bs) eg eu =
     ap (λ s. run s bs) (step-plus f b gs us eg eu)
-    ∙ run-plus f (step gs 0) (step us b) bs (length-step gs 0 eg ∙ eg) (length-step us b eu ∙ eu)
+    ∙ run-plus f (step gs 0) (step us b) bs (length-step gs 0 eg) (length-step us b eu)
 
 pub power-0 : generator ≡ power 0
 unfolding power

@@ -15,12 +15,12 @@ use Rattle.field.proofs.Powers.{pow-0, pow-s, pow-add}
 use Rattle.codeword.specs.Code.{horner, value, plus, timesRoot}
 use Rattle.base.specs.Table as tables
 use Rattle.code.specs.Words.{table}
-use Rattle.codeword.proofs.Poly.{length-plus}
-use Rattle.codeword.proofs.Encoder.{length-snoc}
+use Rattle.codeword.proofs.Poly.{length-plus, plus-at}
+use Rattle.codeword.proofs.Encoder.{length-snoc, snoc-at}
 use Rattle.codeword.proofs.Vandermonde.{getD-table}
 use Rattle.code.specs.Kernel.{Doubles, Multiples, lane}
 use Rattle.code.specs.Filling.{rootsTimes, locatorOf, prefixes, column, mix, Same, rootStep, rowOf, colOf, mixed, Put, Columns, scalesOf, Pattern, timesAll, inversesOf}
-use Rattle.code.proofs.LoopLaws.{Upto, plus-at, snoc-at}
+use Rattle.code.proofs.LoopLaws.{Upto}
 use Rattle.code.proofs.RowLaws.{past-end, zeros-at}
 use Rattle.code.proofs.LaneLaws.{length-table, table-ext, lane-horner, lane-table}
 use Rattle.code.proofs.LocatorLaws.{length-locatorOf, length-prefixes}

@@ -10,7 +10,8 @@ use Rattle.codeword.proofs.Poly.{length-plus}
 use Rattle.codeword.specs.Code.{plus}
 use Rattle.code.specs.Kernel.{Chain}
 use Rattle.code.specs.Filling.{rowOf}
-use Rattle.code.proofs.LoopLaws.{Upto, upto-start, upto-more, upto-end, plus-at}
+use Rattle.codeword.proofs.Poly.{plus-at}
+use Rattle.code.proofs.LoopLaws.{Upto, upto-start, upto-more, upto-end}
 use Rattle.code.proofs.SolveLaws.{row-of-at, length-rowOf}
 use Rattle.code.proofs.filling.add_row.Statement.{statement}
 use Rattle.code.proofs.filling.add_row.Tie as tie

@@ -8,7 +8,8 @@ use lib.ListN.{length}
 use Rattle.codeword.proofs.Poly.{length-plus}
 use Rattle.codeword.specs.Code.{plus}
 use Rattle.code.specs.Kernel.{power, Made}
-use Rattle.code.proofs.LoopLaws.{Upto, upto-start, upto-more, upto-end, plus-at}
+use Rattle.codeword.proofs.Poly.{plus-at}
+use Rattle.code.proofs.LoopLaws.{Upto, upto-start, upto-more, upto-end}
 use Rattle.code.proofs.RegisterLaws.{length-power}
 use Rattle.code.proofs.RowLaws.{halves}
 use Rattle.code.proofs.register.byte_in.Statement.{statement}
