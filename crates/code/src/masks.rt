@@ -1,13 +1,19 @@
 // Masks: a byte for each byte of a chunk, not 0 where that is missing.
+use base::MOST_K;
+use base::PARITY;
 ghost use mathlib.Core.Path.{_≡_};
 ghost use mathlib.Core.Bool.{cond};
 ghost use Prim.Native.Nat.{_+_, _≤_, _<_};
 ghost use lib.Dec.{eqb};
 ghost use lib.ListN.{length, take, getD};
+ghost use Rattle.base.specs.Bounds.{most-k, parity};
 ghost use Rattle.codeword.specs.Code.{full};
 ghost use Rattle.codeword.specs.Erasure.{marks, erase, count};
 ghost use Rattle.codeword.proofs.Erasure.{locators, fill};
 ghost use Rattle.code.specs.Sharing.{locs};
+
+// The bytes of a word of the code before it is shortened.
+const FULL: usize = MOST_K + PARITY;
 
 // How many bytes the mask marks as missing.
 pub fn missing_count(mask: &[u8]) -> usize
@@ -26,7 +32,7 @@ pub fn missing_count(mask: &[u8]) -> usize
 
 // The locators of the places that the mask marks.
 fn locate(mask: &[u8], xs: &mut [u8])
-    requires { ⌜ (length (now mask) ≤ 255) × (length (now xs) ≡ length (locators (marks (now mask)))) ⌝ }
+    requires { ⌜ (length (now mask) ≤ most-k + parity) × (length (now xs) ≡ length (locators (marks (now mask)))) ⌝ }
     ensures { λ _. ⌜ now (xs .exit) ≡ locators (marks (now (mask .entry))) ⌝ }
 {
     let mut e = 0;
@@ -58,24 +64,24 @@ pub fn fill_in(mask: &[u8], vs: &[u8], word: &mut [u8])
 
 // The byte at place i of the 255 of a chunk of k data bytes and 48 parity bytes.
 fn placed(k: usize, c: &[u8], i: usize) -> u8
-    requires { ⌜ (k ≤ 207) × (length (now c) ≡ k + 48) × (i < 255) ⌝ }
+    requires { ⌜ (k ≤ most-k) × (length (now c) ≡ k + parity) × (i < most-k + parity) ⌝ }
     ensures { λ r. ⌜ r ≡ getD (full 0 k (now (c .entry))) i 0 ⌝ }
 {
     if i < k {
         return c[i];
     }
-    if i < 207 {
+    if i < MOST_K {
         return 0;
     }
-    c[i - 207 + k]
+    c[i - MOST_K + k]
 }
 
 fn spread(k: usize, c: &[u8], w: &mut [u8])
-    requires { ⌜ (k ≤ 207) × (length (now c) ≡ k + 48) × (length (now w) ≡ 255) ⌝ }
+    requires { ⌜ (k ≤ most-k) × (length (now c) ≡ k + parity) × (length (now w) ≡ most-k + parity) ⌝ }
     ensures { λ _. ⌜ now (w .exit) ≡ full 0 k (now (c .entry)) ⌝ }
 {
     let mut i = 0;
-    while i < 255 {
+    while i < FULL {
         w[i] = placed(k, c, i);
         i += 1;
     }
@@ -104,13 +110,13 @@ pub fn clear(mask: &[u8], c: &mut [u8])
 }
 
 // The locators of the e missing places of a chunk.
-pub fn locators_of(k: usize, mask: &[u8], e: usize) -> [u8; 48]
-    requires { ⌜ (k ≤ 207) × (length (now mask) ≡ k + 48) × (e ≡ count (marks (now mask))) × (e ≤ 48) ⌝ }
+pub fn locators_of(k: usize, mask: &[u8], e: usize) -> [u8; PARITY]
+    requires { ⌜ (k ≤ most-k) × (length (now mask) ≡ k + parity) × (e ≡ count (marks (now mask))) × (e ≤ parity) ⌝ }
     ensures { λ r. ⌜ take e r ≡ locs k (now (mask .entry)) ⌝ }
 {
-    let mut m = [0u8; 255];
+    let mut m = [0u8; FULL];
     spread(k, mask, &mut m);
-    let mut xs = [0u8; 48];
+    let mut xs = [0u8; PARITY];
     locate(&m, &mut xs[..e]);
     xs
 }

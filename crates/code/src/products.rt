@@ -1,7 +1,10 @@
 // Products in the field by shift and select: no table, and many lanes at a time in a loop over an array.
+use crate::pattern::MULTIPLES;
+use base::PARITY;
 ghost use mathlib.Core.Path.{_≡_};
 ghost use Prim.Native.Nat.{ℕ, _*_, _/_, _%_, _<_};
 ghost use lib.ListN.{length, getD};
+ghost use Rattle.base.specs.Bounds.{parity};
 ghost use Rattle.field.specs.Field.{_⊗_, times2};
 ghost use Rattle.codeword.specs.Code.{plus};
 ghost use Rattle.code.specs.Kernel.{Chain, Doubles, Multiples, lane};
@@ -65,7 +68,7 @@ fn product(a: u8, x: u8) -> u8
 }
 
 // q + x b
-pub fn added(q: [u8; 48], x: u8, b: [u8; 48]) -> [u8; 48]
+pub fn added(q: [u8; PARITY], x: u8, b: [u8; PARITY]) -> [u8; PARITY]
     ensures { λ r. ⌜ r ≡ plus x b q ⌝ }
 {
     let c1 = twice(x);
@@ -76,30 +79,30 @@ pub fn added(q: [u8; 48], x: u8, b: [u8; 48]) -> [u8; 48]
     let c6 = twice(c5);
     let c7 = twice(c6);
     let mut n = q;
-    for m in 0..48 {
+    for m in 0..PARITY {
         n[m] = field::sum(q[m], dot(b[m], x, c1, c2, c3, c4, c5, c6, c7));
     }
     n
 }
 
 // a b in each lane
-pub fn times_lanes(a: [u8; 48], b: [u8; 48]) -> [u8; 48]
+pub fn times_lanes(a: [u8; PARITY], b: [u8; PARITY]) -> [u8; PARITY]
     ensures { λ r. ⌜ r ≡ timesAll a b ⌝ }
 {
-    let mut r = [0u8; 48];
-    for m in 0..48 {
+    let mut r = [0u8; PARITY];
+    for m in 0..PARITY {
         r[m] = product(a[m], b[m]);
     }
     r
 }
 
 // s x + r in each lane, with the multiples of each x in k
-pub fn lanes(k: &[u8; 384], s: [u8; 48], r: [u8; 48]) -> [u8; 48]
+pub fn lanes(k: &[u8; MULTIPLES], s: [u8; PARITY], r: [u8; PARITY]) -> [u8; PARITY]
     requires { ⌜ Doubles (now k) ⌝ }
     ensures { λ q. ⌜ q ≡ lane (now (k .entry)) s r ⌝ }
 {
-    let mut q = [0u8; 48];
-    for m in 0..48 {
+    let mut q = [0u8; PARITY];
+    for m in 0..PARITY {
         let p = dot(
             s[m],
             k[m],
@@ -117,23 +120,23 @@ pub fn lanes(k: &[u8; 384], s: [u8; 48], r: [u8; 48]) -> [u8; 48]
 }
 
 // A row of 48, and zeros behind it.
-fn first_row(x: [u8; 48]) -> [u8; 384]
-    ensures { λ r. ⌜ (length r ≡ 384) × ((i : ℕ) → i < 48 → getD r i 0 ≡ getD x i 0) ⌝ }
+fn first_row(x: [u8; PARITY]) -> [u8; MULTIPLES]
+    ensures { λ r. ⌜ (length r ≡ 8 * parity) × ((i : ℕ) → i < parity → getD r i 0 ≡ getD x i 0) ⌝ }
 {
-    let mut k = [0u8; 384];
-    for j in 0..48 {
+    let mut k = [0u8; MULTIPLES];
+    for j in 0..PARITY {
         k[j] = x[j];
     }
     k
 }
 
 // Eight rows of 48, each twice the one before.
-pub fn multiples(x: [u8; 48]) -> [u8; 384]
+pub fn multiples(x: [u8; PARITY]) -> [u8; MULTIPLES]
     ensures { λ r. ⌜ Multiples x r ⌝ }
 {
     let mut k = first_row(x);
-    for i in 48..384 {
-        k[i] = twice(k[i - 48]);
+    for i in PARITY..MULTIPLES {
+        k[i] = twice(k[i - PARITY]);
     }
     k
 }

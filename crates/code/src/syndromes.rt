@@ -1,17 +1,19 @@
 // The values at the 48 roots of the code, in 48 lanes.
+use crate::pattern::MULTIPLES;
 use crate::products::lanes;
 use crate::products::multiples;
 use crate::products::twice;
+use base::PARITY;
 ghost use mathlib.Core.Path.{_≡_};
 ghost use Rattle.codeword.proofs.Erasure.{syndromes};
 ghost use Rattle.code.specs.Kernel.{Multiples, rootsList};
 
-fn roots() -> [u8; 48]
+fn roots() -> [u8; PARITY]
     ensures { λ r. ⌜ r ≡ rootsList ⌝ }
 {
-    let mut a = [0u8; 48];
+    let mut a = [0u8; PARITY];
     let mut x = 1u8;
-    for j in 0..48 {
+    for j in 0..PARITY {
         x = twice(x);
         a[j] = x;
     }
@@ -19,21 +21,21 @@ fn roots() -> [u8; 48]
 }
 
 // The multiples of the roots.
-pub fn make_roots() -> [u8; 384]
+pub fn make_roots() -> [u8; MULTIPLES]
     ensures { λ r. ⌜ Multiples rootsList r ⌝ }
 {
     multiples(roots())
 }
 
 // The values at the roots, with their multiples in k.
-pub fn syndromes_at(k: &[u8; 384], r: [u8; 48]) -> [u8; 48]
+pub fn syndromes_at(k: &[u8; MULTIPLES], r: [u8; PARITY]) -> [u8; PARITY]
     requires { ⌜ Multiples rootsList (now k) ⌝ }
     ensures { λ s. ⌜ s ≡ syndromes r ⌝ }
 {
-    let mut s = [0u8; 48];
-    for j in 0..48 {
+    let mut s = [0u8; PARITY];
+    for j in 0..PARITY {
         let c = r[j];
-        let cs = [c; 48];
+        let cs = [c; PARITY];
         let next = lanes(k, s, cs);
         s = next;
     }

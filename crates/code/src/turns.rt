@@ -4,11 +4,16 @@ use crate::filling::fill_alone;
 use crate::filling::fill_shared;
 use crate::masks::locators_of;
 use crate::masks::missing_count;
+use crate::pattern::COLUMNS;
+use crate::pattern::MULTIPLES;
 use crate::pattern::pattern;
 use crate::rows::TABLE;
+use base::PARITY;
 ghost use mathlib.Core.Path.{_≡_};
 ghost use Prim.Native.Nat.{_+_, _≤_, _<_};
 ghost use lib.ListN.{length, take, drop, getD};
+ghost use Rattle.base.specs.Bounds.{parity};
+ghost use Rattle.code.specs.Words.{table-size};
 ghost use Rattle.code.specs.Kernel.{Made, Multiples, rootsList};
 ghost use Rattle.code.specs.Sharing.{Shared};
 ghost use Rattle.code.specs.Block.{part, codeOf, Open, SameTest, Filling, Sized, Later, OneLater, AllDone};
@@ -26,17 +31,17 @@ fn number(a: Answer) -> u8
 // The chunk j by itself.
 fn fill_one(
     t: &[u8; TABLE],
-    rk: &[u8; 384],
+    rk: &[u8; MULTIPLES],
     k: usize,
     mask: &[u8],
     blk: &mut [u8],
     ans: &mut [u8],
     j: usize,
 )
-    requires { ⌜ Sized k (now mask) (now blk) (now ans) × (j < length (now ans)) × (3 ≤ getD (now ans) j 0) × Made (now t) 12288 × Multiples rootsList (now rk) ⌝ }
+    requires { ⌜ Sized k (now mask) (now blk) (now ans) × (j < length (now ans)) × (3 ≤ getD (now ans) j 0) × Made (now t) table-size × Multiples rootsList (now rk) ⌝ }
     ensures { λ _. ⌜ OneLater k j (now (mask .entry)) (now (blk .entry)) (now (ans .entry)) (now (blk .exit)) (now (ans .exit)) ⌝ }
 {
-    let n = k + 48;
+    let n = k + PARITY;
     let a = j * n;
     let e = a + n;
     let r = fill_alone(t, rk, k, &mask[a..e], &mut blk[a..e]);
@@ -46,9 +51,9 @@ fn fill_one(
 // The chunk j, with what it shares.
 fn fill_same(
     t: &[u8; TABLE],
-    rk: &[u8; 384],
-    q: &[u8; 2304],
-    sc: &[u8; 384],
+    rk: &[u8; MULTIPLES],
+    q: &[u8; COLUMNS],
+    sc: &[u8; MULTIPLES],
     miss: usize,
     k: usize,
     mask: &[u8],
@@ -56,10 +61,10 @@ fn fill_same(
     ans: &mut [u8],
     j: usize,
 )
-    requires { ⌜ Sized k (now mask) (now blk) (now ans) × (j < length (now ans)) × (3 ≤ getD (now ans) j 0) × Shared (now t) (now rk) (now q) (now sc) (part (k + 48) j (now mask)) miss k ⌝ }
+    requires { ⌜ Sized k (now mask) (now blk) (now ans) × (j < length (now ans)) × (3 ≤ getD (now ans) j 0) × Shared (now t) (now rk) (now q) (now sc) (part (k + parity) j (now mask)) miss k ⌝ }
     ensures { λ _. ⌜ OneLater k j (now (mask .entry)) (now (blk .entry)) (now (ans .entry)) (now (blk .exit)) (now (ans .exit)) ⌝ }
 {
-    let n = k + 48;
+    let n = k + PARITY;
     let a = j * n;
     let e = a + n;
     let r = fill_shared(t, rk, q, sc, miss, k, &mask[a..e], &mut blk[a..e]);
@@ -92,9 +97,9 @@ fn mark(ans: &mut [u8])
 // The chunk j, if its answer is open and it misses what the chunk `from` misses.
 fn turn(
     t: &[u8; TABLE],
-    rk: &[u8; 384],
-    q: &[u8; 2304],
-    sc: &[u8; 384],
+    rk: &[u8; MULTIPLES],
+    q: &[u8; COLUMNS],
+    sc: &[u8; MULTIPLES],
     miss: usize,
     k: usize,
     mask: &[u8],
@@ -103,11 +108,11 @@ fn turn(
     from: usize,
     j: usize,
 )
-    requires { ⌜ Sized k (now mask) (now blk) (now ans) × (from < length (now ans)) × (j < length (now ans)) × Shared (now t) (now rk) (now q) (now sc) (part (k + 48) from (now mask)) miss k ⌝ }
+    requires { ⌜ Sized k (now mask) (now blk) (now ans) × (from < length (now ans)) × (j < length (now ans)) × Shared (now t) (now rk) (now q) (now sc) (part (k + parity) from (now mask)) miss k ⌝ }
     ensures { λ _. ⌜ Later k (now (mask .entry)) (now (blk .entry)) (now (ans .entry)) (now (blk .exit)) (now (ans .exit)) ⌝ }
 {
     if 2 < ans[j] {
-        let n = k + 48;
+        let n = k + PARITY;
         if same_at(mask, from * n, j * n, n) {
             fill_same(t, rk, q, sc, miss, k, mask, blk, ans, j);
         }
@@ -117,9 +122,9 @@ fn turn(
 // The chunks from, from + hop, ..: those that miss what the chunk `from` misses.
 fn class_turns(
     t: &[u8; TABLE],
-    rk: &[u8; 384],
-    q: &[u8; 2304],
-    sc: &[u8; 384],
+    rk: &[u8; MULTIPLES],
+    q: &[u8; COLUMNS],
+    sc: &[u8; MULTIPLES],
     miss: usize,
     k: usize,
     mask: &[u8],
@@ -128,7 +133,7 @@ fn class_turns(
     from: usize,
     hop: usize,
 )
-    requires { ⌜ Sized k (now mask) (now blk) (now ans) × (from < length (now ans)) × (0 < hop) × Shared (now t) (now rk) (now q) (now sc) (part (k + 48) from (now mask)) miss k ⌝ }
+    requires { ⌜ Sized k (now mask) (now blk) (now ans) × (from < length (now ans)) × (0 < hop) × Shared (now t) (now rk) (now q) (now sc) (part (k + parity) from (now mask)) miss k ⌝ }
     ensures { λ _. ⌜ Later k (now (mask .entry)) (now (blk .entry)) (now (ans .entry)) (now (blk .exit)) (now (ans .exit)) ⌝ }
 {
     let n = ans.len();
@@ -149,7 +154,7 @@ fn next(j: usize, hop: usize, n: usize) -> usize
 
 fn fill_class(
     t: &[u8; TABLE],
-    rk: &[u8; 384],
+    rk: &[u8; MULTIPLES],
     k: usize,
     mask: &[u8],
     blk: &mut [u8],
@@ -157,16 +162,16 @@ fn fill_class(
     from: usize,
     hop: usize,
 )
-    requires { ⌜ Sized k (now mask) (now blk) (now ans) × (from < length (now ans)) × (0 < hop) × Made (now t) 12288 × Multiples rootsList (now rk) ⌝ }
+    requires { ⌜ Sized k (now mask) (now blk) (now ans) × (from < length (now ans)) × (0 < hop) × Made (now t) table-size × Multiples rootsList (now rk) ⌝ }
     ensures { λ _. ⌜ Later k (now (mask .entry)) (now (blk .entry)) (now (ans .entry)) (now (blk .exit)) (now (ans .exit)) ⌝ }
 {
-    let n = k + 48;
+    let n = k + PARITY;
     let a = from * n;
     let e = a + n;
     let miss = missing_count(&mask[a..e]);
-    if miss <= 48 {
+    if miss <= PARITY {
         let x = locators_of(k, &mask[a..e], miss);
-        let mut q = [0u8; 2304];
+        let mut q = [0u8; COLUMNS];
         let sc = pattern(x, miss, &mut q);
         class_turns(t, rk, &q, &sc, miss, k, mask, blk, ans, from, hop);
     }
@@ -174,14 +179,14 @@ fn fill_class(
 
 fn classes(
     t: &[u8; TABLE],
-    rk: &[u8; 384],
+    rk: &[u8; MULTIPLES],
     k: usize,
     mask: &[u8],
     blk: &mut [u8],
     ans: &mut [u8],
     hop: usize,
 )
-    requires { ⌜ Sized k (now mask) (now blk) (now ans) × (0 < hop) × Made (now t) 12288 × Multiples rootsList (now rk) ⌝ }
+    requires { ⌜ Sized k (now mask) (now blk) (now ans) × (0 < hop) × Made (now t) table-size × Multiples rootsList (now rk) ⌝ }
     ensures { λ _. ⌜ Later k (now (mask .entry)) (now (blk .entry)) (now (ans .entry)) (now (blk .exit)) (now (ans .exit)) ⌝ }
 {
     let n = ans.len();
@@ -196,8 +201,15 @@ fn classes(
 }
 
 // The chunks whose answers are open still.
-fn rest(t: &[u8; TABLE], rk: &[u8; 384], k: usize, mask: &[u8], blk: &mut [u8], ans: &mut [u8])
-    requires { ⌜ Sized k (now mask) (now blk) (now ans) × Made (now t) 12288 × Multiples rootsList (now rk) ⌝ }
+fn rest(
+    t: &[u8; TABLE],
+    rk: &[u8; MULTIPLES],
+    k: usize,
+    mask: &[u8],
+    blk: &mut [u8],
+    ans: &mut [u8],
+)
+    requires { ⌜ Sized k (now mask) (now blk) (now ans) × Made (now t) table-size × Multiples rootsList (now rk) ⌝ }
     ensures { λ _. ⌜ Later k (now (mask .entry)) (now (blk .entry)) (now (ans .entry)) (now (blk .exit)) (now (ans .exit)) × AllDone (now (ans .exit)) (length (now (ans .exit))) ⌝ }
 {
     let n = ans.len();
@@ -210,14 +222,14 @@ fn rest(t: &[u8; TABLE], rk: &[u8; 384], k: usize, mask: &[u8], blk: &mut [u8], 
 
 fn last_turn(
     t: &[u8; TABLE],
-    rk: &[u8; 384],
+    rk: &[u8; MULTIPLES],
     k: usize,
     mask: &[u8],
     blk: &mut [u8],
     ans: &mut [u8],
     j: usize,
 )
-    requires { ⌜ Sized k (now mask) (now blk) (now ans) × (j < length (now ans)) × Made (now t) 12288 × Multiples rootsList (now rk) ⌝ }
+    requires { ⌜ Sized k (now mask) (now blk) (now ans) × (j < length (now ans)) × Made (now t) table-size × Multiples rootsList (now rk) ⌝ }
     ensures { λ _. ⌜ OneLater k j (now (mask .entry)) (now (blk .entry)) (now (ans .entry)) (now (blk .exit)) (now (ans .exit)) ⌝ }
 {
     if 2 < ans[j] {
@@ -228,14 +240,14 @@ fn last_turn(
 // THE BLOCK'S DECODER: a number for each chunk's answer. Chunks that lie hop apart and miss the same places share what these need.
 pub fn fill_block(
     t: &[u8; TABLE],
-    rk: &[u8; 384],
+    rk: &[u8; MULTIPLES],
     k: usize,
     mask: &[u8],
     blk: &mut [u8],
     ans: &mut [u8],
     hop: usize,
 )
-    requires { ⌜ Sized k (now mask) (now blk) (now ans) × (0 < hop) × Made (now t) 12288 × Multiples rootsList (now rk) ⌝ }
+    requires { ⌜ Sized k (now mask) (now blk) (now ans) × (0 < hop) × Made (now t) table-size × Multiples rootsList (now rk) ⌝ }
     ensures { λ _. ⌜ Filling k (now (mask .entry)) (now (blk .entry)) (now (blk .exit)) (now (ans .exit)) ⌝ }
 {
     mark(ans);
