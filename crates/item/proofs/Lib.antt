@@ -1,0 +1,5 @@
+-- What the proofs of several functions use.
+pub mod Steps
+pub mod Runs
+pub mod Faults
+pub mod Seen

@@ -1,0 +1,55 @@
+use native.Mathlib.Omega.{arith}
+use native.Mathlib.Nat.{sub-eq-zero-of-le, le-of-lt}
+use borrow.Author.Tests.{lt-ltb}
+use Rattle.item.specs.Item.{stepIn}
+use Rattle.item.proofs.Steps.{is-item, is-overrun}
+use borrow.Author.Needs.{needs}
+use Rattle.item.proofs.step_in.Statement.{statement}
+use Rattle.item.proofs.step_in.Tie as tie
+use Rattle.item.proofs.step_in.Reads as reads
+use Rattle.item.proofs.step_in.Lts as lts
+use Rattle.base.proofs.read4.Reads as read4-reads
+use Rattle.item.proofs.bytes_of.Reads as bytes-of-reads
+
+returns : tie.Need-returns
+unfolding stepIn
+returns c = simp (sub-eq-zero-of-le (le-of-lt (c .if1 .taken)))
+
+returns-2 : tie.Need-returns-2
+unfolding stepIn
+returns-2 c = simp (lt-ltb _ _ (c .if2 .taken))
+
+read4-requires : tie.Need-read4-requires
+read4-requires c κs = search needs
+
+add-read4 : tie.Need-add-read4
+add-read4 c = search needs
+
+read4-requires-2 : tie.Need-read4-requires-2
+read4-requires-2 c κs = search needs
+
+bytes-of-requires : tie.Need-bytes-of-requires
+bytes-of-requires c κs = search needs
+
+returns-3 : tie.Need-returns-3
+returns-3 c = let h = c .before .before .before .before .before .if2 .left in let f = c .if3 .taken in is-overrun _ _ _ _ _ h (c .before .before .before .read42 .ensures) (c .before .before .bytes-of .ensures) (omega arith)
+
+add-t12 : tie.Need-add-t12
+add-t12 c = search needs
+
+returns-4 : tie.Need-returns-4
+returns-4 c = let h = c .before .before .before .before .before .if2 .left in let f = c .if3 .left in is-item _ _ _ _ _ _ h (c .before .before .before .before .read4 .ensures) (c .before .before .before .read42 .ensures) (c .before .before .bytes-of .ensures) (omega arith)
+
+pub step-in-spec : {M : Type 1} → statement M
+step-in-spec =
+    tie.close
+    (tie.spec
+    returns
+    returns-2
+    read4-requires
+    add-read4
+    read4-requires-2
+    bytes-of-requires
+    returns-3
+    add-t12
+    returns-4)

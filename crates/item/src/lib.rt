@@ -1,0 +1,157 @@
+// A TAG item in a packet, and a packet as a run of items.
+ghost use mathlib.Core.Path.{_≡_};
+ghost use mathlib.Core.Bool.{false, _&&_};
+ghost use Prim.Native.Nat.{_%_, _<_};
+ghost use lib.ListN.{replicate};
+ghost use Rattle.item.specs.Item.{bytesFor, stepIn};
+ghost use Rattle.item.specs.Run.{runOf, firstOf, badPtr, faultOf, isBefore, slots};
+
+// A length in bits, as a TAG length counts.
+pub struct Bits(pub u32);
+
+// A length in bytes, as a value is counted.
+pub struct Bytes(pub usize);
+
+// An item of a packet: its name as a big-endian number, its length, and the place of its value in the lent packet.
+pub struct Item {
+    pub name: u32,
+    pub bits: Bits,
+    pub from: usize,
+    pub len: Bytes,
+}
+
+// What stands at a position: an item, the end with so many bytes of padding, or an item that is refused.
+pub enum Step {
+    Item(Item),
+    End(Bytes),
+    Refused(u8),
+}
+
+// What a search by name finds.
+pub enum Found {
+    At(Item),
+    Nothing,
+}
+
+// The bytes before a value.
+pub const HEAD: usize = 8;
+
+// "*dmy", filler, which may stand more than once.
+const DMY: u32 = 0x2A646D79;
+
+// "*ptr", and the bits of its value.
+const PTR: u32 = 0x2A707472;
+
+const PTR_BITS: u32 = 64;
+
+// The slots of the marks by which a name is known not to have stood before: a prime, so that names that differ little differ in their slot.
+pub const SLOTS: usize = 4093;
+
+// The one conversion: the bytes that hold so many bits.
+pub fn bytes_of(bits: Bits) -> Bytes
+    ensures { λ r. ⌜ r .0 ≡ bytesFor (bits .0) ⌝ }
+{
+    Bytes((bits.0 as usize + 7) / 8)
+}
+
+// What stands at `at` in the packet that ends before `end`.
+pub fn step_in(s: &[u8], at: usize, end: usize) -> Step
+    ensures { λ r. ⌜ r ≡ stepIn (now (s .entry)) at end ⌝ }
+{
+    if end < at {
+        return Step::End(Bytes(0));
+    }
+    let left = end - at;
+    if left < HEAD {
+        return Step::End(Bytes(left));
+    }
+    let name = base::read4(s, at);
+    let bits = Bits(base::read4(s, at + 4));
+    let len = bytes_of(bits);
+    if left - HEAD < len.0 {
+        return Step::Refused(30);
+    }
+    Step::Item(Item {
+        name,
+        bits,
+        from: at + HEAD,
+        len,
+    })
+}
+
+// The first item of that name in the packet from `from` to `end`.
+pub fn first_in(s: &[u8], name: u32, from: usize, end: usize) -> Found
+    ensures { λ r. ⌜ r ≡ firstOf name (runOf (now (s .entry)) from end) ⌝ }
+{
+    let mut at = from;
+    loop {
+        let step = step_in(s, at, end);
+        match step {
+            Step::Item(i) => {
+                if i.name == name {
+                    return Found::At(i);
+                }
+                at = i.from + i.len.0;
+            }
+            Step::End(_) => {
+                return Found::Nothing;
+            }
+            Step::Refused(_) => {
+                return Found::Nothing;
+            }
+        }
+    }
+}
+
+// Whether an item of that name stands before `at`. Where there is no mark it does not, and nothing is searched.
+fn again(s: &[u8], name: u32, from: usize, end: usize, at: usize, mark: bool) -> bool
+    ensures { λ r. ⌜ r ≡ (mark && isBefore (firstOf name (runOf (now (s .entry)) from end)) at) ⌝ }
+{
+    if mark {
+        let f = first_in(s, name, from, end);
+        match f {
+            Found::At(j) => j.from < at,
+            Found::Nothing => false,
+        }
+    } else {
+        false
+    }
+}
+
+// Whether it is a "*ptr" whose bits are not 64.
+pub fn bad_ptr(name: u32, bits: Bits) -> bool
+    ensures { λ r. ⌜ r ≡ badPtr name (bits .0) ⌝ }
+{
+    if name == PTR {
+        bits.0 != PTR_BITS
+    } else {
+        false
+    }
+}
+
+// The number of the fault of an item of the packet from `from` to `end`, or 0; `mark` is whether the slot of its name is marked.
+pub fn fault_of(s: &[u8], from: usize, end: usize, i: Item, mark: bool) -> u8
+    ensures { λ r. ⌜ r ≡ faultOf (mark && isBefore (firstOf (i .name) (runOf (now (s .entry)) from end)) (i .from)) i ⌝ }
+{
+    if i.name == DMY {
+        return 0;
+    }
+    if again(s, i.name, from, end, i.from, mark) {
+        return 31;
+    }
+    if bad_ptr(i.name, i.bits) { 33 } else { 0 }
+}
+
+// The slot of a name.
+pub fn slot(name: u32) -> usize
+    ensures { λ r. ⌜ (r ≡ name % slots) × (r < slots) ⌝ }
+{
+    name as usize % SLOTS
+}
+
+// No slot marked. A function of its own, so that a caller's proof has a name for the array and not its elements.
+pub fn no_marks() -> [bool; SLOTS]
+    ensures { λ r. ⌜ r ≡ replicate slots false ⌝ }
+{
+    [false; SLOTS]
+}

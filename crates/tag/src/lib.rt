@@ -1,0 +1,165 @@
+// A TAG packet: checked whole, read item by item, and searched by name beside a standing packet.
+use item::Bits;
+use item::Found;
+use item::Item;
+use item::Step;
+ghost use mathlib.Core.Path.{_≡_};
+ghost use mathlib.Core.List.{[], _∷_};
+ghost use Rattle.base.specs.Answer.{granted};
+ghost use Rattle.tag.specs.Find.{checkOf, locateOf, valueOf, shownBy};
+ghost use Rattle.tag.specs.Calls.{openedNumber, openCall, readOf, afterOf, soughtNumber, searchCall};
+
+// Where a reader begins, or the number with which its packet is refused.
+pub enum Opened {
+    At(usize),
+    Refused(u8),
+}
+
+// What a search answers: the bits of the item found, or the number of the refusal.
+pub enum Sought {
+    Found(Bits),
+    Refused(u8),
+}
+
+// Where a name is found.
+enum Located {
+    Packet(Item),
+    Standing(Item),
+    Refused(u8),
+}
+
+// The number of the leftmost item at fault of a whole packet, or 0. A name whose slot has no mark has not stood before, so that few names are
+// searched for.
+fn check(packet: &[u8]) -> u8
+    ensures { λ r. ⌜ r ≡ checkOf (now (packet .entry)) ⌝ }
+{
+    let end = packet.len();
+    let mut marks = item::no_marks();
+    let mut at = 0;
+    loop {
+        let step = item::step_in(packet, at, end);
+        match step {
+            Step::Item(i) => {
+                let h = item::slot(i.name);
+                let n = item::fault_of(packet, 0, end, i, marks[h]);
+                if n != 0 {
+                    return n;
+                }
+                marks[h] = true;
+                at = i.from + i.len.0;
+            }
+            Step::End(_) => {
+                return 0;
+            }
+            Step::Refused(n) => {
+                return n;
+            }
+        }
+    }
+}
+
+// Opens a reader: the whole packet is checked before the first item is handed out.
+pub fn open_reader(packet: &[u8]) -> Opened
+    ensures { λ r. ⌜ openedNumber r ≡ openCall (now (packet .entry)) ⌝ }
+{
+    let n = check(packet);
+    if n != 0 {
+        return Opened::Refused(n);
+    }
+    Opened::At(0)
+}
+
+// What a reader at `at` hands out; `refusal` is the number with which its packet was refused, or 0.
+pub fn read_at(packet: &[u8], at: usize, refusal: u8) -> Step
+    ensures { λ r. ⌜ r ≡ readOf (now (packet .entry)) at refusal ⌝ }
+{
+    if refusal != 0 {
+        return Step::Refused(refusal);
+    }
+    item::step_in(packet, at, packet.len())
+}
+
+// Where the reader stands then: behind the item; at the end, or refused, it stays.
+pub fn read_after(packet: &[u8], at: usize, refusal: u8) -> usize
+    ensures { λ r. ⌜ r ≡ afterOf (now (packet .entry)) at refusal ⌝ }
+{
+    let step = read_at(packet, at, refusal);
+    match step {
+        Step::Item(i) => i.from + i.len.0,
+        Step::End(_) => at,
+        Step::Refused(_) => at,
+    }
+}
+
+// Where the name is: both packets are checked whole, the packet first, before either is searched.
+fn locate(packet: &[u8], standing: &[u8], name: u32) -> Located
+    ensures { λ r. ⌜ r ≡ locateOf (now (packet .entry)) (now (standing .entry)) name ⌝ }
+{
+    let n = check(packet);
+    if n != 0 {
+        return Located::Refused(n);
+    }
+    let m = check(standing);
+    if m != 0 {
+        return Located::Refused(m);
+    }
+    let f = item::first_in(packet, name, 0, packet.len());
+    match f {
+        Found::At(i) => {
+            return Located::Packet(i);
+        }
+        Found::Nothing => {}
+    }
+    let g = item::first_in(standing, name, 0, standing.len());
+    match g {
+        Found::At(i) => Located::Standing(i),
+        Found::Nothing => Located::Refused(34),
+    }
+}
+
+// The value of an item, as a part of the packet that it stands in. What passes the end of the packet is left out.
+pub fn value(packet: &[u8], i: Item) -> &[u8]
+    ensures { λ r. ⌜ now r ≡ valueOf (now (packet .entry)) i ⌝ }
+{
+    let from = i.from;
+    if packet.len() <= from {
+        return &packet[..0];
+    }
+    if packet.len() - from < i.len.0 {
+        return &packet[from..];
+    }
+    let end = from + i.len.0;
+    &packet[from..end]
+}
+
+// What is told of an item found.
+fn found(i: Item) -> Sought
+    ensures { λ r. ⌜ soughtNumber r ≡ granted (i .bits .0 ∷ []) ⌝ }
+{
+    let bits = i.bits;
+    Sought::Found(bits)
+}
+
+// Searches for a name in the packet, then in the standing packet, and answers its bits or the refusal.
+pub fn search(packet: &[u8], standing: &[u8], name: u32) -> Sought
+    ensures { λ r. ⌜ soughtNumber r ≡ searchCall (now (packet .entry)) (now (standing .entry)) name ⌝ }
+{
+    let l = locate(packet, standing, name);
+    match l {
+        Located::Packet(i) => found(i),
+        Located::Standing(i) => found(i),
+        Located::Refused(n) => Sought::Refused(n),
+    }
+}
+
+// The value of the item that `search` finds, as a part of the packet or of the standing packet; empty where the search is refused.
+pub fn find<'a>(packet: &'a [u8], standing: &'a [u8], name: u32) -> &'a [u8]
+    ensures { λ r. ⌜ now r ≡ shownBy (now (packet .entry)) (now (standing .entry)) (locateOf (now (packet .entry)) (now (standing .entry)) name) ⌝ }
+{
+    let l = locate(packet, standing, name);
+    match l {
+        Located::Packet(i) => value(packet, i),
+        Located::Standing(i) => value(standing, i),
+        Located::Refused(_) => &packet[..0],
+    }
+}
