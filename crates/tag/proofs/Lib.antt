@@ -1,0 +1,5 @@
+-- What the proofs of several functions use.
+pub mod Checking
+pub mod Reading
+pub mod Searches
+pub mod Values

@@ -1,0 +1,36 @@
+-- What a reader hands out, by what stands where it is. Assumes nothing.
+use Prim.Native.Nat.{ℕ, _≤_}
+use mathlib.Core.List.{List}
+use mathlib.Core.Bool.{Bool, true, false, cond}
+use mathlib.Core.Path.{_≡_, sym, ap}
+use native.Mathlib.Omega.{arith}
+use lib.Dec.{eqb}
+use lib.ListN.{length}
+use Rattle.item.specs.declared.Item.{Item}
+use Rattle.item.specs.declared.Step.{Step}
+use Rattle.item.specs.declared.Step.the-variants as step
+use Rattle.item.specs.Item.{stepIn}
+use Rattle.item.specs.Run.{nextOf, onStep}
+use Rattle.item.proofs.Steps.{item-fits, zero-one}
+use Rattle.item.proofs.Runs.{item-begins}
+use Rattle.tag.specs.Calls.{readOf, afterOf}
+
+-- an item is handed out only where the packet is not refused,
+stands-by : (b : Bool) (here : Step) (refusal : ℕ) (i : Item) → cond b here (step.Refused refusal) ≡ step.Item i → here ≡ step.Item i
+stands-by true here refusal i e = e
+stands-by false here refusal i e = absurd (zero-one (cc))
+
+pub handed-stands : (s : List ℕ) (at refusal : ℕ) (i : Item) → readOf s at refusal ≡ step.Item i → stepIn s at (length s) ≡ step.Item i
+unfolding readOf
+handed-stands s at refusal i e = stands-by (eqb refusal 0) (stepIn s at (length s)) refusal i e
+
+-- and lies in it
+pub handed-fits : (s : List ℕ) (at refusal : ℕ) (i : Item) → readOf s at refusal ≡ step.Item i → nextOf i ≤ length s
+handed-fits s at refusal i e =
+    let here = handed-stands s at refusal i e in
+    omega (arith, item-begins _ _ _ _ here, item-fits _ _ _ _ here)
+
+-- where the reader stands then
+pub after-is : (s : List ℕ) (at refusal : ℕ) (t : Step) → readOf s at refusal ≡ t → onStep t nextOf (λ p. at) (λ n. at) ≡ afterOf s at refusal
+unfolding afterOf
+after-is s at refusal t e = sym (ap (λ (u : Step). onStep u nextOf (λ p. at) (λ n. at)) e)

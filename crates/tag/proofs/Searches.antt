@@ -1,0 +1,27 @@
+-- Where a search ends, by what the checks and the two searches say. Assumes nothing.
+use Prim.Native.Nat.{ℕ}
+use mathlib.Core.List.{List}
+use mathlib.Core.Path.{_≡_, sym, _∙_}
+use borrow.Author.Tests.{eq-eqb, ne-eqb}
+use Rattle.item.specs.declared.Found.{Found}
+use Rattle.item.specs.Run.{firstOf}
+use Rattle.tag.specs.declared.Located.the-variants as located
+use Rattle.tag.specs.Find.{wholeRun, checkOf, inPacket, inStanding, locateOf}
+
+module _ (s t : List ℕ) (name : ℕ) where
+  -- the packet is refused,
+  pub refused-first : (n : ℕ) → n ≡ checkOf s → (n ≡ 0 → ⊥) → located.Refused n ≡ locateOf s t name
+  unfolding locateOf
+  refused-first n p h = sym (simp (ne-eqb (checkOf s) 0 (λ z. h (p ∙ z)), ← p))
+
+  -- or it is not, and the standing packet is,
+  pub refused-second : (n m : ℕ) → n ≡ checkOf s → n ≡ 0 → m ≡ checkOf t → (m ≡ 0 → ⊥)
+      → located.Refused m ≡ locateOf s t name
+  unfolding locateOf
+  refused-second n m p z q h = sym (simp (eq-eqb (checkOf s) 0 (sym p ∙ z), ne-eqb (checkOf t) 0 (λ z. h (q ∙ z)), ← q))
+
+  -- or neither is
+  pub is-located : (n m : ℕ) (f g : Found) → n ≡ checkOf s → n ≡ 0 → m ≡ checkOf t → m ≡ 0 → firstOf name (wholeRun s) ≡ f
+      → firstOf name (wholeRun t) ≡ g → locateOf s t name ≡ inPacket f (inStanding g)
+  unfolding locateOf
+  is-located n m f g p z q y a b = simp (eq-eqb (checkOf s) 0 (sym p ∙ z), eq-eqb (checkOf t) 0 (sym q ∙ y), a, b)

@@ -1,0 +1,59 @@
+-- `tag::find` meets its contract.
+use borrow.Author.Needs.{needs}
+use mathlib.Core.Path.{sym, ap, _∙_}
+use Rattle.tag.specs.Find.{shownBy}
+use Rattle.tag.proofs.find.Statement.{statement}
+use Rattle.tag.proofs.find.Tie as tie
+use Rattle.tag.proofs.find.Reads as reads
+use Rattle.tag.proofs.find.Lts as lts
+use Rattle.tag.proofs.locate.Reads as locate-reads
+use Rattle.tag.proofs.value.Reads as value-reads
+
+locate-requires : tie.Need-locate-requires
+locate-requires c κs = search needs
+
+enum-known-l : tie.Need-enum-known-l
+enum-known-l c = search needs
+
+value-requires : tie.Need-value-requires
+value-requires c κs = search needs
+
+enum-known-l-2 : tie.Need-enum-known-l-2
+enum-known-l-2 c = search needs
+
+value-requires-2 : tie.Need-value-requires-2
+value-requires-2 c κs = search needs
+
+enum-told : tie.Need-enum-told
+enum-told c = search needs
+
+slice-aggregate-result : tie.Need-slice-aggregate-result
+slice-aggregate-result c = search needs
+
+returns : tie.Need-returns
+returns c =
+    let k = c .before .before in
+    c .value .ensures ∙ sym (ap (shownBy _ _) (sym (k .before .before .locate .ensures) ∙ k .l .given .1))
+
+returns-2 : tie.Need-returns-2
+returns-2 c =
+    let k = c .before .before in
+    c .value2 .ensures ∙ sym (ap (shownBy _ _) (sym (k .before .before .locate .ensures) ∙ k .l2 .given .1))
+
+returns-3 : tie.Need-returns-3
+returns-3 c = sym (ap (shownBy _ _) (sym (c .before .before .before .locate .ensures) ∙ c .before .enum-told .given .1))
+
+pub find-spec : {M : Type 1} → statement M
+find-spec =
+    tie.close
+    (tie.spec
+    locate-requires
+    enum-known-l
+    value-requires
+    enum-known-l-2
+    value-requires-2
+    enum-told
+    slice-aggregate-result
+    returns
+    returns-2
+    returns-3)

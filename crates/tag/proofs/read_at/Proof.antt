@@ -1,0 +1,23 @@
+-- `tag::read_at` meets its contract.
+use borrow.Author.Needs.{needs}
+use borrow.Author.Tests.{ne-eqb}
+use Rattle.tag.specs.Calls.{readOf}
+use Rattle.tag.proofs.read_at.Statement.{statement}
+use Rattle.tag.proofs.read_at.Tie as tie
+use Rattle.tag.proofs.read_at.Reads as reads
+use Rattle.tag.proofs.read_at.Lts as lts
+use Rattle.item.proofs.step_in.Reads as step-in-reads
+
+returns : tie.Need-returns
+unfolding readOf
+returns c = simp (ne-eqb _ 0 (c .if1 .taken))
+
+step-in-requires : tie.Need-step-in-requires
+step-in-requires c κs = search needs
+
+returns-2 : tie.Need-returns-2
+unfolding readOf
+returns-2 c = simp (c .before .if1 .left) (c .step-in .ensures)
+
+pub read-at-spec : {M : Type 1} → statement M
+read-at-spec = tie.close (tie.spec returns step-in-requires returns-2)
