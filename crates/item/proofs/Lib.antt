@@ -3,3 +3,5 @@ pub mod Steps
 pub mod Runs
 pub mod Faults
 pub mod Seen
+pub mod Finds
+pub mod Proved

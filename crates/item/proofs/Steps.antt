@@ -1,15 +1,13 @@
 -- What `stepIn` is, by what the tests say.
 use Prim.Native.Nat.{ℕ, _+_, _-_, _≤_, _<_}
 use mathlib.Core.List.{List}
-use mathlib.Core.Path.{_≡_, refl, sym, ap, _∙_}
+use mathlib.Core.Path.{_≡_, refl}
 use native.Mathlib.Omega.{arith}
 use mathlib.Core.Bool.{Bool, true, false, cond}
 use lib.Dec.{ltb, leb}
-use borrow.Author.Tests.{le-ltb, lt-ltb, le-leb, lt-leb, leb-true}
-use Rattle.item.specs.declared.Bits.{Bits}
+use borrow.Author.Tests.{le-ltb, le-leb, lt-leb, leb-true, ltb-true}
 use Rattle.item.specs.declared.Bytes.{Bytes}
 use Rattle.item.specs.declared.Item.{Item}
-use Rattle.item.specs.declared.Step.{Step}
 use Rattle.item.specs.declared.Step.the-variants as step
 use Rattle.base.specs.Bytes.{numberAt}
 use Rattle.item.specs.Item.{head, bytesFor, itemAt, stepIn}
@@ -42,6 +40,18 @@ item-fits s at end i e =
 pub item-at : (s : List ℕ) (at end : ℕ) (i : Item) → stepIn s at end ≡ step.Item i → i ≡ itemAt s at
 unfolding stepIn
 item-at s at end i e = item-by (ltb (end - at) 8) (leb (8 + bytesFor (numberAt 4 s (at + 4))) (end - at)) (itemAt s at) i (record { 0 = end - at }) e .1
+
+-- padding is less than an item's head
+few-by : (b b′ : Bool) (j : Item) (p q : Bytes) → cond b (step.End p) (cond b′ (step.Item j) (step.Refused 30)) ≡ step.End q → (b ≡ true) × (q ≡ p)
+few-by true b′ j p q e = (refl, cc)
+few-by false true j p q e = absurd (zero-one (cc))
+few-by false false j p q e = absurd (zero-one (cc))
+
+pub end-few : (s : List ℕ) (at end : ℕ) (p : Bytes) → stepIn s at end ≡ step.End p → p .0 < head
+unfolding stepIn
+end-few s at end p e =
+    let h = few-by (ltb (end - at) 8) (leb (8 + bytesFor (numberAt 4 s (at + 4))) (end - at)) (itemAt s at) (record { 0 = end - at }) p e in
+    rw (h .1) (ltb-true _ _ (h .0))
 
 -- nothing is left
 pub step-none : (s : List ℕ) (at end : ℕ) → end - at ≤ 0 → stepIn s at end ≡ step.End (record { 0 = 0 })

@@ -1,2 +1,3 @@
 pub mod Item
 pub mod Run
+pub mod Claims

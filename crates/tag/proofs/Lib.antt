@@ -3,3 +3,7 @@ pub mod Checking
 pub mod Reading
 pub mod Searches
 pub mod Values
+pub mod HandedOut
+pub mod Endings
+pub mod Inside
+pub mod Proved

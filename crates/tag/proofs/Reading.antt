@@ -6,6 +6,7 @@ use mathlib.Core.Path.{_≡_, sym, ap}
 use native.Mathlib.Omega.{arith}
 use lib.Dec.{eqb}
 use lib.ListN.{length}
+use borrow.Author.Tests.{ne-eqb}
 use Rattle.item.specs.declared.Item.{Item}
 use Rattle.item.specs.declared.Step.{Step}
 use Rattle.item.specs.declared.Step.the-variants as step
@@ -34,3 +35,11 @@ handed-fits s at refusal i e =
 pub after-is : (s : List ℕ) (at refusal : ℕ) (t : Step) → readOf s at refusal ≡ t → onStep t nextOf (λ p. at) (λ n. at) ≡ afterOf s at refusal
 unfolding afterOf
 after-is s at refusal t e = sym (ap (λ (u : Step). onStep u nextOf (λ p. at) (λ n. at)) e)
+
+-- a refused reader answers its refusal, and stays
+pub refused-reads : (s : List ℕ) (at refusal : ℕ) → (refusal ≡ 0 → ⊥) → readOf s at refusal ≡ step.Refused refusal
+unfolding readOf
+refused-reads s at refusal h = simp (ne-eqb refusal 0 h)
+
+pub refused-after : (s : List ℕ) (at refusal : ℕ) → (refusal ≡ 0 → ⊥) → afterOf s at refusal ≡ at
+refused-after s at refusal h = sym (after-is s at refusal (step.Refused refusal) (refused-reads s at refusal h))

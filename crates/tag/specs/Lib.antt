@@ -1,2 +1,4 @@
 pub mod Find
 pub mod Calls
+pub mod Reading
+pub mod Claims
