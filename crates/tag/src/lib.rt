@@ -62,9 +62,9 @@ fn check(packet: &[u8]) -> u8
 pub fn open_reader(packet: &[u8]) -> Opened
     ensures { λ r. ⌜ openedNumber r ≡ openCall (now (packet .entry)) ⌝ }
 {
-    let n = check(packet);
-    if n != 0 {
-        return Opened::Refused(n);
+    let fault = check(packet);
+    if fault != 0 {
+        return Opened::Refused(fault);
     }
     Opened::At(0)
 }
