@@ -1,2 +1,4 @@
 -- What the proofs of several functions use.
 pub mod ContainerNames
+pub mod Refusals
+pub mod StepCases

@@ -1,0 +1,18 @@
+-- `walk::open_walk` meets its contract.
+use borrow.Author.Needs.{needs}
+use Rattle.walk.specs.Step.{opens}
+use Rattle.walk.proofs.open_walk.Statement.{statement}
+use Rattle.walk.proofs.open_walk.Tie as tie
+use Rattle.walk.proofs.open_walk.Reads as reads
+use Rattle.walk.proofs.open_walk.Lts as lts
+use Rattle.walk.proofs.whole.check.Reads as check-reads
+
+check-requires : tie.Need-check-requires
+check-requires c κs = search needs
+
+returns : tie.Need-returns
+unfolding opens
+returns c = simp (← c .check .ensures)
+
+pub open-walk-spec : {M : Type 1} → statement M
+open-walk-spec = tie.close (tie.spec check-requires returns)
