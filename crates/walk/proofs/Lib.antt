@@ -2,3 +2,5 @@
 pub mod ContainerNames
 pub mod Refusals
 pub mod StepCases
+pub mod PlainWalks
+pub mod Order
