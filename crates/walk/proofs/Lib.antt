@@ -4,3 +4,5 @@ pub mod Refusals
 pub mod StepCases
 pub mod PlainWalks
 pub mod Order
+pub mod HandedNumbers
+pub mod Proved

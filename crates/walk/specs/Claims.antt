@@ -1,4 +1,4 @@
--- What document 01 says of the two walks together, as a claim: the proof is in proofs/Proved.antt.
+-- What document 01 says of the two walks together, and that an answer tells what was handed out, as claims: the proofs are in proofs/Proved.antt.
 use mathlib.Core.Bool.{cond}
 use mathlib.Core.List.{List, [], _∷_, _++_}
 use mathlib.Core.Path.{_≡_}
@@ -9,7 +9,7 @@ use Rattle.walk.specs.declared.Handed.{Handed}
 use Rattle.walk.specs.declared.Handed.the-variants as handed
 use Rattle.walk.specs.declared.Walker.{Walker}
 use Rattle.walk.specs.Walk.{Tour, visit, ends, stops, refusal, walkOf}
-use Rattle.walk.specs.Step.{opens, walkStep}
+use Rattle.walk.specs.Step.{handedNumber, opens, walkStep}
 
 -- what n steps from w hand out
 unfoldable pub handsOut : ℕ → List ℕ → List ℕ → Walker → List Handed
@@ -29,3 +29,7 @@ due n t = cond (eqb (refusal t) 0) (take n (told n t)) (replicate n (handed.Refu
 -- document 01: from the call that opens it, the step walk hands out exactly the items of the recursive walk in order
 abbrev pub InOrder : Type 0
 InOrder = (s l : List ℕ) (n : ℕ) → handsOut n s l (opens s l) ≡ due n (walkOf s l)
+
+-- no second answer fits: document 01's number and values tell what was handed out
+abbrev pub OneHanded : Type 0
+OneHanded = (a b : Handed) → handedNumber a ≡ handedNumber b → a ≡ b
