@@ -3,12 +3,14 @@ use borrow.Author.Needs.{needs}
 use borrow.Author.Tests.{eqb-false}
 use native.Mathlib.Omega.{arith}
 use Prim.Native.Nat.{ℕ, _+_, _-_, _%_, _≤_, _<_}
-use mathlib.Core.Bool.{false, not, _&&_}
+use mathlib.Core.Bool.{Bool, false, not, _&&_}
+use mathlib.Core.List.{List}
 use mathlib.Core.Logic.{⊎-elim}
 use mathlib.Core.Path.{_≡_, refl, sym, ap, _∙_}
 use lib.Dec.{eqb}
 use lib.ListN.{length, length-replicate}
-use Rattle.item.specs.Run.{among, slots}
+use Rattle.item.specs.declared.Item.{Item}
+use Rattle.item.specs.Run.{runOf, firstOf, isBefore, among, slots}
 use Rattle.item.proofs.Steps.{item-fits}
 use Rattle.item.proofs.Runs.{item-begins, falls as falls-short}
 use Rattle.item.proofs.Seen.{seen-none}
@@ -65,6 +67,10 @@ abbrev walk-value-below : ℕ → In 2 walk-value-kinds.ps
 walk-value-below t =
     and 2 walk-value-kinds.ps (falls 2 walk-value-kinds.ps _<_ μ-walk-value t) walk-value.Pre
 
+-- whether the item's name has stood before, as the code tells it
+abbrev stood : List ℕ → ℕ → ℕ → Bool → Item → Bool
+stood s from end mark i = mark && isBefore (firstOf (i .name) (runOf s from end)) (i .from)
+
 walk-item-fault-of-requires : (t : ℕ) → walk-item-lts.Need-fault-of-requires (
   fault-of-reads.Asked,
   fault-of-reads.Learnt,
@@ -105,7 +111,9 @@ walk-item-returns-2 : (t : ℕ) → walk-item-lts.Need-returns-2 (
 ) (walk-item-at t) walk-item.Post
 walk-item-returns-2 t c =
     let k = c .before .before .before in
-    own _ _ _ _ _ _ _ (not-whole _ _ _ _ _ (k .before .before .fault-of .ensures) (k .before .if1 .left) (sym (k .is-container .ensures) ∙ c .before .before .if2 .taken) (c .if3 .taken)) (eqb-false 35 0 refl)
+    let a = k .before .before .before .before .before .args in
+    let b = stood (a .s .now) (a .from) (a .end) (a .mark) (a .i) in
+    own _ _ _ b _ _ _ (not-whole _ _ b _ _ (k .before .before .fault-of .ensures) (k .before .if1 .left) (sym (k .is-container .ensures) ∙ c .before .before .if2 .taken) (c .if3 .taken)) (eqb-false 35 0 refl)
 
 -- behind the test of 35, whichever way it came: no container that is not whole bytes
 whole-by : (t : ℕ) (c : walk-item-lts.Joined2 (
@@ -133,7 +141,9 @@ walk-item-returns-3 : (t : ℕ) → walk-item-lts.Need-returns-3 (
 ) (walk-item-at t) walk-item.Post
 walk-item-returns-3 t c =
     let k = c .before .before in
-    own _ _ _ _ _ _ _ (too-deep _ _ _ _ _ (k .before .before .fault-of .ensures) (k .before .if1 .left) (whole-by t (c .before)) (c .if4 .taken)) (eqb-false 32 0 refl)
+    let a = k .before .before .before .before .before .args in
+    let b = stood (a .s .now) (a .from) (a .end) (a .mark) (a .i) in
+    own _ _ _ b _ _ _ (too-deep _ _ b _ _ (k .before .before .fault-of .ensures) (k .before .if1 .left) (whole-by t (c .before)) (c .if4 .taken)) (eqb-false 32 0 refl)
 
 walk-item-walk-value-requires : (t : ℕ) → walk-item-lts.Need-walk-value-requires (
   fault-of-reads.Asked,
@@ -157,8 +167,10 @@ walk-item-returns-4 : (t : ℕ) → walk-item-lts.Need-returns-4 (
 ) (walk-item-at t) walk-item.Post
 walk-item-returns-4 t c =
     let k = c .before .before .before .before in
-    let z = no-fault _ _ _ _ _ (k .before .before .fault-of .ensures) (k .before .if1 .left) (whole-by t (c .before .before .before)) (c .before .before .if4 .left) in
-    contents _ _ _ _ _ _ z (sym (k .is-container .ensures) ∙ c .before .if5 .taken) (c .before .before .if4 .left) (c .walk-value .ensures)
+    let a = k .before .before .before .before .before .args in
+    let b = stood (a .s .now) (a .from) (a .end) (a .mark) (a .i) in
+    let z = no-fault _ _ b _ _ (k .before .before .fault-of .ensures) (k .before .if1 .left) (whole-by t (c .before .before .before)) (c .before .before .if4 .left) in
+    contents _ _ _ b _ _ z (sym (k .is-container .ensures) ∙ c .before .if5 .taken) (c .before .before .if4 .left) (c .walk-value .ensures)
 
 walk-item-returns-5 : (t : ℕ) → walk-item-lts.Need-returns-5 (
   fault-of-reads.Asked,
@@ -170,8 +182,10 @@ walk-item-returns-5 : (t : ℕ) → walk-item-lts.Need-returns-5 (
 ) (walk-item-at t) walk-item.Post
 walk-item-returns-5 t c =
     let k = c .before .before .before in
-    let z = no-fault _ _ _ _ _ (k .before .before .fault-of .ensures) (k .before .if1 .left) (whole-by t (c .before .before)) (c .before .if4 .left) in
-    no-contents _ _ _ _ _ z (sym (k .is-container .ensures) ∙ c .if5 .left) (c .before .if4 .left)
+    let a = k .before .before .before .before .before .args in
+    let b = stood (a .s .now) (a .from) (a .end) (a .mark) (a .i) in
+    let z = no-fault _ _ b _ _ (k .before .before .fault-of .ensures) (k .before .if1 .left) (whole-by t (c .before .before)) (c .before .if4 .left) in
+    no-contents _ _ _ b _ z (sym (k .is-container .ensures) ∙ c .if5 .left) (c .before .if4 .left)
 
 abbrev walk-packet-Inv-loop : walk-packet-lts.InvT-loop
 walk-packet-Inv-loop s names from end depth marks₀ at₀ marks at = (from ≤ at) × WalkSeen (deepest + 1 - depth) s (namesOf names) depth from end marks at
