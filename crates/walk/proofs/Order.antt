@@ -1,22 +1,22 @@
 -- The step walk hands out what is left of the whole walk: its items in order, then its end again and again.
 use Prim.Native.Nat.{ℕ, zero, suc, _+_, _-_, _≤_, _<_, min}
 use mathlib.Core.List.{List, [], _∷_}
-use mathlib.Core.Path.{_≡_, refl, sym, ap, ap₂, _∙_}
+use mathlib.Core.Path.{_≡_, refl, sym, ap, _∙_}
 use mathlib.Core.Bool.{Bool, true, false, cond}
 use native.Mathlib.Omega.{arith}
 use native.Mathlib.Numerals.{add-one}
 use native.Mathlib.Nat.{le-refl, le-of-suc-le-suc, not-suc-le-zero}
-use lib.ListN.{length, getD, set, take, replicate, length-set}
+use lib.ListN.{length, set, take, replicate, length-set}
 use lib.Seq.{getD-set-same, getD-set-other}
 use lib.Dec.{eqb, ltb}
-use borrow.Author.Tests.{eq-eqb, ne-eqb, eqb-true, eqb-false, ltb-true, ltb-false}
+use borrow.Author.Tests.{eqb-true, eqb-false, ltb-true, ltb-false}
 use Rattle.base.proofs.Logic.{either}
 use Rattle.item.specs.declared.Bytes.{Bytes}
 use Rattle.item.specs.declared.Item.{Item}
 use Rattle.item.specs.declared.Step.{Step}
 use Rattle.item.specs.declared.Step.the-variants as step
 use Rattle.item.specs.Item.{stepIn}
-use Rattle.item.specs.Run.{Run, item, padding, refused, nextOf, runOf, among}
+use Rattle.item.specs.Run.{Run, item, nextOf, runOf, among}
 use Rattle.item.proofs.Steps.{item-fits, refused-is}
 use Rattle.item.proofs.Runs.{item-begins, run-item, run-end, run-refused}
 use Rattle.walk.specs.declared.Handed.{Handed}
@@ -25,9 +25,9 @@ use Rattle.walk.specs.declared.Walker.{Walker}
 use Rattle.walk.specs.declared.Walked.{Walked}
 use Rattle.walk.specs.Names.{deepest, namesOf, namesFault}
 use Rattle.walk.specs.Walk.{Tour, visit, ends, stops, unless, andThen, tourAt, refusal, walkOf}
-use Rattle.walk.specs.Step.{opens, goesOn, endOf, stepFrom, walkStep}
+use Rattle.walk.specs.Step.{opens, goesOn, endOf, stepFrom}
 use Rattle.walk.specs.Claims.{handsOut, told, due}
-use Rattle.walk.proofs.StepCases.{step-item, step-end, step-up, step-refused, into, behind, behind-deepest, stays, steps-on}
+use Rattle.walk.proofs.StepCases.{step-item, step-end, step-up, into, behind, behind-deepest, stays, steps-on}
 use Rattle.walk.proofs.PlainWalks.{plainAt, contentsOf, plain-item, plain-end, plain-refused, plain, not-tested}
 
 -- andThen goes by either grouping

@@ -1,7 +1,7 @@
 -- A step of the nested walk, by what stands at its position, and where it goes on.
 use Prim.Native.Nat.{ℕ, zero, suc, _+_, _-_, _≤_, _<_, min}
 use mathlib.Core.List.{List}
-use mathlib.Core.Path.{_≡_, refl, sym, ap, _∙_}
+use mathlib.Core.Path.{_≡_, refl, sym}
 use mathlib.Core.Bool.{true, false}
 use native.Mathlib.Numerals.{sub-one}
 use native.Mathlib.Omega.{arith}
@@ -14,7 +14,6 @@ use Rattle.item.specs.Item.{stepIn}
 use Rattle.item.specs.Run.{nextOf, among}
 use Rattle.walk.specs.declared.Handed.the-variants as handed
 use Rattle.walk.specs.declared.Walker.{Walker}
-use Rattle.walk.specs.declared.Walked.{Walked}
 use Rattle.walk.specs.Names.{deepest, namesOf}
 use Rattle.walk.specs.Step.{goesOn, endOf, stepFrom, walkStep}
 

@@ -1,6 +1,6 @@
 -- What document 01 says of the two walks together, and that an answer tells what was handed out, as claims: the proofs are in proofs/Proved.antt.
 use mathlib.Core.Bool.{cond}
-use mathlib.Core.List.{List, [], _∷_, _++_}
+use mathlib.Core.List.{List, [], _∷_}
 use mathlib.Core.Path.{_≡_}
 use Prim.Native.Nat.{ℕ, zero, suc}
 use lib.Dec.{eqb}

@@ -8,7 +8,6 @@ use Rattle.base.specs.Answer.{Answer, granted, refused}
 use Rattle.item.specs.declared.Item.{Item}
 use Rattle.item.specs.Item.{stepIn, valuesOf}
 use Rattle.item.specs.Run.{nextOf, among, onStep}
-use Rattle.walk.specs.declared.Visit.{Visit}
 use Rattle.walk.specs.declared.Handed.{Handed}
 use Rattle.walk.specs.declared.Handed.the-variants as handed
 use Rattle.walk.specs.declared.Walker.{Walker}
