@@ -82,9 +82,9 @@ module _ (s cs : List ℕ) where
       let w = walkFault cs d (among (i .name) seen) i in
       let c = cond (among (i .name) cs) (inner i) (ends 0) in
       let u = tourBy inner cs d (i .name ∷ seen) r in
-      let h = sym (unless-refusal w (visit d i (andThen c u))) ∙ q in
-      let k = sym (then-refusal c u) ∙ or-right w (refusal (andThen c u)) h in
-      (or-left w (refusal (andThen c u)) h, or-left (refusal c) (refusal u) k, or-right (refusal c) (refusal u) k)
+      let h = sym (unless-refusal w _) ∙ q in
+      let k = sym (then-refusal c _) ∙ or-right w _ h in
+      (or-left w _ h, or-left (refusal c) (refusal u) k, or-right (refusal c) (refusal u) k)
 
   plain-by : (inner inner′ : Item → Tour) (d : ℕ) → ((i : Item) → refusal (inner i) ≡ 0 → (u : Tour) → andThen (inner i) u ≡ andThen (inner′ i) u)
       → (seen : List ℕ) (r : Run) → refusal (tourBy inner cs d seen r) ≡ 0 → tourBy inner cs d seen r ≡ plainBy inner′ cs d r

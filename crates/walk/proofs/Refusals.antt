@@ -68,8 +68,8 @@ by-item inner cs d seen i r =
     let w = walkFault cs d (among (i .name) seen) i in
     let c = cond (among (i .name) cs) (inner i) (ends 0) in
     let u = tourBy inner cs d (i .name ∷ seen) r in
-    unless-refusal w (visit d i (andThen c u))
-    ∙ ap (orElse w) (then-refusal c u ∙ ap (λ (n : ℕ). orElse n (refusal u)) (within-refusal (among (i .name) cs) (inner i)))
+    unless-refusal w _
+    ∙ ap (orElse w) (then-refusal c _ ∙ ap (λ (n : ℕ). orElse n (refusal u)) (within-refusal (among (i .name) cs) (inner i)))
     ∙ or-assoc w (cond (among (i .name) cs) (refusal (inner i)) 0) (refusal u)
 
 walk-by-item : (k : ℕ) (s cs : List ℕ) (d : ℕ) → ByItem (λ seen r. refusal (tourAt k s cs d seen r)) (itemRefusal k s cs d)

@@ -1,5 +1,6 @@
 -- `walk::names::fault` meets its contract.
 use borrow.Author.Needs.{needs}
+use native.Mathlib.Omega.{arith}
 use Rattle.walk.proofs.ContainerNames.{too-many, cut-short, well-formed}
 use Rattle.walk.proofs.names.fault.Statement.{statement}
 use Rattle.walk.proofs.names.fault.Tie as tie
@@ -10,13 +11,13 @@ mul-if1 : tie.Need-mul-if1
 mul-if1 c = search needs
 
 returns : tie.Need-returns
-returns c = too-many _ (c .if1 .taken)
+returns c = too-many _ (omega (arith, c .if1 .taken))
 
 returns-2 : tie.Need-returns-2
-returns-2 c = cut-short _ (c .before .if1 .left) (c .if2 .taken)
+returns-2 c = cut-short _ (omega (arith, c .before .if1 .left)) (λ z. omega (arith, z, c .if2 .taken))
 
 returns-3 : tie.Need-returns-3
-returns-3 c = well-formed _ (c .before .if1 .left) (c .if2 .left)
+returns-3 c = well-formed _ (omega (arith, c .before .if1 .left)) (omega (arith, c .if2 .left))
 
 pub fault-spec : {M : Type 1} → statement M
 fault-spec = tie.close (tie.spec mul-if1 returns returns-2 returns-3)

@@ -71,7 +71,7 @@ returns-2 c =
     let l = k .before .before .before .before in
     let a = l .before .before .before .before .args in
     sym (ap (λ (d : ℕ). stepFrom (now (a .s)) (namesOf (now (a .names))) (a .from) d (a .t5)) (sym (l .before .lesser .ensures)) ∙ l .loop .inv .1
-    ∙ step-end (now (a .s)) (namesOf (now (a .names))) (l .loop .at) (a .t5) (l .loop .d) _ _ (k .before .before .before .lesser2 .ensures) e (c .if1 .taken))
+    ∙ step-end (now (a .s)) (namesOf (now (a .names))) (l .loop .at) (a .t5) (l .loop .d) _ _ (k .before .before .before .lesser2 .ensures) e (omega (arith, c .if1 .taken)))
 
 sub-d : tie.Need-sub-d Inv-loop μ-loop
 sub-d c = search needs

@@ -113,7 +113,7 @@ walk-item-returns-2 t c =
     let k = c .before .before .before in
     let a = k .before .before .before .before .before .args in
     let b = stood (a .s .now) (a .from) (a .end) (a .mark) (a .i) in
-    own _ _ _ b _ _ _ (not-whole _ _ b _ _ (k .before .before .fault-of .ensures) (k .before .if1 .left) (sym (k .is-container .ensures) ∙ c .before .before .if2 .taken) (c .if3 .taken)) (eqb-false 35 0 refl)
+    own _ _ _ b _ _ _ (not-whole _ _ b _ _ (k .before .before .fault-of .ensures) (k .before .if1 .left) (sym (k .is-container .ensures) ∙ c .before .before .if2 .taken) (λ z. omega (arith, z, c .if3 .taken))) (eqb-false 35 0 refl)
 
 -- behind the test of 35, whichever way it came: no container that is not whole bytes
 whole-by : (t : ℕ) (c : walk-item-lts.Joined2 (
@@ -129,7 +129,7 @@ whole-by : (t : ℕ) (c : walk-item-lts.Joined2 (
 whole-by t c =
     let i = c .before .before .before .before .before .before .args .i in
     let q = sym (c .before .is-container .ensures) in
-    ⊎-elim (λ x. container-whole _ i (q ∙ x .0 .taken) (x .2 .left)) (λ x. no-container _ i (q ∙ x .left)) (c .if2 .came)
+    ⊎-elim (λ x. container-whole _ i (q ∙ x .0 .taken) (omega (arith, x .2 .left))) (λ x. no-container _ i (q ∙ x .left)) (c .if2 .came)
 
 walk-item-returns-3 : (t : ℕ) → walk-item-lts.Need-returns-3 (
   fault-of-reads.Asked,
@@ -143,7 +143,7 @@ walk-item-returns-3 t c =
     let k = c .before .before in
     let a = k .before .before .before .before .before .args in
     let b = stood (a .s .now) (a .from) (a .end) (a .mark) (a .i) in
-    own _ _ _ b _ _ _ (too-deep _ _ b _ _ (k .before .before .fault-of .ensures) (k .before .if1 .left) (whole-by t (c .before)) (c .if4 .taken)) (eqb-false 32 0 refl)
+    own _ _ _ b _ _ _ (too-deep _ _ b _ _ (k .before .before .fault-of .ensures) (k .before .if1 .left) (whole-by t (c .before)) (omega (arith, c .if4 .taken))) (eqb-false 32 0 refl)
 
 walk-item-walk-value-requires : (t : ℕ) → walk-item-lts.Need-walk-value-requires (
   fault-of-reads.Asked,
@@ -169,8 +169,8 @@ walk-item-returns-4 t c =
     let k = c .before .before .before .before in
     let a = k .before .before .before .before .before .args in
     let b = stood (a .s .now) (a .from) (a .end) (a .mark) (a .i) in
-    let z = no-fault _ _ b _ _ (k .before .before .fault-of .ensures) (k .before .if1 .left) (whole-by t (c .before .before .before)) (c .before .before .if4 .left) in
-    contents _ _ _ b _ _ z (sym (k .is-container .ensures) ∙ c .before .if5 .taken) (c .before .before .if4 .left) (c .walk-value .ensures)
+    let z = no-fault _ (a .depth) b _ _ (k .before .before .fault-of .ensures) (k .before .if1 .left) (whole-by t (c .before .before .before)) (omega (arith, c .before .before .if4 .left)) in
+    contents _ _ _ b _ _ z (sym (k .is-container .ensures) ∙ c .before .if5 .taken) (omega (arith, c .before .before .if4 .left)) (c .walk-value .ensures)
 
 walk-item-returns-5 : (t : ℕ) → walk-item-lts.Need-returns-5 (
   fault-of-reads.Asked,
@@ -184,8 +184,8 @@ walk-item-returns-5 t c =
     let k = c .before .before .before in
     let a = k .before .before .before .before .before .args in
     let b = stood (a .s .now) (a .from) (a .end) (a .mark) (a .i) in
-    let z = no-fault _ _ b _ _ (k .before .before .fault-of .ensures) (k .before .if1 .left) (whole-by t (c .before .before)) (c .before .if4 .left) in
-    no-contents _ _ _ b _ z (sym (k .is-container .ensures) ∙ c .if5 .left) (c .before .if4 .left)
+    let z = no-fault _ (a .depth) b _ _ (k .before .before .fault-of .ensures) (k .before .if1 .left) (whole-by t (c .before .before)) (omega (arith, c .before .if4 .left)) in
+    no-contents _ _ _ b _ z (sym (k .is-container .ensures) ∙ c .if5 .left) (omega (arith, c .before .if4 .left))
 
 abbrev walk-packet-Inv-loop : walk-packet-lts.InvT-loop
 walk-packet-Inv-loop s names from end depth marks₀ at₀ marks at = (from ≤ at) × WalkSeen (deepest + 1 - depth) s (namesOf names) depth from end marks at
