@@ -1,0 +1,91 @@
+// Writing a TAG item into the first bytes of a lent buffer.
+use base::Written;
+use item::Bits;
+use item::HEAD;
+ghost use mathlib.Core.Path.{_≡_};
+ghost use mathlib.Core.List.{_++_};
+ghost use Prim.Native.Nat.{_+_, _^_, _≤_, _<_};
+ghost use lib.ListN.{length};
+ghost use Rattle.base.specs.Answer.{outcome};
+ghost use Rattle.base.specs.Bytes.{splice, bytesOf};
+ghost use Rattle.base.specs.Written.{numberOf};
+ghost use Rattle.item.specs.Item.{head};
+ghost use Rattle.write.specs.Write.{unusedOf, trimmedBy, writeFault, writeCall};
+
+// The number with which writing is refused, or 0.
+fn fault(name: u32, bits: Bits, len: usize, room: usize) -> u8
+    ensures { λ r. ⌜ r ≡ writeFault name (bits .0) len room ⌝ }
+{
+    let n = item::bytes_of(bits);
+    if len != n.0 {
+        return 43;
+    }
+    if item::bad_ptr(name, bits) {
+        return 33;
+    }
+    if room < HEAD + n.0 { 1 } else { 0 }
+}
+
+// The bits of the last byte that a value of so many bits leaves unused.
+fn unused(bits: Bits) -> usize
+    ensures { λ r. ⌜ (r ≡ unusedOf (bits .0)) × (r < 8) ⌝ }
+{
+    let n = item::bytes_of(bits);
+    8 * n.0 - bits.0 as usize
+}
+
+// 2 to the power of u.
+fn power(u: usize) -> u8
+    requires { ⌜ u < 8 ⌝ }
+    ensures { λ r. ⌜ r ≡ 2 ^ u ⌝ }
+{
+    match u {
+        0 => 1,
+        1 => 2,
+        2 => 4,
+        3 => 8,
+        4 => 16,
+        5 => 32,
+        6 => 64,
+        _ => 128,
+    }
+}
+
+// The bytes before a value.
+fn put_head(out: &mut [u8], name: u32, bits: u32)
+    requires { ⌜ head ≤ length (now out) ⌝ }
+    ensures { λ _. ⌜ now (out .exit) ≡ splice (now (out .entry)) 0 (bytesOf 4 name ++ bytesOf 4 bits) ⌝ }
+{
+    let n = base::bytes4(name);
+    let b = base::bytes4(bits);
+    base::put(out, 0, &n);
+    base::put(out, 4, &b);
+}
+
+// The value behind them, its last byte brought down to a multiple of p.
+fn put_value(out: &mut [u8], value: &[u8], p: u8)
+    requires { ⌜ (head + length (now value) ≤ length (now out)) × (0 < p) ⌝ }
+    ensures { λ _. ⌜ now (out .exit) ≡ splice (now (out .entry)) head (trimmedBy p (now (value .entry))) ⌝ }
+{
+    base::put(out, HEAD, value);
+    let n = value.len();
+    if 0 < n {
+        let last = HEAD + n - 1;
+        let b = out[last];
+        out[last] = b - b % p;
+    }
+}
+
+// Writes an item: the unused bits of its last byte are written as zeros.
+pub fn write(name: u32, bits: Bits, value: &[u8], out: &mut [u8]) -> Written
+    ensures { λ r. ⌜ outcome (numberOf r) (now (out .exit)) ≡ writeCall name (bits .0) (now (value .entry)) (now (out .entry)) ⌝ }
+{
+    let n = fault(name, bits, value.len(), out.len());
+    if n != 0 {
+        return Written::Refused(n);
+    }
+    let p = power(unused(bits));
+    put_head(out, name, bits.0);
+    put_value(out, value, p);
+    Written::Done
+}
