@@ -39,16 +39,7 @@ fn power(u: usize) -> u8
     requires { ⌜ u < 8 ⌝ }
     ensures { λ r. ⌜ r ≡ 2 ^ u ⌝ }
 {
-    match u {
-        0 => 1,
-        1 => 2,
-        2 => 4,
-        3 => 8,
-        4 => 16,
-        5 => 32,
-        6 => 64,
-        _ => 128,
-    }
+    1u8 << u
 }
 
 // The bytes before a value.

@@ -1,0 +1,42 @@
+-- `put_head` meets its contract: two puts with room, one behind the other. Assumes nothing.
+use borrow.Author.Needs.{needs}
+use Rattle.write.proofs.Puts.{head-put}
+use Rattle.write.proofs.put_head.Statement.{statement}
+use Rattle.write.proofs.put_head.Tie as tie
+
+bytes4-requires : tie.Need-bytes4-requires
+bytes4-requires c κs = search needs
+
+bytes4-requires-2 : tie.Need-bytes4-requires-2
+bytes4-requires-2 c κs = search needs
+
+slice-aggregate-put : tie.Need-slice-aggregate-put
+slice-aggregate-put c = search needs
+
+put-requires : tie.Need-put-requires
+put-requires c κs = search needs
+
+slice-aggregate-put-2 : tie.Need-slice-aggregate-put-2
+slice-aggregate-put-2 c = search needs
+
+put-requires-2 : tie.Need-put-requires-2
+put-requires-2 c κs = search needs
+
+same-length : tie.Need-same-length
+same-length c = search needs
+
+returns : tie.Need-returns
+returns c = head-put _ _ _ _ _ _ _ _ _ (c .before .before .before .before .before .before .before .before .before .before .before .before .before .pre) (c .before .before .before .before .before .before .before .before .before .before .before .bytes4 .ensures) (c .before .before .before .before .before .before .before .before .before .before .bytes42 .ensures) (c .before .before .before .before .before .before .before .put .ensures) (c .before .before .put2 .ensures)
+
+pub put-head-spec : {M : Type 1} → statement M
+put-head-spec =
+    tie.close
+    (tie.spec
+    bytes4-requires
+    bytes4-requires-2
+    slice-aggregate-put
+    put-requires
+    slice-aggregate-put-2
+    put-requires-2
+    same-length
+    returns)

@@ -1,0 +1,53 @@
+-- `write` meets its contract: where nothing is refused there is room for the head and the value. Assumes nothing.
+use mathlib.Core.Path.{sym, _∙_}
+use native.Mathlib.Omega.{arith}
+use lib.Pow.{pow-pos}
+use borrow.Author.Needs.{needs}
+use Rattle.base.specs.Written.{numberOf}
+use Rattle.base.proofs.Answers.{writes, leaves}
+use Rattle.write.specs.Write.{writeCall}
+use Rattle.write.proofs.Puts.{item-put}
+use Rattle.write.proofs.Refusals.{taken}
+use Rattle.write.proofs.write.Statement.{statement}
+use Rattle.write.proofs.write.Tie as tie
+
+fault-requires : tie.Need-fault-requires
+fault-requires c κs = search needs
+
+returns : tie.Need-returns
+unfolding numberOf writeCall
+returns c = leaves _ _ _ _ _ (omega arith) (c .before .fault .ensures)
+
+unused-requires : tie.Need-unused-requires
+unused-requires c κs = search needs
+
+power-requires : tie.Need-power-requires
+power-requires c κs = search needs
+
+put-head-requires : tie.Need-put-head-requires
+put-head-requires c κs = omega (arith, taken _ _ _ _ (sym (c .before .before .before .before .fault .ensures) ∙ c .before .before .before .if1 .left) .1)
+
+put-value-requires : tie.Need-put-value-requires
+put-value-requires c κs =
+    let fits = taken _ _ _ _ (sym (c .before .before .before .before .before .before .before .before .fault .ensures) ∙ c .before .before .before .before .before .before .before .if1 .left) in
+    (omega (arith, fits .0, fits .1), rw (c .before .before .before .before .before .power .ensures) (pow-pos _))
+
+same-length : tie.Need-same-length
+same-length c = search needs
+
+returns-2 : tie.Need-returns-2
+unfolding numberOf writeCall
+returns-2 c = writes _ _ _ _ _ (sym (sym (c .before .before .before .before .before .before .before .before .before .before .before .fault .ensures) ∙ c .before .before .before .before .before .before .before .before .before .before .if1 .left)) (item-put _ _ _ _ _ _ _ _ (c .before .before .before .before .before .before .put-head .ensures) (c .before .before .put-value .ensures) (c .before .before .before .before .before .before .before .before .power .ensures) (c .before .before .before .before .before .before .before .before .before .unused .ensures .0))
+
+pub write-spec : {M : Type 1} → statement M
+write-spec =
+    tie.close
+    (tie.spec
+    fault-requires
+    returns
+    unused-requires
+    power-requires
+    put-head-requires
+    put-value-requires
+    same-length
+    returns-2)
