@@ -1,10 +1,9 @@
 -- What writing is refused for, by what the tests say; and what is known where it is not refused. Assumes nothing.
 use mathlib.Core.Path.{_≡_, refl, sym}
 use mathlib.Core.Bool.{Bool, true, false, not}
-use mathlib.Core.List.{[], _∷_}
 use Prim.Native.Nat.{ℕ, _+_, _≤_, _<_}
 use native.Mathlib.Omega.{arith}
-use lib.Dec.{eqb, ltb}
+use lib.Dec.{eqb}
 use borrow.Author.Tests.{eq-eqb, ne-eqb, lt-ltb, le-ltb, eqb-true, ltb-false}
 use Rattle.base.proofs.Firsts.{due, skip, none-due, clear, clear-rest}
 use Rattle.item.specs.Item.{head, bytesFor}

@@ -1,1 +1,3 @@
 pub mod Write
+pub mod Packet
+pub mod Claims

@@ -1,0 +1,53 @@
+-- The theorems of writing, W1 to W3, as they can be held against document 01. Each is proved in proofs/Proved.antt.
+use mathlib.Core.Path.{_≡_}
+use mathlib.Core.Bool.{false}
+use mathlib.Core.List.{List, [], _∷_, _++_}
+use Prim.Native.Nat.{ℕ, _+_, _-_, _%_, _^_, _≤_, _<_}
+use lib.ListN.{length, getD, take, drop}
+use Rattle.item.specs.Item.{head, bytesFor, stepIn}
+use Rattle.item.specs.Run.{among, runOf, firstOf, faultsOf}
+use Rattle.item.specs.declared.Item.{Item}
+use Rattle.item.specs.declared.Step.the-variants as step
+use Rattle.item.specs.declared.Found.the-variants as found
+use Rattle.write.specs.Write.{unusedOf, trimmed, itemBytes}
+use Rattle.write.specs.Packet.{Entry, packetOf, namesOf, AllFit, Apart}
+
+-- W1: what stands at `at` in s is an item of that name, those bits and that value
+pub record ReadAs (s : List ℕ) (at end name bits : ℕ) (value : List ℕ) : Type 0 where
+  pub item : stepIn s at end
+      ≡ step.Item (record { name = name; bits = record { 0 = bits }; from = at + head; len = record { 0 = bytesFor bits } })
+  pub bytes : take (bytesFor bits) (drop (at + head) s) ≡ value
+
+-- an item written anywhere reads as itself
+abbrev pub ReadsBack : Type 0
+ReadsBack = (pre rest : List ℕ) (end name bits : ℕ) (v : List ℕ) → name < 2 ^ 32 → bits < 2 ^ 32 → length v ≡ bytesFor bits
+    → length pre + (head + bytesFor bits) ≤ end
+    → ReadAs (pre ++ (itemBytes name bits v ++ rest)) (length pre) end name bits (trimmed bits v)
+
+-- W2: a packet of written items has none at fault,
+abbrev pub Opens : Type 0
+Opens = (es : List Entry) (pad : List ℕ) → AllFit es → Apart es → length pad ≤ 7
+    → faultsOf [] (runOf (packetOf es pad) 0 (length (packetOf es pad))) ≡ 0
+
+-- and the first item that was written under a name is found under it, with its bits and its value
+pub record FoundAs (p : List ℕ) (e : Entry) : Type 0 where
+  pub it : Item
+  pub first : firstOf (e .name) (runOf p 0 (length p)) ≡ found.At it
+  pub bits : it .bits .0 ≡ e .bits
+  pub value : take (it .len .0) (drop (it .from) p) ≡ trimmed (e .bits) (e .value)
+
+abbrev pub Finds : Type 0
+Finds = (before after : List Entry) (e : Entry) (pad : List ℕ) → AllFit (before ++ (e ∷ after)) → length pad ≤ 7
+    → among (e .name) (namesOf before) ≡ false → FoundAs (packetOf (before ++ (e ∷ after)) pad) e
+
+-- W3: "Unused low bits of the last byte: the sender writes zeros": it is a multiple of their power of two,
+abbrev pub UnusedZero : Type 0
+UnusedZero = (bits : ℕ) (v : List ℕ) → getD (trimmed bits v) (length (trimmed bits v) - 1) 0 % 2 ^ unusedOf bits ≡ 0
+
+-- to write zeros again changes nothing,
+abbrev pub TrimmedOnce : Type 0
+TrimmedOnce = (bits : ℕ) (v : List ℕ) → trimmed bits (trimmed bits v) ≡ trimmed bits v
+
+-- and a value of whole bytes is written as it is
+abbrev pub WholeKept : Type 0
+WholeKept = (bits : ℕ) (v : List ℕ) → bits % 8 ≡ 0 → trimmed bits v ≡ v
