@@ -1,5 +1,5 @@
 -- A packet of written items is the run of those items. Assumes nothing.
-use mathlib.Core.Path.{_≡_, refl, sym, ap, _∙_}
+use mathlib.Core.Path.{_≡_, refl, sym, ap, subst, _∙_}
 use mathlib.Core.Bool.{true, false}
 use mathlib.Core.List.{List, [], _∷_, _++_, append-assoc}
 use Prim.Native.Nat.{ℕ, _+_, _-_, _≤_}
@@ -66,7 +66,7 @@ unseen-next : (seen : List ℕ) (e : Entry) (es : List Entry) → Apart (e ∷ e
 unfolding among namesOf
 unseen-next seen e es apart h m d q =
     either (eqb (e .name) m)
-    (λ t. let same : e .name ≡ m = eqb-true (e .name) m t in clash q (rw same at (apart .0 (λ z. d (sym same ∙ z)))))
+    (λ t. let same : e .name ≡ m = eqb-true (e .name) m t in clash q (subst (λ x. among x (namesOf es) ≡ false) same (apart .0 (λ z. d (sym same ∙ z)))))
     (λ t. simp t (h m d (simp (t, q))))
 
 no-fault : (seen : List ℕ) (at : ℕ) (e : Entry) (es : List Entry) → Fits e → Unseen seen (e ∷ es) → faultOf (among (e .name) seen) (itemOf at e) ≡ 0

@@ -25,10 +25,10 @@ unfolding bytesFor ceil
 add-if3 c = omega arith
 
 returns-3 : tie.Need-returns-3
-returns-3 c = no-room _ _ _ _ _ (c .before .before .before .before .before .before .bytes-of .ensures) (c .before .before .before .before .if1 .left) (told (c .before .before .before .bad-ptr .ensures) (c .before .before .if2 .left)) (c .if3 .taken)
+returns-3 c = no-room _ _ _ _ _ (c .before .before .before .before .before .before .bytes-of .ensures) (c .before .before .before .before .if1 .left) (told (c .before .before .before .bad-ptr .ensures) (c .before .before .if2 .left)) (omega arith)
 
 returns-4 : tie.Need-returns-4
-returns-4 c = all-right _ _ _ _ _ (c .before .before .before .before .before .before .bytes-of .ensures) (c .before .before .before .before .if1 .left) (told (c .before .before .before .bad-ptr .ensures) (c .before .before .if2 .left)) (c .if3 .left)
+returns-4 c = all-right _ _ _ _ _ (c .before .before .before .before .before .before .bytes-of .ensures) (c .before .before .before .before .if1 .left) (told (c .before .before .before .bad-ptr .ensures) (c .before .before .if2 .left)) (omega arith)
 
 pub fault-spec : {M : Type 1} → statement M
 fault-spec =

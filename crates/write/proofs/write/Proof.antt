@@ -30,7 +30,7 @@ put-head-requires c κs = omega (arith, taken _ _ _ _ (sym (c .before .before .b
 put-value-requires : tie.Need-put-value-requires
 put-value-requires c κs =
     let fits = taken _ _ _ _ (sym (c .before .before .before .before .before .before .before .before .fault .ensures) ∙ c .before .before .before .before .before .before .before .if1 .left) in
-    (omega (arith, fits .0, fits .1), rw (c .before .before .before .before .before .power .ensures) (pow-pos _))
+    (omega (arith, fits .0, fits .1), omega (arith, pow-pos (c .before .before .before .before .before .before .unused .result)))
 
 same-length : tie.Need-same-length
 same-length c = search needs
