@@ -1,0 +1,50 @@
+-- `payload` meets its contract: the part lent out has the bytes from 10 on, all but the last two. Assumes nothing.
+use mathlib.Core.Path.{_≡_, ap}
+use Prim.Native.Nat.{ℕ, _-_}
+use native.Mathlib.Omega.{arith}
+use borrow.Author.Needs.{needs}
+use lib.ListN.{length, take, drop}
+use Rattle.base.specs.Bounds.{least-l}
+use Rattle.af.specs.Packet.{headerBytes, crcBytes, payloadOf}
+use Rattle.af.proofs.payload.Statement.{statement}
+use Rattle.af.proofs.payload.Tie as tie
+
+slice-aggregate-result : tie.Need-slice-aggregate-result
+slice-aggregate-result c = search needs
+
+returns : tie.Need-returns
+unfolding payloadOf
+returns c =
+    let none : length (c .before .before .args .packet .now) - least-l ≡ 0 = omega arith in
+    rw none
+
+sub-end : tie.Need-sub-end
+sub-end c = search needs
+
+sub-result : tie.Need-sub-result
+sub-result c = search needs
+
+part-result-start : tie.Need-part-result-start
+part-result-start c = search needs
+
+part-result-end : tie.Need-part-result-end
+part-result-end c = search needs
+
+returns-2 : tie.Need-returns-2
+unfolding payloadOf
+returns-2 c =
+    let s = c .before .before .args .packet .now in
+    let all : length s - crcBytes - headerBytes ≡ length s - least-l = omega arith in
+    ap (λ (n : ℕ). take n (drop headerBytes s)) all
+
+pub payload-spec : {M : Type 1} → statement M
+payload-spec =
+    tie.close
+    (tie.spec
+    slice-aggregate-result
+    returns
+    sub-end
+    sub-result
+    part-result-start
+    part-result-end
+    returns-2)

@@ -1,0 +1,3 @@
+pub mod Packet
+pub mod Calls
+pub mod Claims
