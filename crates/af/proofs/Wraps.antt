@@ -2,7 +2,7 @@
 use mathlib.Core.Path.{_≡_, refl, ap, _∙_}
 use mathlib.Core.Bool.{Bool}
 use mathlib.Core.List.{List, [], _∷_, _++_}
-use Prim.Native.Nat.{ℕ, _+_, _%_, _≤_, _<_}
+use Prim.Native.Nat.{ℕ, _+_, _≤_, _<_}
 use native.Mathlib.Nat.{mod-eq-of-lt}
 use native.Mathlib.Omega.{arith}
 use borrow.Author.Tests.{lt-ltb, le-ltb}
@@ -15,7 +15,6 @@ use Rattle.base.specs.Written.{putFault, putOf}
 use Rattle.base.proofs.Answers.{writes, leaves}
 use Rattle.base.proofs.Firsts.{due, skip, none-due}
 use Rattle.base.proofs.Logic.{either}
-use Rattle.base.proofs.Numbers.{length-bytes}
 use Rattle.base.proofs.Splice.{splice-length, splice-next, splice-start}
 use Rattle.af.specs.Packet.{sync, packetType, headerBytes, crcBytes, most-payload, arWith, headerOf, crcFor, closed, packetOf}
 use Rattle.af.specs.Calls.{wrapFault, wrapCall}

@@ -1,6 +1,6 @@
 -- The AF packet (clause 6): "AF", LEN 4 bytes, SEQ 2, AR 1, PT 1, the payload, CRC 2.
 use mathlib.Core.Bool.{Bool, cond}
-use mathlib.Core.List.{List, [], _∷_, _++_}
+use mathlib.Core.List.{List, _++_}
 use Prim.Native.Nat.{ℕ, _+_, _-_, _*_, _/_, _%_}
 use lib.Dec.{eqb}
 use lib.ListN.{length, take, drop}
@@ -75,7 +75,7 @@ crcOf s = numberAt crcBytes s (length s - crcBytes)
 
 -- ---- how a packet is written
 
--- one bit
+-- clause 6.1, AR: one bit, as a number
 abbrev pub bit : Bool → ℕ
 bit b = cond b 1 0
 
@@ -91,7 +91,7 @@ headerOf seq cf len = bytesOf 2 sync ++ bytesOf 4 len ++ bytesOf 2 seq ++ bytesO
 unfoldable pub crcFor : Bool → List ℕ → ℕ
 crcFor cf covered = cond cf (wordOf covered) 0
 
--- header and payload with the CRC behind them
+-- clause 6.1: header and payload with the CRC behind them
 unfoldable pub closed : Bool → List ℕ → List ℕ
 closed cf covered = covered ++ bytesOf crcBytes (crcFor cf covered)
 

@@ -1,0 +1,55 @@
+-- `wrap` meets its contract: each return is the law for its number. Assumes nothing.
+use native.Mathlib.Omega.{arith}
+use borrow.Author.Needs.{needs}
+use Rattle.base.specs.Written.{numberOf}
+use Rattle.af.proofs.wrapping.wrap.Statement.{statement}
+use Rattle.af.proofs.Wraps as cases
+use Rattle.af.proofs.wrapping.wrap.Tie as tie
+
+returns : tie.Need-returns
+unfolding numberOf
+returns c =
+    let a = c .before .before .before .args in
+    cases.wrap-22 (a .seq) (a .cf) (a .payload .now) (a .out .now) (c .if1 .taken)
+
+add-if2 : tie.Need-add-if2
+add-if2 c = search needs
+
+returns-2 : tie.Need-returns-2
+unfolding numberOf
+returns-2 c =
+    let a = c .before .before .before .before .args in
+    cases.wrap-1 (a .seq) (a .cf) (a .payload .now) (a .out .now) (c .before .if1 .left) (c .if2 .taken)
+
+put-front-requires : tie.Need-put-front-requires
+put-front-requires c κs = (c .before .before .if1 .left, omega arith)
+
+add-put-crc : tie.Need-add-put-crc
+add-put-crc c = search needs
+
+put-crc-requires : tie.Need-put-crc-requires
+put-crc-requires c κs = search needs
+
+same-length : tie.Need-same-length
+same-length c = search needs
+
+returns-3 : tie.Need-returns-3
+unfolding numberOf
+returns-3 c =
+    let d = c .before .before .before .before .before .before .before .before in
+    let a = d .before .before .before .before .args in
+    let written = cases.packed (a .seq) (a .cf) (a .payload .now) (a .out .now) _ _ (c .before .before .before .before .before .before .put-front .ensures) (c .before .before .put-crc .ensures) in
+    cases.wrap-done (a .seq) (a .cf) (a .payload .now) (a .out .now) (d .before .if1 .left) _ (d .if2 .left) written
+
+pub wrap-spec : {M : Type 1} → statement M
+wrap-spec =
+    tie.close
+    (tie.spec
+    returns
+    add-if2
+    returns-2
+    put-front-requires
+    add-put-crc
+    put-crc-requires
+    same-length
+    returns-3)
