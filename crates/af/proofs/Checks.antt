@@ -76,15 +76,16 @@ module _ (s : List ℕ) where
   pub length-from : badLength s ≡ false → (length s ≡ lenOf s + least-l) × (length s ≤ most-l)
   unfolding badLength
   length-from e =
-      (same-from (or-left (not (eqb (length s) (lenOf s + least-l))) _ e), ltb-false most-l (length s) (or-right (not (eqb (length s) (lenOf s + least-l))) _ e))
-
-  pub fit-crc : crcOf s ≡ crcFor (cfOf s) (coveredOf s) → badCrc s ≡ false
-  unfolding badCrc
-  fit-crc e = same e
+      let other-length : Bool = not (eqb (length s) (lenOf s + least-l)) in
+      (same-from (or-left other-length _ e), ltb-false most-l (length s) (or-right other-length _ e))
 
   pub crc-from : badCrc s ≡ false → crcOf s ≡ crcFor (cfOf s) (coveredOf s)
   unfolding badCrc
   crc-from e = same-from e
+
+  pub fit-crc : crcOf s ≡ crcFor (cfOf s) (coveredOf s) → badCrc s ≡ false
+  unfolding badCrc
+  fit-crc e = same e
 
 -- ---- a packet that passes
 
