@@ -1,12 +1,16 @@
 -- Where a search ends, by what the checks and the two searches say. Assumes nothing.
 use Prim.Native.Nat.{ℕ}
-use mathlib.Core.List.{List}
-use mathlib.Core.Path.{_≡_, sym, _∙_}
+use mathlib.Core.List.{List, [], _∷_}
+use mathlib.Core.Path.{_≡_, refl, sym, ap, _∙_}
 use borrow.Author.Tests.{eq-eqb, ne-eqb}
+use Rattle.base.specs.Answer.{granted}
+use Rattle.item.specs.declared.Item.{Item}
 use Rattle.item.specs.declared.Found.{Found}
+use Rattle.item.specs.declared.Found.the-variants as found
 use Rattle.item.specs.Run.{firstOf}
 use Rattle.tag.specs.declared.Located.the-variants as located
-use Rattle.tag.specs.Find.{wholeRun, checkOf, inPacket, inStanding, locateOf}
+use Rattle.tag.specs.Find.{wholeRun, checkOf, inPacket, inStanding, locateOf, valueOf, shownBy}
+use Rattle.tag.specs.Calls.{searchAnswer, searchCall}
 
 module _ (s t : List ℕ) (name : ℕ) where
   -- the packet is refused,
@@ -25,3 +29,11 @@ module _ (s t : List ℕ) (name : ℕ) where
       → firstOf name (wholeRun t) ≡ g → locateOf s t name ≡ inPacket f (inStanding g)
   unfolding locateOf
   is-located n m f g p z q y a b = simp (eq-eqb (checkOf s) 0 (sym p ∙ z), eq-eqb (checkOf t) 0 (sym q ∙ y), a, b)
+
+  -- so a search that finds the name in the packet answers its bits, and shows its value
+  pub found-here : (i : Item) → checkOf s ≡ 0 → checkOf t ≡ 0 → firstOf name (wholeRun s) ≡ found.At i
+      → (searchCall s t name ≡ granted (i .bits .0 ∷ [])) × (shownBy s t (locateOf s t name) ≡ valueOf s i)
+  unfolding searchCall searchAnswer
+  found-here i z y a =
+      let at = is-located 0 0 (found.At i) (firstOf name (wholeRun t)) (sym z) refl (sym y) refl a refl in
+      (ap searchAnswer at, ap (shownBy s t) at)

@@ -5,10 +5,11 @@ use mathlib.Core.List.{List, [], _∷_, _++_}
 use Prim.Native.Nat.{ℕ, _+_, _-_, _%_, _^_, _≤_, _<_}
 use lib.ListN.{length, getD, take, drop}
 use Rattle.item.specs.Item.{head, bytesFor, stepIn}
-use Rattle.item.specs.Run.{among, runOf, firstOf, faultsOf}
-use Rattle.item.specs.declared.Item.{Item}
+use Rattle.item.specs.Run.{among}
 use Rattle.item.specs.declared.Step.the-variants as step
-use Rattle.item.specs.declared.Found.the-variants as found
+use Rattle.base.specs.Answer.{granted}
+use Rattle.tag.specs.Find.{checkOf, locateOf, shownBy}
+use Rattle.tag.specs.Calls.{openCall, searchCall}
 use Rattle.write.specs.Write.{unusedOf, trimmed, itemBytes}
 use Rattle.write.specs.Packet.{Entry, packetOf, namesOf, AllFit, Apart}
 
@@ -24,21 +25,20 @@ ReadsBack = (pre rest : List ℕ) (end name bits : ℕ) (v : List ℕ) → name 
     → length pre + (head + bytesFor bits) ≤ end
     → ReadAs (pre ++ (itemBytes name bits v ++ rest)) (length pre) end name bits (trimmed bits v)
 
--- W2: a packet of written items has none at fault,
+-- W2: a packet of written items opens,
 abbrev pub Opens : Type 0
-Opens = (es : List Entry) (pad : List ℕ) → AllFit es → Apart es → length pad ≤ 7
-    → faultsOf [] (runOf (packetOf es pad) 0 (length (packetOf es pad))) ≡ 0
+Opens = (es : List Entry) (pad : List ℕ) → AllFit es → Apart es → length pad ≤ 7 → openCall (packetOf es pad) ≡ granted (0 ∷ [])
 
--- and the first item that was written under a name is found under it, with its bits and its value
-pub record FoundAs (p : List ℕ) (e : Entry) : Type 0 where
-  pub it : Item
-  pub first : firstOf (e .name) (runOf p 0 (length p)) ≡ found.At it
-  pub bits : it .bits .0 ≡ e .bits
-  pub value : take (it .len .0) (drop (it .from) p) ≡ trimmed (e .bits) (e .value)
+-- and the first item that was written under a name is found under it: the search answers its bits, and its value is shown
+pub record FoundAs (p standing : List ℕ) (e : Entry) : Type 0 where
+  pub bits : searchCall p standing (e .name) ≡ granted (e .bits ∷ [])
+  pub value : shownBy p standing (locateOf p standing (e .name)) ≡ trimmed (e .bits) (e .value)
 
+-- whatever standing packet is lent beside it, if that has no item at fault
 abbrev pub Finds : Type 0
-Finds = (before after : List Entry) (e : Entry) (pad : List ℕ) → AllFit (before ++ (e ∷ after)) → length pad ≤ 7
-    → among (e .name) (namesOf before) ≡ false → FoundAs (packetOf (before ++ (e ∷ after)) pad) e
+Finds = (before after : List Entry) (e : Entry) (pad standing : List ℕ) → AllFit (before ++ (e ∷ after)) → Apart (before ++ (e ∷ after))
+    → length pad ≤ 7 → checkOf standing ≡ 0 → among (e .name) (namesOf before) ≡ false
+    → FoundAs (packetOf (before ++ (e ∷ after)) pad) standing e
 
 -- W3: "Unused low bits of the last byte: the sender writes zeros": it is a multiple of their power of two,
 abbrev pub UnusedZero : Type 0
