@@ -10,6 +10,7 @@ use mathlib.Core.Path.{_≡_, refl, sym, ap, _∙_}
 use lib.Dec.{eqb}
 use lib.ListN.{length, length-replicate}
 use Rattle.item.specs.declared.Item.{Item}
+use Rattle.item.specs.Item.{head}
 use Rattle.item.specs.Run.{runOf, firstOf, isBefore, among, slots}
 use Rattle.item.proofs.Steps.{item-fits}
 use Rattle.item.proofs.Runs.{item-begins, falls as falls-short}
@@ -35,8 +36,9 @@ use Rattle.walk.proofs.names.is_container.Reads as is-container-reads
 use Rattle.walk.proofs.whole.+walk_item+walk_packet+walk_value.{statement}
 use Rattle.walk.proofs.whole.+walk_item+walk_packet+walk_value.Tie.{close}
 
+-- the bytes left, an item's with its head; each call of the cycle leaves less
 abbrev μ-walk-item : Measures 2 walk-item-kinds.ps ℕ
-μ-walk-item κs a = 8 + a .1 .1 .1 .1 .1 .0 .len .0
+μ-walk-item κs a = head + a .1 .1 .1 .1 .1 .0 .len .0
 
 abbrev μ-walk-packet : Measures 2 walk-packet-kinds.ps ℕ
 μ-walk-packet κs a = (a .1 .1 .1 .0 - a .1 .1 .0) + 1
@@ -67,48 +69,46 @@ abbrev walk-value-below : ℕ → In 2 walk-value-kinds.ps
 walk-value-below t =
     and 2 walk-value-kinds.ps (falls 2 walk-value-kinds.ps _<_ μ-walk-value t) walk-value.Pre
 
+-- what each may lean on in its calls: those within the cycle where the measure falls
+abbrev item-calls : ℕ → walk-item-lts.Claims
+item-calls t = (
+  fault-of-reads.Asked,
+  fault-of-reads.Learnt,
+  is-container-reads.Asked,
+  is-container-reads.Learnt,
+  walk-value-below t,
+  walk-value.Post,
+)
+
+abbrev packet-calls : ℕ → walk-packet-lts.Claims
+packet-calls t = (
+  no-marks-reads.Asked,
+  no-marks-reads.Learnt,
+  step-in-reads.Asked,
+  step-in-reads.Learnt,
+  slot-reads.Asked,
+  slot-reads.Learnt,
+  walk-item-below t,
+  walk-item.Post,
+)
+
+abbrev value-calls : ℕ → walk-value-lts.Claims
+value-calls t = (walk-packet-below t, walk-packet.Post)
+
 -- whether the item's name has stood before, as the code tells it
 abbrev stood : List ℕ → ℕ → ℕ → Bool → Item → Bool
 stood s from end mark i = mark && isBefore (firstOf (i .name) (runOf s from end)) (i .from)
 
-walk-item-fault-of-requires : (t : ℕ) → walk-item-lts.Need-fault-of-requires (
-  fault-of-reads.Asked,
-  fault-of-reads.Learnt,
-  is-container-reads.Asked,
-  is-container-reads.Learnt,
-  walk-value-below t,
-  walk-value.Post,
-) (walk-item-at t) walk-item.Post
+walk-item-fault-of-requires : (t : ℕ) → walk-item-lts.Need-fault-of-requires (item-calls t) (walk-item-at t) walk-item.Post
 walk-item-fault-of-requires t c κs = search needs
 
-walk-item-returns : (t : ℕ) → walk-item-lts.Need-returns (
-  fault-of-reads.Asked,
-  fault-of-reads.Learnt,
-  is-container-reads.Asked,
-  is-container-reads.Learnt,
-  walk-value-below t,
-  walk-value.Post,
-) (walk-item-at t) walk-item.Post
+walk-item-returns : (t : ℕ) → walk-item-lts.Need-returns (item-calls t) (walk-item-at t) walk-item.Post
 walk-item-returns t c = own _ _ _ _ _ _ _ (own-first _ _ _ _ _ (c .before .fault-of .ensures) (c .if1 .taken)) (c .if1 .taken)
 
-walk-item-is-container-requires : (t : ℕ) → walk-item-lts.Need-is-container-requires (
-  fault-of-reads.Asked,
-  fault-of-reads.Learnt,
-  is-container-reads.Asked,
-  is-container-reads.Learnt,
-  walk-value-below t,
-  walk-value.Post,
-) (walk-item-at t) walk-item.Post
+walk-item-is-container-requires : (t : ℕ) → walk-item-lts.Need-is-container-requires (item-calls t) (walk-item-at t) walk-item.Post
 walk-item-is-container-requires t c κs = search needs
 
-walk-item-returns-2 : (t : ℕ) → walk-item-lts.Need-returns-2 (
-  fault-of-reads.Asked,
-  fault-of-reads.Learnt,
-  is-container-reads.Asked,
-  is-container-reads.Learnt,
-  walk-value-below t,
-  walk-value.Post,
-) (walk-item-at t) walk-item.Post
+walk-item-returns-2 : (t : ℕ) → walk-item-lts.Need-returns-2 (item-calls t) (walk-item-at t) walk-item.Post
 walk-item-returns-2 t c =
     let k = c .before .before .before in
     let a = k .before .before .before .before .before .args in
@@ -116,14 +116,7 @@ walk-item-returns-2 t c =
     own _ _ _ b _ _ _ (not-whole _ _ b _ _ (k .before .before .fault-of .ensures) (k .before .if1 .left) (sym (k .is-container .ensures) ∙ c .before .before .if2 .taken) (λ z. omega (arith, z, c .if3 .taken))) (eqb-false 35 0 refl)
 
 -- behind the test of 35, whichever way it came: no container that is not whole bytes
-whole-by : (t : ℕ) (c : walk-item-lts.Joined2 (
-  fault-of-reads.Asked,
-  fault-of-reads.Learnt,
-  is-container-reads.Asked,
-  is-container-reads.Learnt,
-  walk-value-below t,
-  walk-value.Post,
-) (walk-item-at t) walk-item.Post)
+whole-by : (t : ℕ) (c : walk-item-lts.Joined2 (item-calls t) (walk-item-at t) walk-item.Post)
     → let a = c .before .before .before .before .before .before .args in
     among (a .i .name) (namesOf (a .names .now)) && not (eqb (a .i .bits .0 % 8) 0) ≡ false
 whole-by t c =
@@ -131,40 +124,19 @@ whole-by t c =
     let q = sym (c .before .is-container .ensures) in
     ⊎-elim (λ x. container-whole _ i (q ∙ x .0 .taken) (omega (arith, x .2 .left))) (λ x. no-container _ i (q ∙ x .left)) (c .if2 .came)
 
-walk-item-returns-3 : (t : ℕ) → walk-item-lts.Need-returns-3 (
-  fault-of-reads.Asked,
-  fault-of-reads.Learnt,
-  is-container-reads.Asked,
-  is-container-reads.Learnt,
-  walk-value-below t,
-  walk-value.Post,
-) (walk-item-at t) walk-item.Post
+walk-item-returns-3 : (t : ℕ) → walk-item-lts.Need-returns-3 (item-calls t) (walk-item-at t) walk-item.Post
 walk-item-returns-3 t c =
     let k = c .before .before in
     let a = k .before .before .before .before .before .args in
     let b = stood (a .s .now) (a .from) (a .end) (a .mark) (a .i) in
     own _ _ _ b _ _ _ (too-deep _ _ b _ _ (k .before .before .fault-of .ensures) (k .before .if1 .left) (whole-by t (c .before)) (omega (arith, c .if4 .taken))) (eqb-false 32 0 refl)
 
-walk-item-walk-value-requires : (t : ℕ) → walk-item-lts.Need-walk-value-requires (
-  fault-of-reads.Asked,
-  fault-of-reads.Learnt,
-  is-container-reads.Asked,
-  is-container-reads.Learnt,
-  walk-value-below t,
-  walk-value.Post,
-) (walk-item-at t) walk-item.Post
+walk-item-walk-value-requires : (t : ℕ) → walk-item-lts.Need-walk-value-requires (item-calls t) (walk-item-at t) walk-item.Post
 walk-item-walk-value-requires t c κs =
     let q = c .before .before .before .before .before .before .before .before .pre .0 in
     (omega arith, (omega arith, omega arith))
 
-walk-item-returns-4 : (t : ℕ) → walk-item-lts.Need-returns-4 (
-  fault-of-reads.Asked,
-  fault-of-reads.Learnt,
-  is-container-reads.Asked,
-  is-container-reads.Learnt,
-  walk-value-below t,
-  walk-value.Post,
-) (walk-item-at t) walk-item.Post
+walk-item-returns-4 : (t : ℕ) → walk-item-lts.Need-returns-4 (item-calls t) (walk-item-at t) walk-item.Post
 walk-item-returns-4 t c =
     let k = c .before .before .before .before in
     let a = k .before .before .before .before .before .args in
@@ -172,14 +144,7 @@ walk-item-returns-4 t c =
     let z = no-fault _ (a .depth) b _ _ (k .before .before .fault-of .ensures) (k .before .if1 .left) (whole-by t (c .before .before .before)) (omega (arith, c .before .before .if4 .left)) in
     contents _ _ _ b _ _ z (sym (k .is-container .ensures) ∙ c .before .if5 .taken) (omega (arith, c .before .before .if4 .left)) (c .walk-value .ensures)
 
-walk-item-returns-5 : (t : ℕ) → walk-item-lts.Need-returns-5 (
-  fault-of-reads.Asked,
-  fault-of-reads.Learnt,
-  is-container-reads.Asked,
-  is-container-reads.Learnt,
-  walk-value-below t,
-  walk-value.Post,
-) (walk-item-at t) walk-item.Post
+walk-item-returns-5 : (t : ℕ) → walk-item-lts.Need-returns-5 (item-calls t) (walk-item-at t) walk-item.Post
 walk-item-returns-5 t c =
     let k = c .before .before .before in
     let a = k .before .before .before .before .before .args in
@@ -193,88 +158,25 @@ walk-packet-Inv-loop s names from end depth marks₀ at₀ marks at = (from ≤ 
 abbrev walk-packet-μ-loop : walk-packet-lts.MeasureT-loop
 walk-packet-μ-loop s names from end depth marks₀ at₀ marks at = end - at
 
-walk-packet-no-marks-requires : (t : ℕ) → walk-packet-lts.Need-no-marks-requires (
-  no-marks-reads.Asked,
-  no-marks-reads.Learnt,
-  step-in-reads.Asked,
-  step-in-reads.Learnt,
-  slot-reads.Asked,
-  slot-reads.Learnt,
-  walk-item-below t,
-  walk-item.Post,
-) (walk-packet-at t) walk-packet.Post walk-packet-Inv-loop walk-packet-μ-loop
+walk-packet-no-marks-requires : (t : ℕ) → walk-packet-lts.Need-no-marks-requires (packet-calls t) (walk-packet-at t) walk-packet.Post walk-packet-Inv-loop walk-packet-μ-loop
 walk-packet-no-marks-requires t c κs = search needs
 
-walk-packet-loop-holds : (t : ℕ) → walk-packet-lts.Need-loop-holds (
-  no-marks-reads.Asked,
-  no-marks-reads.Learnt,
-  step-in-reads.Asked,
-  step-in-reads.Learnt,
-  slot-reads.Asked,
-  slot-reads.Learnt,
-  walk-item-below t,
-  walk-item.Post,
-) (walk-packet-at t) walk-packet.Post walk-packet-Inv-loop walk-packet-μ-loop
+walk-packet-loop-holds : (t : ℕ) → walk-packet-lts.Need-loop-holds (packet-calls t) (walk-packet-at t) walk-packet.Post walk-packet-Inv-loop walk-packet-μ-loop
 walk-packet-loop-holds t c = (omega arith, seen-none _ _ _ _ _ (ap length (c .no-marks .ensures) ∙ length-replicate slots false))
 
-walk-packet-step-in-requires : (t : ℕ) → walk-packet-lts.Need-step-in-requires (
-  no-marks-reads.Asked,
-  no-marks-reads.Learnt,
-  step-in-reads.Asked,
-  step-in-reads.Learnt,
-  slot-reads.Asked,
-  slot-reads.Learnt,
-  walk-item-below t,
-  walk-item.Post,
-) (walk-packet-at t) walk-packet.Post walk-packet-Inv-loop walk-packet-μ-loop
+walk-packet-step-in-requires : (t : ℕ) → walk-packet-lts.Need-step-in-requires (packet-calls t) (walk-packet-at t) walk-packet.Post walk-packet-Inv-loop walk-packet-μ-loop
 walk-packet-step-in-requires t c κs = search needs
 
-walk-packet-enum-known-step : (t : ℕ) → walk-packet-lts.Need-enum-known-step (
-  no-marks-reads.Asked,
-  no-marks-reads.Learnt,
-  step-in-reads.Asked,
-  step-in-reads.Learnt,
-  slot-reads.Asked,
-  slot-reads.Learnt,
-  walk-item-below t,
-  walk-item.Post,
-) (walk-packet-at t) walk-packet.Post walk-packet-Inv-loop walk-packet-μ-loop
+walk-packet-enum-known-step : (t : ℕ) → walk-packet-lts.Need-enum-known-step (packet-calls t) (walk-packet-at t) walk-packet.Post walk-packet-Inv-loop walk-packet-μ-loop
 walk-packet-enum-known-step t c = search needs
 
-walk-packet-slot-requires : (t : ℕ) → walk-packet-lts.Need-slot-requires (
-  no-marks-reads.Asked,
-  no-marks-reads.Learnt,
-  step-in-reads.Asked,
-  step-in-reads.Learnt,
-  slot-reads.Asked,
-  slot-reads.Learnt,
-  walk-item-below t,
-  walk-item.Post,
-) (walk-packet-at t) walk-packet.Post walk-packet-Inv-loop walk-packet-μ-loop
+walk-packet-slot-requires : (t : ℕ) → walk-packet-lts.Need-slot-requires (packet-calls t) (walk-packet-at t) walk-packet.Post walk-packet-Inv-loop walk-packet-μ-loop
 walk-packet-slot-requires t c κs = search needs
 
-walk-packet-array-read-walk-item : (t : ℕ) → walk-packet-lts.Need-array-read-walk-item (
-  no-marks-reads.Asked,
-  no-marks-reads.Learnt,
-  step-in-reads.Asked,
-  step-in-reads.Learnt,
-  slot-reads.Asked,
-  slot-reads.Learnt,
-  walk-item-below t,
-  walk-item.Post,
-) (walk-packet-at t) walk-packet.Post walk-packet-Inv-loop walk-packet-μ-loop
+walk-packet-array-read-walk-item : (t : ℕ) → walk-packet-lts.Need-array-read-walk-item (packet-calls t) (walk-packet-at t) walk-packet.Post walk-packet-Inv-loop walk-packet-μ-loop
 walk-packet-array-read-walk-item t c = omega (arith, c .slot .ensures .1, c .before .before .before .before .before .loop .inv .1 .long)
 
-walk-packet-walk-item-requires : (t : ℕ) → walk-packet-lts.Need-walk-item-requires (
-  no-marks-reads.Asked,
-  no-marks-reads.Learnt,
-  step-in-reads.Asked,
-  step-in-reads.Learnt,
-  slot-reads.Asked,
-  slot-reads.Learnt,
-  walk-item-below t,
-  walk-item.Post,
-) (walk-packet-at t) walk-packet.Post walk-packet-Inv-loop walk-packet-μ-loop
+walk-packet-walk-item-requires : (t : ℕ) → walk-packet-lts.Need-walk-item-requires (packet-calls t) (walk-packet-at t) walk-packet.Post walk-packet-Inv-loop walk-packet-μ-loop
 walk-packet-walk-item-requires t c κs =
     let k = c .before .before in
     let e = sym (k .before .before .step-in .ensures) ∙ k .step .given .1 in
@@ -284,72 +186,27 @@ walk-packet-walk-item-requires t c κs =
     let q = k .before .before .before .before .before .before .before .pre .0 in
     (omega arith, (omega arith, omega arith))
 
-walk-packet-returns : (t : ℕ) → walk-packet-lts.Need-returns (
-  no-marks-reads.Asked,
-  no-marks-reads.Learnt,
-  step-in-reads.Asked,
-  step-in-reads.Learnt,
-  slot-reads.Asked,
-  slot-reads.Learnt,
-  walk-item-below t,
-  walk-item.Post,
-) (walk-packet-at t) walk-packet.Post walk-packet-Inv-loop walk-packet-μ-loop
+walk-packet-returns : (t : ℕ) → walk-packet-lts.Need-returns (packet-calls t) (walk-packet-at t) walk-packet.Post walk-packet-Inv-loop walk-packet-μ-loop
 walk-packet-returns t c =
     let k = c .before .before .before .before in
     walk-stops _ _ _ _ _ _ _ _ (k .before .before .before .loop .inv .1) _ (sym (k .before .before .step-in .ensures) ∙ k .step .given .1) _ _
     (c .before .before .slot .ensures .0) (c .before .walk-item .ensures) (c .if1 .taken)
 
-walk-packet-array-write-marks : (t : ℕ) → walk-packet-lts.Need-array-write-marks (
-  no-marks-reads.Asked,
-  no-marks-reads.Learnt,
-  step-in-reads.Asked,
-  step-in-reads.Learnt,
-  slot-reads.Asked,
-  slot-reads.Learnt,
-  walk-item-below t,
-  walk-item.Post,
-) (walk-packet-at t) walk-packet.Post walk-packet-Inv-loop walk-packet-μ-loop
+walk-packet-array-write-marks : (t : ℕ) → walk-packet-lts.Need-array-write-marks (packet-calls t) (walk-packet-at t) walk-packet.Post walk-packet-Inv-loop walk-packet-μ-loop
 walk-packet-array-write-marks t c = omega (arith, c .before .before .slot .ensures .1, c .before .before .before .before .before .before .before .loop .inv .1 .long)
 
-walk-packet-add-at : (t : ℕ) → walk-packet-lts.Need-add-at (
-  no-marks-reads.Asked,
-  no-marks-reads.Learnt,
-  step-in-reads.Asked,
-  step-in-reads.Learnt,
-  slot-reads.Asked,
-  slot-reads.Learnt,
-  walk-item-below t,
-  walk-item.Post,
-) (walk-packet-at t) walk-packet.Post walk-packet-Inv-loop walk-packet-μ-loop
+walk-packet-add-at : (t : ℕ) → walk-packet-lts.Need-add-at (packet-calls t) (walk-packet-at t) walk-packet.Post walk-packet-Inv-loop walk-packet-μ-loop
 walk-packet-add-at t c =
     let k = c .before .before .before .before .before in
     let e = sym (k .before .before .step-in .ensures) ∙ k .step .given .1 in
     omega (arith, item-fits _ _ _ _ e, item-begins _ _ _ _ e)
 
-walk-packet-loop-less : (t : ℕ) → walk-packet-lts.Need-loop-less (
-  no-marks-reads.Asked,
-  no-marks-reads.Learnt,
-  step-in-reads.Asked,
-  step-in-reads.Learnt,
-  slot-reads.Asked,
-  slot-reads.Learnt,
-  walk-item-below t,
-  walk-item.Post,
-) (walk-packet-at t) walk-packet.Post walk-packet-Inv-loop walk-packet-μ-loop
+walk-packet-loop-less : (t : ℕ) → walk-packet-lts.Need-loop-less (packet-calls t) (walk-packet-at t) walk-packet.Post walk-packet-Inv-loop walk-packet-μ-loop
 walk-packet-loop-less t c =
     let k = c .before .before .before .before .before in
     omega (arith, falls-short _ _ _ _ (sym (k .before .before .step-in .ensures) ∙ k .step .given .1))
 
-walk-packet-loop-again : (t : ℕ) → walk-packet-lts.Need-loop-again (
-  no-marks-reads.Asked,
-  no-marks-reads.Learnt,
-  step-in-reads.Asked,
-  step-in-reads.Learnt,
-  slot-reads.Asked,
-  slot-reads.Learnt,
-  walk-item-below t,
-  walk-item.Post,
-) (walk-packet-at t) walk-packet.Post walk-packet-Inv-loop walk-packet-μ-loop
+walk-packet-loop-again : (t : ℕ) → walk-packet-lts.Need-loop-again (packet-calls t) (walk-packet-at t) walk-packet.Post walk-packet-Inv-loop walk-packet-μ-loop
 walk-packet-loop-again t c =
     let k = c .before .before .before .before .before in
     let e = sym (k .before .before .step-in .ensures) ∙ k .step .given .1 in
@@ -357,94 +214,38 @@ walk-packet-loop-again t c =
     let b = item-begins _ _ _ _ e in
     (omega (arith, v .0), walk-turn _ _ _ _ _ _ _ _ (v .1) _ e _ _ (c .before .before .before .slot .ensures .0) (c .before .before .walk-item .ensures) (c .before .if1 .left))
 
-walk-packet-enum-told : (t : ℕ) → walk-packet-lts.Need-enum-told (
-  no-marks-reads.Asked,
-  no-marks-reads.Learnt,
-  step-in-reads.Asked,
-  step-in-reads.Learnt,
-  slot-reads.Asked,
-  slot-reads.Learnt,
-  walk-item-below t,
-  walk-item.Post,
-) (walk-packet-at t) walk-packet.Post walk-packet-Inv-loop walk-packet-μ-loop
+walk-packet-enum-told : (t : ℕ) → walk-packet-lts.Need-enum-told (packet-calls t) (walk-packet-at t) walk-packet.Post walk-packet-Inv-loop walk-packet-μ-loop
 walk-packet-enum-told t c = search needs
 
-walk-packet-returns-2 : (t : ℕ) → walk-packet-lts.Need-returns-2 (
-  no-marks-reads.Asked,
-  no-marks-reads.Learnt,
-  step-in-reads.Asked,
-  step-in-reads.Learnt,
-  slot-reads.Asked,
-  slot-reads.Learnt,
-  walk-item-below t,
-  walk-item.Post,
-) (walk-packet-at t) walk-packet.Post walk-packet-Inv-loop walk-packet-μ-loop
+walk-packet-returns-2 : (t : ℕ) → walk-packet-lts.Need-returns-2 (packet-calls t) (walk-packet-at t) walk-packet.Post walk-packet-Inv-loop walk-packet-μ-loop
 walk-packet-returns-2 t c = walk-ends _ _ _ _ _ _ _ _ (c .before .before .before .loop .inv .1) _ (sym (c .before .before .step-in .ensures) ∙ c .enum-told .given .1)
 
-walk-packet-enum-known-step-2 : (t : ℕ) → walk-packet-lts.Need-enum-known-step-2 (
-  no-marks-reads.Asked,
-  no-marks-reads.Learnt,
-  step-in-reads.Asked,
-  step-in-reads.Learnt,
-  slot-reads.Asked,
-  slot-reads.Learnt,
-  walk-item-below t,
-  walk-item.Post,
-) (walk-packet-at t) walk-packet.Post walk-packet-Inv-loop walk-packet-μ-loop
+walk-packet-enum-known-step-2 : (t : ℕ) → walk-packet-lts.Need-enum-known-step-2 (packet-calls t) (walk-packet-at t) walk-packet.Post walk-packet-Inv-loop walk-packet-μ-loop
 walk-packet-enum-known-step-2 t c = search needs
 
-walk-packet-returns-3 : (t : ℕ) → walk-packet-lts.Need-returns-3 (
-  no-marks-reads.Asked,
-  no-marks-reads.Learnt,
-  step-in-reads.Asked,
-  step-in-reads.Learnt,
-  slot-reads.Asked,
-  slot-reads.Learnt,
-  walk-item-below t,
-  walk-item.Post,
-) (walk-packet-at t) walk-packet.Post walk-packet-Inv-loop walk-packet-μ-loop
+walk-packet-returns-3 : (t : ℕ) → walk-packet-lts.Need-returns-3 (packet-calls t) (walk-packet-at t) walk-packet.Post walk-packet-Inv-loop walk-packet-μ-loop
 walk-packet-returns-3 t c =
     let k = c .before in
     walk-refused _ _ _ _ _ _ _ _ (k .before .before .before .loop .inv .1) _ (sym (k .before .before .step-in .ensures) ∙ k .step2 .given .1)
 
-walk-value-add-walk-packet : (t : ℕ) → walk-value-lts.Need-add-walk-packet (
-  walk-packet-below t,
-  walk-packet.Post,
-) (walk-value-at t) walk-value.Post
+walk-value-add-walk-packet : (t : ℕ) → walk-value-lts.Need-add-walk-packet (value-calls t) (walk-value-at t) walk-value.Post
 walk-value-add-walk-packet t c = search needs
 
-walk-value-add-walk-packet-2 : (t : ℕ) → walk-value-lts.Need-add-walk-packet-2 (
-  walk-packet-below t,
-  walk-packet.Post,
-) (walk-value-at t) walk-value.Post
+walk-value-add-walk-packet-2 : (t : ℕ) → walk-value-lts.Need-add-walk-packet-2 (value-calls t) (walk-value-at t) walk-value.Post
 walk-value-add-walk-packet-2 t c = search needs
 
-walk-value-walk-packet-requires : (t : ℕ) → walk-value-lts.Need-walk-packet-requires (
-  walk-packet-below t,
-  walk-packet.Post,
-) (walk-value-at t) walk-value.Post
+walk-value-walk-packet-requires : (t : ℕ) → walk-value-lts.Need-walk-packet-requires (value-calls t) (walk-value-at t) walk-value.Post
 walk-value-walk-packet-requires t c κs =
     let q = c .before .before .before .pre .0 in
     (omega arith, omega arith)
 
-walk-value-returns :
-    (t : ℕ) →
-    walk-value-lts.Need-returns
-    (walk-packet-below t, walk-packet.Post)
-    (walk-value-at t)
-    walk-value.Post
+walk-value-returns : (t : ℕ) → walk-value-lts.Need-returns (value-calls t) (walk-value-at t) walk-value.Post
 walk-value-returns t c = one-deeper _ _ _ _ _ _ (c .walk-packet .ensures)
 
 pub +walk-item+walk-packet+walk-value-spec : {M : Type 1} → statement M
 +walk-item+walk-packet+walk-value-spec =
-    close μ-walk-item μ-walk-packet μ-walk-value (λ t. walk-item-lts.spec (
-      fault-of-reads.Asked,
-      fault-of-reads.Learnt,
-      is-container-reads.Asked,
-      is-container-reads.Learnt,
-      walk-value-below t,
-      walk-value.Post,
-    )
+    close μ-walk-item μ-walk-packet μ-walk-value (λ t. walk-item-lts.spec
+    (item-calls t)
     (walk-item-at t)
     walk-item.Post
     (walk-item-fault-of-requires t)
@@ -455,16 +256,8 @@ pub +walk-item+walk-packet+walk-value-spec : {M : Type 1} → statement M
     (walk-item-walk-value-requires t)
     (walk-item-returns-4 t)
     (walk-item-returns-5 t))
-    (λ t. walk-packet-lts.spec (
-      no-marks-reads.Asked,
-      no-marks-reads.Learnt,
-      step-in-reads.Asked,
-      step-in-reads.Learnt,
-      slot-reads.Asked,
-      slot-reads.Learnt,
-      walk-item-below t,
-      walk-item.Post,
-    )
+    (λ t. walk-packet-lts.spec
+    (packet-calls t)
     (walk-packet-at t)
     walk-packet.Post
     walk-packet-Inv-loop
@@ -486,7 +279,7 @@ pub +walk-item+walk-packet+walk-value-spec : {M : Type 1} → statement M
     (walk-packet-enum-known-step-2 t)
     (walk-packet-returns-3 t))
     λ t. walk-value-lts.spec
-    (walk-packet-below t, walk-packet.Post)
+    (value-calls t)
     (walk-value-at t)
     walk-value.Post
     (walk-value-add-walk-packet t)
