@@ -1,0 +1,4 @@
+pub mod Laws
+pub mod Digits
+pub mod Putting
+pub mod Proved

@@ -1,0 +1,56 @@
+-- `plain` meets its contract: as much of the text as fits is put where it belongs. Assumes nothing.
+use mathlib.Core.Path.{sym}
+use Prim.Native.Nat.{_-_}
+use native.Mathlib.Omega.{arith}
+use native.Mathlib.Nat.{min-le-left}
+use borrow.Author.Needs.{needs}
+use lib.ListN.{length}
+use lib.Seq.{length-take-le}
+use Rattle.text.proofs.Laws.{laid-past, behind-past}
+use Rattle.text.proofs.Putting.{put-lays}
+use Rattle.text.proofs.plain.Statement.{statement}
+use Rattle.text.proofs.plain.Tie as tie
+
+returns : tie.Need-returns
+returns c =
+    let a = c .before .before .before .args in
+    (sym (behind-past (a .out .now) (a .at) (a .letters .now) (omega arith)), sym (laid-past (a .out .now) (a .at) (a .letters .now) (omega arith)))
+
+sub-least : tie.Need-sub-least
+sub-least c = search needs
+
+least-requires : tie.Need-least-requires
+least-requires c κs = search needs
+
+slice-aggregate-put : tie.Need-slice-aggregate-put
+slice-aggregate-put c =
+    let a = c .before .before .before .before .before .before .args in
+    let fit = c .before .before .least .ensures in
+    sym (length-take-le (c .before .before .least .result) (a .letters .now) (omega (arith, min-le-left (length (a .letters .now)) (length (a .out .now) - a .at))))
+
+put-requires : tie.Need-put-requires
+put-requires c κs = search needs
+
+add-result : tie.Need-add-result
+add-result c = search needs
+
+same-length : tie.Need-same-length
+same-length c = search needs
+
+returns-2 : tie.Need-returns-2
+returns-2 c =
+    let a = c .before .before .before .before .before .before .before .before .before .args in
+    put-lays (a .out .now) (a .letters .now) (a .at) _ (c .before .before .before .before .before .least .ensures) _ (c .before .before .put .result) (omega arith) (c .before .before .put .ensures)
+
+pub plain-spec : {M : Type 1} → statement M
+plain-spec =
+    tie.close
+    (tie.spec
+    returns
+    sub-least
+    least-requires
+    slice-aggregate-put
+    put-requires
+    add-result
+    same-length
+    returns-2)
