@@ -2,7 +2,7 @@
 use mathlib.Core.Path.{_≡_, sym, ap, ap₂, _∙_}
 use mathlib.Core.List.{List, [], _++_, append-assoc}
 use Prim.Native.Nat.{ℕ, _+_, _-_, _≤_, _<_}
-use native.Mathlib.Nat.{min-eq-left, min-eq-right, min-le-left, min-le-right}
+use native.Mathlib.Nat.{min-comm, min-eq-left, min-eq-right, min-le-left, min-le-right}
 use native.Mathlib.Omega.{arith}
 use borrow.Author.Tests.{leb-true, leb-false}
 use lib.Dec.{leb}
@@ -11,7 +11,7 @@ use lib.Seq.{length-take-le, take-at, take-all, take-nil, drop-drop, drop-append
 use Rattle.base.specs.Bytes.{splice}
 use Rattle.text.specs.Text.{laid, behind}
 use Rattle.base.proofs.Logic.{either}
-use Rattle.base.proofs.Splice.{splice-none, splice-length}
+use Rattle.base.proofs.Splice.{splice-none, splice-length, splice-front, splice-behind}
 
 -- a run right behind a run
 splice-after : (d : List ℕ) (at : ℕ) (a b : List ℕ) → at ≤ length d → splice (splice d at a) (at + length a) b ≡ splice d at (a ++ b)
@@ -70,13 +70,33 @@ module _ (d : List ℕ) (at : ℕ) (t : List ℕ) where
   unfolding behind
   behind-full h = ap (λ (n : ℕ). at + n) (min-eq-right h)
 
+  fitting : at ≤ length d → at + length (take (length d - at) t) ≤ length d
+  fitting h = omega (arith, length-take (length d - at) t, min-le-left (length d - at) (length t))
+
   -- the length stays,
   pub laid-length : length (laid d at t) ≡ length d
   unfolding laid
   laid-length =
       whether at (length d)
-      (λ h. splice-length d at (take (length d - at) t) (omega (arith, length-take (length d - at) t, min-le-left (length d - at) (length t))))
+      (λ h. splice-length d at (take (length d - at) t) (fitting h))
       (λ h. ap length (laid-past (omega arith)))
+
+  -- what is in front of it stays, and what is behind it
+  pub laid-front : take at (laid d at t) ≡ take at d
+  unfolding laid
+  laid-front =
+      whether at (length d)
+      (λ h. splice-front d at (take (length d - at) t) (fitting h))
+      (λ h. ap (take at) (laid-past (omega arith)))
+
+  pub laid-behind : drop (behind d at t) (laid d at t) ≡ drop (behind d at t) d
+  unfolding laid behind
+  laid-behind =
+      let place : behind d at t ≡ at + length (take (length d - at) t) =
+      ap (λ (n : ℕ). at + n) (min-comm (length t) (length d - at) ∙ sym (length-take (length d - at) t)) in
+      whether at (length d)
+      (λ h. rw place (splice-behind d at (take (length d - at) t) (fitting h)))
+      (λ h. ap (drop (behind d at t)) (laid-past (omega arith)))
 
   -- the place behind is no earlier one,
   pub behind-onward : at ≤ behind d at t

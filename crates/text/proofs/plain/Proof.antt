@@ -1,10 +1,7 @@
 -- `plain` meets its contract: as much of the text as fits is put where it belongs. Assumes nothing.
 use mathlib.Core.Path.{sym}
-use Prim.Native.Nat.{_-_}
 use native.Mathlib.Omega.{arith}
-use native.Mathlib.Nat.{min-le-left}
 use borrow.Author.Needs.{needs}
-use lib.ListN.{length}
 use lib.Seq.{length-take-le}
 use Rattle.text.proofs.Laws.{laid-past, behind-past}
 use Rattle.text.proofs.Putting.{put-lays}
@@ -24,9 +21,9 @@ least-requires c κs = search needs
 
 slice-aggregate-put : tie.Need-slice-aggregate-put
 slice-aggregate-put c =
-    let a = c .before .before .before .before .before .before .args in
-    let fit = c .before .before .least .ensures in
-    sym (length-take-le (c .before .before .least .result) (a .letters .now) (omega (arith, min-le-left (length (a .letters .now)) (length (a .out .now) - a .at))))
+    let least = c .before .before .least in
+    let fit = least .ensures in
+    sym (length-take-le (least .result) (c .before .before .before .before .before .before .args .letters .now) (omega arith))
 
 put-requires : tie.Need-put-requires
 put-requires c κs = search needs
