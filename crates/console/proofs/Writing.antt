@@ -1,26 +1,27 @@
--- Laws of `Wrote`: what one byte writes, and that what two writers write in a row is as one wrote it. Assumes nothing.
-use Prim.Native.Nat.{ℕ, _+_, _-_, _≤_, _<_}
-use native.Mathlib.Omega.{arith}
-use mathlib.Core.Path.{_≡_, refl, ap, sym, _∙_}
+-- Laws of `Wrote`: what a writer of a text writes, and that what two writers write in a row is as one wrote it. Assumes nothing.
+use mathlib.Core.Path.{_≡_, ap, sym, _∙_}
 use mathlib.Core.List.{List}
-use lib.ListN.{length, take, drop, set, length-set}
-use lib.Seq.{take-take, drop-drop, take-set-le, drop-set-lt}
+use Prim.Native.Nat.{ℕ, _+_, _-_, _≤_}
+use native.Mathlib.Omega.{arith}
+use lib.ListN.{length, take, drop}
+use lib.Seq.{take-take, drop-drop}
+use Rattle.text.specs.Text.{laid, behind}
 use Rattle.console.specs.Wrote.{Wrote}
+use Rattle.text.proofs.Laws.{Lays, laid-length, laid-front, laid-behind, behind-onward, behind-within}
 
--- nothing written
-pub none : (l : List ℕ) (at : ℕ) → at ≤ length l → Wrote l at at l
-none l at h = record { onward = omega arith; within = h; same = refl; ahead = refl; behind = refl }
-
--- one byte stored
-pub one : (l : List ℕ) (at b : ℕ) → at < length l → Wrote l at (at + 1) (set l at b)
-one l at b h =
+-- a text laid down
+laid-wrote : (d : List ℕ) (at : ℕ) (t : List ℕ) → at ≤ length d → Wrote d at (behind d at t) (laid d at t)
+laid-wrote d at t h =
     record {
-      onward = omega arith;
-      within = omega arith;
-      same = length-set l at b;
-      ahead = take-set-le at l at b (omega arith);
-      behind = drop-set-lt (at + 1) l at b (omega arith);
+      onward = behind-onward d at t;
+      within = behind-within d at t h;
+      same = laid-length d at t;
+      ahead = laid-front d at t;
+      behind = laid-behind d at t;
     }
+
+pub wrote : (d : List ℕ) (at : ℕ) (t : List ℕ) {r : ℕ} {e : List ℕ} → at ≤ length d → Lays d at t r e → Wrote d at r e
+wrote d at t h w = rw (w .0, w .1) (laid-wrote d at t h)
 
 -- lists that agree from a place on agree from each later place on
 further : (y z : ℕ) (l m : List ℕ) → y ≤ z → drop y l ≡ drop y m → drop z l ≡ drop z m
@@ -38,3 +39,7 @@ chain {a} {b} {c} {x} {y} {z} p q =
       ahead = sym (take-take x y c (p .onward)) ∙ ap (take x) (q .ahead) ∙ take-take x y b (p .onward) ∙ p .ahead;
       behind = q .behind ∙ further y z b a (q .onward) (p .behind);
     }
+
+-- an answer of a group that is asked where another has none
+pub next : {a b c : List ℕ} {x y : ℕ} → Wrote a 0 x b → x ≡ 0 → Wrote b 0 y c → Wrote a 0 y c
+next p none q = chain (rw none at p) q

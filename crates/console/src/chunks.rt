@@ -2,24 +2,34 @@
 ghost use Prim.Native.Nat.{_≤_};
 ghost use lib.ListN.{length};
 ghost use Rattle.console.specs.Wrote.{Wrote};
-use crate::text;
+use crate::replies;
 use crate::words;
 use crate::words::Number;
 
 // The bytes of the longest chunk, with its parity bytes.
 pub(crate) const CHUNK: usize = base::MOST_K + base::PARITY;
 
-// `parity DATA` is answered `parity BYTES`. The code refuses a length that no chunk has, and that
-// is a malformed word here.
-pub(crate) fn answer_parity(line: &[u8], out: &mut [u8]) -> usize
+// The answer, or 0 where the line is no question on chunks.
+pub(crate) fn answer(line: &[u8], out: &mut [u8]) -> usize
     ensures { λ r. ⌜ Wrote (now (out .entry)) 0 r (now (out .exit)) ⌝ }
 {
-    if words::count(line) != 2 {
-        return text::unknown(out);
+    if words::asks(line, b"parity", 1) {
+        return answer_parity(line, out);
     }
+    if words::asks(line, b"fill", 3) {
+        return answer_fill(line, out);
+    }
+    0
+}
+
+// `parity DATA` is answered `parity BYTES`. The code refuses a length that no chunk has, and that
+// is a malformed word here.
+fn answer_parity(line: &[u8], out: &mut [u8]) -> usize
+    ensures { λ r. ⌜ Wrote (now (out .entry)) 0 r (now (out .exit)) ⌝ }
+{
     let mut data = [0u8; base::MOST_K];
     let Number::Of(k) = words::bytes_of(words::nth(line, 1), &mut data) else {
-        return text::unknown(out);
+        return 0;
     };
     let mut sum = [0u8; base::PARITY];
     let written = code::parity(&data[..k], &mut sum);
@@ -28,18 +38,15 @@ pub(crate) fn answer_parity(line: &[u8], out: &mut [u8]) -> usize
 
 // `fill K POSITIONS CHUNK` is answered `filled CHUNK`, `none` or `notenough`. The positions are
 // held to the bytes that were given; that these are K and the parity, the code tests.
-pub(crate) fn answer_fill(line: &[u8], out: &mut [u8]) -> usize
+fn answer_fill(line: &[u8], out: &mut [u8]) -> usize
     ensures { λ r. ⌜ Wrote (now (out .entry)) 0 r (now (out .exit)) ⌝ }
 {
-    if words::count(line) != 4 {
-        return text::unknown(out);
-    }
-    let Number::Of(k) = words::decimal(words::nth(line, 1)) else {
-        return text::unknown(out);
+    let Number::Of(k) = words::decimal_at(line, 1) else {
+        return 0;
     };
     let mut chunk = [0u8; CHUNK];
     let Number::Of(n) = words::bytes_of(words::nth(line, 3), &mut chunk) else {
-        return text::unknown(out);
+        return 0;
     };
     fill_and_write(out, k, words::nth(line, 2), &mut chunk[..n])
 }
@@ -55,7 +62,7 @@ fn fill_and_write(out: &mut [u8], k: usize, positions: &[u8], chunk: &mut [u8]) 
         let filled = code::fill_chunk(k, &mask[..n], chunk);
         return write_filled(out, filled, chunk);
     }
-    text::unknown(out)
+    0
 }
 
 // Marks the positions of a word `i,j,..`, `-` for none, and says whether the word is well formed.
@@ -95,8 +102,8 @@ fn write_parity(out: &mut [u8], written: base::Written, sum: &[u8]) -> usize
     ensures { λ r. ⌜ Wrote (now (out .entry)) 0 r (now (out .exit)) ⌝ }
 {
     match written {
-        base::Written::Done => write_bytes(out, b"parity ", sum),
-        base::Written::Refused(_) => text::unknown(out),
+        base::Written::Done => replies::bytes(out, b"parity ", sum),
+        base::Written::Refused(_) => 0,
     }
 }
 
@@ -105,17 +112,9 @@ fn write_filled(out: &mut [u8], filled: code::Filled, chunk: &[u8]) -> usize
     ensures { λ r. ⌜ Wrote (now (out .entry)) 0 r (now (out .exit)) ⌝ }
 {
     match filled {
-        code::Filled::Done => write_bytes(out, b"filled ", chunk),
-        code::Filled::Nothing => text::plain(out, 0, b"none"),
-        code::Filled::NotEnough => text::plain(out, 0, b"notenough"),
-        code::Filled::Refused(_) => text::unknown(out),
+        code::Filled::Done => replies::bytes(out, b"filled ", chunk),
+        code::Filled::Nothing => replies::word(out, b"none"),
+        code::Filled::NotEnough => replies::word(out, b"notenough"),
+        code::Filled::Refused(_) => 0,
     }
-}
-
-// Bytes behind the answer's name.
-fn write_bytes(out: &mut [u8], name: &[u8], raw: &[u8]) -> usize
-    ensures { λ r. ⌜ Wrote (now (out .entry)) 0 r (now (out .exit)) ⌝ }
-{
-    let at = text::plain(out, 0, name);
-    text::hex(out, at, raw)
 }

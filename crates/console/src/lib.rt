@@ -4,8 +4,8 @@
 mod chunks;
 mod fields;
 mod plans;
+mod replies;
 mod sums;
-mod text;
 mod words;
 
 ghost use Rattle.console.specs.Wrote.{Wrote};
@@ -32,32 +32,30 @@ pub fn answer(line: &[u8], out: &mut [u8]) -> usize
         return 0;
     }
     if LINE <= line.len() {
-        return text::unknown(out);
+        return replies::unknown(out);
     }
-    let name = words::nth(line, 0);
-    if words::is(name, b"crc") {
-        return sums::answer_crc(line, out);
+    let n = ask_all(line, out);
+    if n == 0 {
+        return replies::unknown(out);
     }
-    if words::is(name, b"plan") {
-        return plans::answer_plan(line, out);
+    n
+}
+
+// Asks the groups of questions one after another, each of which answers 0 where the line is none of its own.
+fn ask_all(line: &[u8], out: &mut [u8]) -> usize
+    ensures { λ r. ⌜ Wrote (now (out .entry)) 0 r (now (out .exit)) ⌝ }
+{
+    let sum = sums::answer(line, out);
+    if sum != 0 {
+        return sum;
     }
-    if words::is(name, b"mul") {
-        return fields::answer_mul(line, out);
+    let plan = plans::answer(line, out);
+    if plan != 0 {
+        return plan;
     }
-    if words::is(name, b"div") {
-        return fields::answer_div(line, out);
+    let element = fields::answer(line, out);
+    if element != 0 {
+        return element;
     }
-    if words::is(name, b"log") {
-        return fields::answer_log(line, out);
-    }
-    if words::is(name, b"pow") {
-        return fields::answer_pow(line, out);
-    }
-    if words::is(name, b"parity") {
-        return chunks::answer_parity(line, out);
-    }
-    if words::is(name, b"fill") {
-        return chunks::answer_fill(line, out);
-    }
-    text::unknown(out)
+    chunks::answer(line, out)
 }

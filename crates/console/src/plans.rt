@@ -1,8 +1,6 @@
 // Questions on plans: how a packet of some length is cut.
-ghost use Prim.Native.Nat.{_≤_};
-ghost use lib.ListN.{length};
 ghost use Rattle.console.specs.Wrote.{Wrote};
-use crate::text;
+use crate::replies;
 use crate::words;
 use crate::words::Number;
 use crate::words::Pair;
@@ -13,42 +11,46 @@ enum Question {
     Malformed,
 }
 
+// The answer, or 0 where the line is no question on plans.
+pub(crate) fn answer(line: &[u8], out: &mut [u8]) -> usize
+    ensures { λ r. ⌜ Wrote (now (out .entry)) 0 r (now (out .exit)) ⌝ }
+{
+    if words::asks(line, b"plan", 5) {
+        return answer_plan(line, out);
+    }
+    0
+}
+
 // `plan FEC M MTU ADDR L` is answered with the figures, or `refused N`.
-pub(crate) fn answer_plan(line: &[u8], out: &mut [u8]) -> usize
+fn answer_plan(line: &[u8], out: &mut [u8]) -> usize
     ensures { λ r. ⌜ Wrote (now (out .entry)) 0 r (now (out .exit)) ⌝ }
 {
     let Question::Plan(settings, l) = asked(line) else {
-        return text::unknown(out);
+        return 0;
     };
     match cut::plan(settings, l) {
         cut::Planned::Cut(figures) => write_plan(out, figures),
-        cut::Planned::Refused(number) => text::refused(out, number),
+        cut::Planned::Refused(by) => replies::refused(out, by),
     }
 }
 
 // The question's words; each has to say what stands in its place.
 fn asked(line: &[u8]) -> Question {
-    if words::count(line) != 6 {
-        return Question::Malformed;
-    }
-    let Number::Of(fec) = words::decimal(words::nth(line, 1)) else {
+    let Number::Of(fec) = words::decimal_to(line, 1, 1) else {
         return Question::Malformed;
     };
-    let Number::Of(m) = words::decimal(words::nth(line, 2)) else {
+    let Number::Of(m) = words::decimal_at(line, 2) else {
         return Question::Malformed;
     };
-    let Number::Of(mtu) = words::decimal(words::nth(line, 3)) else {
+    let Number::Of(mtu) = words::decimal_at(line, 3) else {
         return Question::Malformed;
     };
     let Pair::Of(address) = words::address(words::nth(line, 4)) else {
         return Question::Malformed;
     };
-    let Number::Of(l) = words::decimal(words::nth(line, 5)) else {
+    let Number::Of(l) = words::decimal_at(line, 5) else {
         return Question::Malformed;
     };
-    if 1 < fec {
-        return Question::Malformed;
-    }
     let settings = cut::Settings {
         fec: fec == 1,
         m,
@@ -64,10 +66,10 @@ fn write_plan(out: &mut [u8], f: cut::Figures) -> usize
 {
     let names = [b'c', b'k', b'z', b'n', b'S', b'L', b'f', b's', b'h'];
     let values = [f.c, f.k, f.z, f.n, f.room, f.total, f.f, f.s, f.h];
-    let mut at = text::plain(out, 0, b"plan");
+    let mut at = replies::word(out, b"plan");
     let mut i = 0;
     while i < 9 {
-        at = text::labelled(out, at, &[b' ', names[i], b'='], values[i]);
+        at = replies::labelled(out, at, &[b' ', names[i], b'='], values[i]);
         i += 1;
     }
     at

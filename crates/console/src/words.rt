@@ -19,17 +19,17 @@ pub(crate) enum Pair {
     Malformed,
 }
 
-// How many words the line has: one more than it has blanks.
-pub(crate) fn count(line: &[u8]) -> usize {
-    let mut blanks = 0;
+// How many blanks the line has: as many as words follow its first.
+fn blanks(line: &[u8]) -> usize {
+    let mut count = 0;
     let mut i = 0;
     while i < line.len() {
         if line[i] == b' ' {
-            blanks += 1;
+            count += 1;
         }
         i += 1;
     }
-    blanks + 1
+    count
 }
 
 // The word with that number, counted from 0; it is empty where the line has fewer.
@@ -69,6 +69,33 @@ pub(crate) fn is(word: &[u8], name: &[u8]) -> bool {
         i += 1;
     }
     true
+}
+
+// Whether the line asks that question: its first word is that name, and so many words follow it.
+pub(crate) fn asks(line: &[u8], name: &[u8], follow: usize) -> bool {
+    if is(nth(line, 0), name) {
+        blanks(line) == follow
+    } else {
+        false
+    }
+}
+
+// What the word with that number says where a number is asked.
+pub(crate) fn decimal_at(line: &[u8], at: usize) -> Number {
+    decimal(nth(line, at))
+}
+
+// The same, where no number above `most` is asked.
+pub(crate) fn decimal_to(line: &[u8], at: usize, most: usize) -> Number
+    ensures { λ r. ⌜ sizeOf r ≤ most ⌝ }
+{
+    let Number::Of(n) = decimal_at(line, at) else {
+        return Number::Malformed;
+    };
+    if most < n {
+        return Number::Malformed;
+    }
+    Number::Of(n)
 }
 
 // The number that a word of decimal digits says; zeros in front change nothing. A word that has

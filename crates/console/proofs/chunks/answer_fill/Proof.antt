@@ -7,23 +7,8 @@ use Rattle.console.proofs.Parts.{front}
 use Rattle.console.proofs.chunks.answer_fill.Statement.{statement}
 use Rattle.console.proofs.chunks.answer_fill.Tie as tie
 
-count-requires : tie.Need-count-requires
-count-requires c κs = search needs
-
-unknown-requires : tie.Need-unknown-requires
-unknown-requires c κs = search needs
-
-same-length : tie.Need-same-length
-same-length c = search needs
-
-returns : tie.Need-returns
-returns c = search needs
-
-nth-requires : tie.Need-nth-requires
-nth-requires c κs = search needs
-
-decimal-requires : tie.Need-decimal-requires
-decimal-requires c κs = search needs
+decimal-at-requires : tie.Need-decimal-at-requires
+decimal-at-requires c κs = search needs
 
 enum-known-k : tie.Need-enum-known-k
 enum-known-k c = search needs
@@ -31,17 +16,11 @@ enum-known-k c = search needs
 enum-told : tie.Need-enum-told
 enum-told c = search needs
 
-unknown-requires-2 : tie.Need-unknown-requires-2
-unknown-requires-2 c κs = search needs
+returns : tie.Need-returns
+returns c = search needs
 
-same-length-2 : tie.Need-same-length-2
-same-length-2 c = search needs
-
-returns-2 : tie.Need-returns-2
-returns-2 c = search needs
-
-nth-requires-2 : tie.Need-nth-requires-2
-nth-requires-2 c κs = search needs
+nth-requires : tie.Need-nth-requires
+nth-requires c κs = search needs
 
 slice-aggregate-bytes-of : tie.Need-slice-aggregate-bytes-of
 slice-aggregate-bytes-of c = search needs
@@ -55,17 +34,11 @@ enum-known-n c = search needs
 enum-told-2 : tie.Need-enum-told-2
 enum-told-2 c = search needs
 
-unknown-requires-3 : tie.Need-unknown-requires-3
-unknown-requires-3 c κs = search needs
+returns-2 : tie.Need-returns-2
+returns-2 c = search needs
 
-same-length-3 : tie.Need-same-length-3
-same-length-3 c = search needs
-
-returns-3 : tie.Need-returns-3
-returns-3 c = search needs
-
-nth-requires-3 : tie.Need-nth-requires-3
-nth-requires-3 c κs = search needs
+nth-requires-2 : tie.Need-nth-requires-2
+nth-requires-2 c κs = search needs
 
 array-borrow-prefix-chunk : tie.Need-array-borrow-prefix-chunk
 array-borrow-prefix-chunk c = omega (arith, ap sizeOf (c .before .before .before .n .given .1))
@@ -76,38 +49,29 @@ slice-aggregate-fill-and-write c = front _ _ (array-borrow-prefix-chunk (c .befo
 fill-and-write-requires : tie.Need-fill-and-write-requires
 fill-and-write-requires c κs = omega (arith, slice-aggregate-fill-and-write c, ap sizeOf (c .before .before .before .before .n .given .1))
 
-same-length-4 : tie.Need-same-length-4
-same-length-4 c = search needs
+same-length : tie.Need-same-length
+same-length c = search needs
 
-returns-4 : tie.Need-returns-4
-returns-4 c = search needs
+returns-3 : tie.Need-returns-3
+returns-3 c = search needs
 
 pub answer-fill-spec : {M : Type 1} → statement M
 answer-fill-spec =
     tie.close
     (tie.spec
-    count-requires
-    unknown-requires
-    same-length
-    returns
-    nth-requires
-    decimal-requires
+    decimal-at-requires
     enum-known-k
     enum-told
-    unknown-requires-2
-    same-length-2
-    returns-2
-    nth-requires-2
+    returns
+    nth-requires
     slice-aggregate-bytes-of
     bytes-of-requires
     enum-known-n
     enum-told-2
-    unknown-requires-3
-    same-length-3
-    returns-3
-    nth-requires-3
+    returns-2
+    nth-requires-2
     array-borrow-prefix-chunk
     slice-aggregate-fill-and-write
     fill-and-write-requires
-    same-length-4
-    returns-4)
+    same-length
+    returns-3)

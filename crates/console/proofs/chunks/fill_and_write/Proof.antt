@@ -34,12 +34,6 @@ same-length-2 c = search needs
 returns : tie.Need-returns
 returns c = search needs
 
-unknown-requires : tie.Need-unknown-requires
-unknown-requires c κs = search needs
-
-same-length-3 : tie.Need-same-length-3
-same-length-3 c = search needs
-
 returns-2 : tie.Need-returns-2
 returns-2 c = search needs
 
@@ -57,6 +51,4 @@ fill-and-write-spec =
     same-length
     same-length-2
     returns
-    unknown-requires
-    same-length-3
     returns-2)

@@ -1,8 +1,9 @@
 -- `plans::write_plan` meets its contract: at each turn the figures so far stand behind the word. Assumes nothing.
 use Prim.Native.Nat.{_≤_, _-_}
+use native.Mathlib.Omega.{arith}
 use borrow.Author.Needs.{needs}
-use Rattle.console.proofs.Writing.{chain}
 use Rattle.console.specs.Wrote.{Wrote}
+use Rattle.console.proofs.Writing.{wrote, chain}
 use Rattle.console.proofs.plans.write_plan.Statement.{statement}
 use Rattle.console.proofs.plans.write_plan.Tie as tie
 
@@ -12,11 +13,11 @@ Inv-loop out₀ names values at₀ i₀ out at i = (i ≤ 9) × Wrote out₀ at�
 abbrev μ-loop : tie.MeasureT-loop
 μ-loop out₀ names values at₀ i₀ out at i = 9 - i
 
-slice-aggregate-plain : tie.Need-slice-aggregate-plain Inv-loop μ-loop
-slice-aggregate-plain c = search needs
+slice-aggregate-word : tie.Need-slice-aggregate-word Inv-loop μ-loop
+slice-aggregate-word c = search needs
 
-plain-requires : tie.Need-plain-requires Inv-loop μ-loop
-plain-requires c κs = search needs
+word-requires : tie.Need-word-requires Inv-loop μ-loop
+word-requires c κs = search needs
 
 loop-holds : tie.Need-loop-holds Inv-loop μ-loop
 loop-holds c = search needs
@@ -43,7 +44,7 @@ loop-less : tie.Need-loop-less Inv-loop μ-loop
 loop-less c = search needs
 
 loop-again : tie.Need-loop-again Inv-loop μ-loop
-loop-again c = search (chain, needs)
+loop-again c = (omega arith, chain (c .before .before .before .before .before .before .loop .inv .1) (wrote (c .before .before .before .before .before .before .loop .out) (c .before .before .before .before .before .before .loop .at) _ (omega arith) (c .before .before .labelled .ensures)))
 
 same-length : tie.Need-same-length Inv-loop μ-loop
 same-length c = search needs
@@ -57,8 +58,8 @@ write-plan-spec =
     (tie.spec
     Inv-loop
     μ-loop
-    slice-aggregate-plain
-    plain-requires
+    slice-aggregate-word
+    word-requires
     loop-holds
     array-read-t18
     slice-aggregate-labelled

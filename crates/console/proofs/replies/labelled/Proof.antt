@@ -1,0 +1,23 @@
+-- `replies::labelled` meets its contract: the number goes on where the label stops. Assumes nothing.
+use borrow.Author.Needs.{needs}
+use Rattle.text.specs.Text.{decimalOf}
+use Rattle.text.proofs.Laws.{lays-more}
+use Rattle.console.proofs.replies.labelled.Statement.{statement}
+use Rattle.console.proofs.replies.labelled.Tie as tie
+
+plain-requires : tie.Need-plain-requires
+plain-requires c κs = search needs
+
+decimal-requires : tie.Need-decimal-requires
+decimal-requires c κs = search needs
+
+same-length : tie.Need-same-length
+same-length c = search needs
+
+returns : tie.Need-returns
+returns c =
+    let a = c .before .before .before .before .before .before .before .before .before .before .args in
+    lays-more (a .out .now) (a .at) (a .label .now) (decimalOf (a .value)) (c .before .before .before .before .before .before .plain .ensures) (c .before .before .decimal .ensures)
+
+pub labelled-spec : {M : Type 1} → statement M
+labelled-spec = tie.close (tie.spec plain-requires decimal-requires same-length returns)
