@@ -5,13 +5,13 @@ use Prim.Native.Nat.{ℕ, _+_, _-_, _≤_}
 use native.Mathlib.Omega.{arith}
 use lib.ListN.{length, take, drop}
 use lib.Seq.{take-take, drop-drop}
-use Rattle.text.specs.Text.{laid, behind}
 use Rattle.console.specs.Wrote.{Wrote}
 use Rattle.text.proofs.Laws.{Lays, laid-length, laid-front, laid-behind, behind-onward, behind-within}
 
--- a text laid down
-laid-wrote : (d : List ℕ) (at : ℕ) (t : List ℕ) → at ≤ length d → Wrote d at (behind d at t) (laid d at t)
-laid-wrote d at t h =
+-- a text that was laid down
+pub wrote : (d : List ℕ) (at : ℕ) (t : List ℕ) {r : ℕ} {e : List ℕ} → at ≤ length d → Lays d at t r e → Wrote d at r e
+wrote d at t h w =
+    rw (w .0, w .1)
     record {
       onward = behind-onward d at t;
       within = behind-within d at t h;
@@ -19,9 +19,6 @@ laid-wrote d at t h =
       ahead = laid-front d at t;
       behind = laid-behind d at t;
     }
-
-pub wrote : (d : List ℕ) (at : ℕ) (t : List ℕ) {r : ℕ} {e : List ℕ} → at ≤ length d → Lays d at t r e → Wrote d at r e
-wrote d at t h w = rw (w .0, w .1) (laid-wrote d at t h)
 
 -- lists that agree from a place on agree from each later place on
 further : (y z : ℕ) (l m : List ℕ) → y ≤ z → drop y l ≡ drop y m → drop z l ≡ drop z m

@@ -9,7 +9,7 @@ use crate::words::Number;
 // The bytes of the longest chunk, with its parity bytes.
 pub(crate) const CHUNK: usize = base::MOST_K + base::PARITY;
 
-// The answer, or 0 where the line is no question on chunks.
+// The answer; 0 where the line is no question on chunks or malformed.
 pub(crate) fn answer(line: &[u8], out: &mut [u8]) -> usize
     ensures { λ r. ⌜ Wrote (now (out .entry)) 0 r (now (out .exit)) ⌝ }
 {

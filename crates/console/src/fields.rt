@@ -10,7 +10,7 @@ enum Asked {
     Malformed,
 }
 
-// The answer, or 0 where the line is no question on the field.
+// The answer; 0 where the line is no question on the field or malformed.
 pub(crate) fn answer(line: &[u8], out: &mut [u8]) -> usize
     ensures { λ r. ⌜ Wrote (now (out .entry)) 0 r (now (out .exit)) ⌝ }
 {

@@ -41,7 +41,8 @@ pub fn answer(line: &[u8], out: &mut [u8]) -> usize
     n
 }
 
-// Asks the groups of questions one after another, each of which answers 0 where the line is none of its own.
+// Asks the groups of questions one after another; each answers 0, and leaves the buffer as it is,
+// where the line is none of its own or is malformed.
 fn ask_all(line: &[u8], out: &mut [u8]) -> usize
     ensures { λ r. ⌜ Wrote (now (out .entry)) 0 r (now (out .exit)) ⌝ }
 {

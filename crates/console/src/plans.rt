@@ -11,18 +11,9 @@ enum Question {
     Malformed,
 }
 
-// The answer, or 0 where the line is no question on plans.
+// `plan FEC M MTU ADDR L` is answered with the figures, or `refused N`; 0 where the line is another
+// or malformed.
 pub(crate) fn answer(line: &[u8], out: &mut [u8]) -> usize
-    ensures { λ r. ⌜ Wrote (now (out .entry)) 0 r (now (out .exit)) ⌝ }
-{
-    if words::asks(line, b"plan", 5) {
-        return answer_plan(line, out);
-    }
-    0
-}
-
-// `plan FEC M MTU ADDR L` is answered with the figures, or `refused N`.
-fn answer_plan(line: &[u8], out: &mut [u8]) -> usize
     ensures { λ r. ⌜ Wrote (now (out .entry)) 0 r (now (out .exit)) ⌝ }
 {
     let Question::Plan(settings, l) = asked(line) else {
@@ -36,6 +27,9 @@ fn answer_plan(line: &[u8], out: &mut [u8]) -> usize
 
 // The question's words; each has to say what stands in its place.
 fn asked(line: &[u8]) -> Question {
+    if !words::asks(line, b"plan", 5) {
+        return Question::Malformed;
+    }
     let Number::Of(fec) = words::decimal_to(line, 1, 1) else {
         return Question::Malformed;
     };

@@ -6,8 +6,8 @@ use native.Mathlib.Nat.{min-comm, min-eq-left, min-eq-right, min-le-left, min-le
 use native.Mathlib.Omega.{arith}
 use borrow.Author.Tests.{leb-true, leb-false}
 use lib.Dec.{leb}
-use lib.ListN.{length, take, drop, length-append, length-take}
-use lib.Seq.{length-take-le, take-at, take-all, take-nil, drop-drop, drop-append-add, take-append-add, take-append-le}
+use lib.ListN.{length, take, drop, length-append, length-take, drop-of-length-le}
+use lib.Seq.{length-take-le, take-at, drop-at, take-all, take-nil, drop-drop, drop-append-add, take-append-add, take-append-le}
 use Rattle.base.specs.Bytes.{splice}
 use Rattle.text.specs.Text.{laid, behind}
 use Rattle.base.proofs.Logic.{either}
@@ -97,6 +97,24 @@ module _ (d : List ℕ) (at : ℕ) (t : List ℕ) where
       whether at (length d)
       (λ h. rw place (splice-behind d at (take (length d - at) t) (fitting h)))
       (λ h. ap (drop (behind d at t)) (laid-past (omega arith)))
+
+  -- between stands the text, as much of it as fits
+  pub laid-here : drop at (take (behind d at t) (laid d at t)) ≡ take (length d - at) t
+  unfolding laid behind splice
+  laid-here =
+      let s : List ℕ = take (length d - at) t in
+      let rest : List ℕ = drop (at + length s) d in
+      let head : at ≤ length d → length (take at d) ≡ at = length-take-le at d in
+      let long : at ≤ length d → length (take at d ++ s) ≡ behind d at t =
+      λ h. omega (arith, length-append (take at d) s, head h, length-take (length d - at) t) in
+      let none : length d < at → length d - at ≡ 0 = λ h. omega arith in
+      whether at (length d)
+      (λ h. ap (λ (l : List ℕ). drop at (take (behind d at t) l)) (sym (append-assoc (take at d) s rest))
+      ∙ ap (drop at) (take-at (take at d ++ s) rest (behind d at t) (long h))
+      ∙ drop-at (take at d) s at (head h))
+      (λ h. ap₂ (λ (l : List ℕ) (n : ℕ). drop at (take n l)) (laid-past (omega arith)) (behind-past (omega arith))
+      ∙ drop-of-length-le (take at d) {i = at} (omega (arith, length-take at d, min-le-left at (length d)))
+      ∙ sym (ap (λ (n : ℕ). take n t) (none h)))
 
   -- the place behind is no earlier one,
   pub behind-onward : at ≤ behind d at t

@@ -1,11 +1,20 @@
--- `sums::answer_crc` meets its contract: the bytes read fit the buffer. Assumes nothing.
+-- `sums::answer` meets its contract: the bytes read fit the buffer. Assumes nothing.
 use mathlib.Core.Path.{ap}
 use native.Mathlib.Omega.{arith}
 use borrow.Author.Needs.{needs}
 use Rattle.console.specs.Sized.{sizeOf}
 use Rattle.console.proofs.Parts.{front}
-use Rattle.console.proofs.sums.answer_crc.Statement.{statement}
-use Rattle.console.proofs.sums.answer_crc.Tie as tie
+use Rattle.console.proofs.sums.answer.Statement.{statement}
+use Rattle.console.proofs.sums.answer.Tie as tie
+
+slice-aggregate-asks : tie.Need-slice-aggregate-asks
+slice-aggregate-asks c = search needs
+
+asks-requires : tie.Need-asks-requires
+asks-requires c κs = search needs
+
+returns : tie.Need-returns
+returns c = search needs
 
 nth-requires : tie.Need-nth-requires
 nth-requires c κs = search needs
@@ -22,8 +31,8 @@ enum-known-n c = search needs
 enum-told : tie.Need-enum-told
 enum-told c = search needs
 
-returns : tie.Need-returns
-returns c = search needs
+returns-2 : tie.Need-returns-2
+returns-2 c = search needs
 
 array-share-prefix-data : tie.Need-array-share-prefix-data
 array-share-prefix-data c = omega (arith, ap sizeOf (c .before .n .given .1))
@@ -49,19 +58,22 @@ bytes-requires c κs = search needs
 same-length : tie.Need-same-length
 same-length c = search needs
 
-returns-2 : tie.Need-returns-2
-returns-2 c = search needs
+returns-3 : tie.Need-returns-3
+returns-3 c = search needs
 
-pub answer-crc-spec : {M : Type 1} → statement M
-answer-crc-spec =
+pub answer-spec : {M : Type 1} → statement M
+answer-spec =
     tie.close
     (tie.spec
+    slice-aggregate-asks
+    asks-requires
+    returns
     nth-requires
     slice-aggregate-bytes-of
     bytes-of-requires
     enum-known-n
     enum-told
-    returns
+    returns-2
     array-share-prefix-data
     slice-aggregate-word
     word-requires
@@ -70,4 +82,4 @@ answer-crc-spec =
     slice-aggregate-bytes-2
     bytes-requires
     same-length
-    returns-2)
+    returns-3)
