@@ -1,0 +1,22 @@
+-- `refused_line` meets its contract. Assumes nothing.
+use borrow.Author.Needs.{needs}
+use Rattle.lister.specs.Listing.{refusedLine}
+use Rattle.lister.proofs.refused_line.Statement.{statement}
+use Rattle.lister.proofs.refused_line.Tie as tie
+
+slice-aggregate-number-line : tie.Need-slice-aggregate-number-line
+slice-aggregate-number-line c = search needs
+
+number-line-requires : tie.Need-number-line-requires
+number-line-requires c κs = search needs
+
+same-length : tie.Need-same-length
+same-length c = search needs
+
+returns : tie.Need-returns
+unfolding refusedLine
+returns c = c .before .before .number-line .ensures
+
+pub refused-line-spec : {M : Type 1} → statement M
+refused-line-spec =
+    tie.close (tie.spec slice-aggregate-number-line number-line-requires same-length returns)
