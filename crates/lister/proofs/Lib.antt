@@ -1,3 +1,4 @@
 -- What the proofs of several functions use.
 pub mod Left
 pub mod Texts
+pub mod Written

@@ -1,6 +1,9 @@
 // The listing of an AF packet: one line on the packet, one on each of its items, one on its padding.
 use af::Checked;
 use af::Figures;
+use base::LEAST_L;
+use base::MOST_L;
+use item::HEAD;
 use walk::Handed;
 use walk::Visit;
 use walk::Walker;
@@ -10,6 +13,15 @@ ghost use Rattle.text.specs.Text.{laid, behind, decimalOf};
 ghost use Rattle.walk.specs.Walk.{refusal, walkOf};
 ghost use Rattle.walk.specs.Step.{opens};
 ghost use Rattle.lister.specs.Listing.{containers, newline, headLine, itemLine, linesOf, refusedLine, payloadLines, listingOf};
+
+// A buffer as long as this holds every packet and a byte more. So a program may stop reading where it is full: a longer input is refused
+// with 21 or 22, as it would be whole.
+pub const INPUT: usize = MOST_L + 1;
+
+// A buffer as long as this holds every listing. A payload has 8,180 bytes at most, and each item's head takes 8 of them: there are 1,022 items
+// at most. The line on an item has 17 letters at most: the depth 1, the name 8, the bits 5 as they are 65,376 at most, two blanks and the end
+// of the line. The other two lines have 25 at most, as "af 65535 1.15 8180" and "pad 7" have with the ends of their lines.
+pub const LISTING: usize = (MOST_L - LEAST_L) / HEAD * 17 + 25;
 
 // The only container.
 const CONTAINERS: [u8; 4] = *b"fio_";
