@@ -12,7 +12,7 @@ use Rattle.base.specs.Answer.{Answer, granted, refused, outcome}
 use Rattle.base.specs.Bounds.{least-l}
 use Rattle.base.specs.Bytes.{splice, bytesOf}
 use Rattle.base.specs.Written.{putFault, putOf}
-use Rattle.base.proofs.Answers.{writes, leaves}
+use Rattle.base.proofs.Answers.{writes, leaves, put-is}
 use Rattle.base.proofs.Firsts.{due, skip, none-due}
 use Rattle.base.proofs.Logic.{either}
 use Rattle.base.proofs.Splice.{splice-length, splice-next, splice-start}
@@ -35,20 +35,13 @@ pub length-header : (seq : ℕ) (cf : Bool) (len : ℕ) → length (headerOf seq
 unfolding headerOf bytesOf
 length-header seq cf len = refl
 
--- a copy that fits is done
-pub put-fits : (d s y : List ℕ) (at : ℕ) (a : Answer) → at + length s ≤ length d → outcome a y ≡ putOf d at s → y ≡ splice d at s
-unfolding putOf putFault
-put-fits d s y at a h e =
-    let done : outcome (granted []) (splice d at s) ≡ putOf d at s = writes _ _ _ _ _ (skip 1 _ (le-ltb (length d) (at + length s) h) none-due) refl in
-    cc
-
 -- one copy right behind another
 pub both-put : (out x y a b : List ℕ) (n : ℕ) (p q : Answer) → length a ≡ n → n + length b ≤ length out → outcome p x ≡ putOf out 0 a
     → outcome q y ≡ putOf x n b → y ≡ splice out 0 (a ++ b)
 both-put out x y a b n p q long fits e f =
-    let is-x : x ≡ splice out 0 a = put-fits out a x 0 p (omega arith) e in
+    let is-x : x ≡ splice out 0 a = put-is out a x 0 p (omega arith) e in
     let same : length x ≡ length out = ap length is-x ∙ splice-length out 0 a (omega arith) in
-    put-fits x b y n q (omega arith) f ∙ ap (λ (l : List ℕ). splice l n b) is-x ∙ splice-next out a b n long
+    put-is x b y n q (omega arith) f ∙ ap (λ (l : List ℕ). splice l n b) is-x ∙ splice-next out a b n long
 
 -- header and payload, and the CRC field behind them, are the packet
 pub packed : (seq : ℕ) (cf : Bool) (payload out x y : List ℕ) → x ≡ splice out 0 (headerOf seq cf (length payload) ++ payload)

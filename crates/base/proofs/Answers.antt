@@ -6,7 +6,7 @@ use native.Mathlib.Nat.{not-suc-le-zero}
 use borrow.Author.Tests.{lt-ltb, le-ltb}
 use lib.Dec.{lit<}
 use lib.ListN.{length}
-use Rattle.base.specs.Answer.{granted, refused, outcome, answered, settled}
+use Rattle.base.specs.Answer.{Answer, granted, refused, outcome, answered, settled}
 use Rattle.base.specs.Bytes.{splice}
 use Rattle.base.specs.Written.{numberOf, putFault, putOf}
 use Rattle.base.specs.declared.Written.{Written}
@@ -52,3 +52,9 @@ module _ (d s : List ℕ) (at : ℕ) where
   pub put-done : (y : List ℕ) → at + length s ≤ length d → y ≡ splice d at s → outcome (numberOf Done) y ≡ putOf d at s
   unfolding numberOf putOf putFault
   put-done y h e = writes _ _ _ _ _ (skip 1 _ (le-ltb (length d) (at + length s) h) none-due) e
+
+-- what is put where there is room is spliced in, whatever was answered
+pub put-is : (d s y : List ℕ) (at : ℕ) (a : Answer) → at + length s ≤ length d → outcome a y ≡ putOf d at s → y ≡ splice d at s
+put-is d s y at a h e =
+    let done : outcome (numberOf Done) (splice d at s) ≡ putOf d at s = put-done d s at (splice d at s) h refl in
+    cc

@@ -15,8 +15,7 @@ use Rattle.base.specs.Bytes.{splice}
 use Rattle.base.specs.Tests.{first}
 use Rattle.base.specs.Written.{numberOf, putFault, putOf}
 use Rattle.base.specs.declared.Written.{Written}
-use Rattle.base.specs.declared.Written.the-variants as written
-use Rattle.base.proofs.Answers.{grants, refuses, writes, leaves, put-done}
+use Rattle.base.proofs.Answers.{grants, refuses, writes, leaves, put-is}
 use Rattle.base.proofs.Firsts.{due, skip, none-due}
 use Rattle.base.proofs.Logic.{or-left, or-right}
 use Rattle.base.proofs.Splice.{splice-next}
@@ -86,12 +85,6 @@ zeros-behind packet m h =
     let e : 0 + length packet ≡ length packet = omega arith in
     ap (λ (l : List ℕ). packet ++ l) (ap (λ (n : ℕ). drop n (replicate m 0)) e ∙ zeros-rest (length packet) m h)
 
--- what is put where there is room
-pub put-is : (d s y : List ℕ) (at : ℕ) (r : Written) → at + length s ≤ length d → outcome (numberOf r) y ≡ putOf d at s → y ≡ splice d at s
-put-is d s y at r h e =
-    let done : outcome (numberOf written.Done) (splice d at s) ≡ putOf d at s = put-done d s at _ h refl in
-    cc
-
 -- a chunk and its parity put into as many bytes
 pub encode-put : (out d p x y : List ℕ) → length out ≡ length d + 48 → length p ≡ 48 → p ≡ parityOf d
     → x ≡ splice out 0 d → y ≡ splice x (length d) p → y ≡ encode d
@@ -108,7 +101,7 @@ unfolding padded
 pad-put packet w r h e =
     let zeros : List ℕ = replicate 12288 0 in
     let fits : 0 + length packet ≤ length zeros = omega (arith, length-replicate {A = ℕ} 12288 0) in
-    let same : w ≡ splice zeros 0 packet = put-is zeros packet w 0 r fits e in
+    let same : w ≡ splice zeros 0 packet = put-is zeros packet w 0 (numberOf r) fits e in
     same ∙ zeros-behind packet 12288 h
 
 pub pad-take : (packet : List ℕ) (n m : ℕ) → length packet ≤ n → n ≤ m → take n (padded packet (m - length packet)) ≡ padded packet (n - length packet)

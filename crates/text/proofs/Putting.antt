@@ -12,9 +12,8 @@ use Rattle.base.specs.Answer.{outcome}
 use Rattle.base.specs.Bytes.{splice}
 use Rattle.base.specs.Written.{numberOf, putOf}
 use Rattle.base.specs.declared.Written.{Written}
-use Rattle.base.specs.declared.Written.the-variants.{Done}
 use Rattle.text.specs.Text.{laid, behind, letterOf, decimalOf}
-use Rattle.base.proofs.Answers.{put-done}
+use Rattle.base.proofs.Answers.{put-is}
 use Rattle.text.proofs.Laws.{Lays, whether}
 use Rattle.text.proofs.Digits.{decimal-one, decimal-more}
 
@@ -31,8 +30,7 @@ module _ (d t : List ℕ) (at n : ℕ) (fit : n ≡ min (length t) (length d - a
   put-lays y r inside e =
       let short : length (take n t) ≤ length d - at =
       omega (arith, length-take n t, min-le-left n (length t), min-le-right (length t) (length d - at)) in
-      let done : outcome (numberOf Done) (splice d at (take n t)) ≡ putOf d at (take n t) = put-done d (take n t) at _ (omega arith) refl in
-      let put : y ≡ splice d at (take n t) = cc in
+      let put : y ≡ splice d at (take n t) = put-is d (take n t) y at (numberOf r) (omega arith) e in
       (ap (λ (x : ℕ). at + x) fit, put ∙ ap (splice d at) same)
 
 -- a letter stored, and those behind it

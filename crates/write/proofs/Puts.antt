@@ -10,18 +10,11 @@ use Rattle.base.specs.Answer.{outcome}
 use Rattle.base.specs.Bytes.{splice, bytesOf}
 use Rattle.base.specs.Written.{numberOf, putOf}
 use Rattle.base.specs.declared.Written.{Written}
-use Rattle.base.specs.declared.Written.the-variants as written
-use Rattle.base.proofs.Answers.{put-done}
+use Rattle.base.proofs.Answers.{put-is}
 use Rattle.base.proofs.Numbers.{length-bytes}
 use Rattle.base.proofs.Splice.{splice-next, splice-length}
 use Rattle.item.specs.Item.{head}
 use Rattle.write.specs.Write.{trimmedBy, trimmed, unusedOf, itemBytes}
-
--- what is put where there is room
-put-is : (d s y : List ℕ) (at : ℕ) (r : Written) → at + length s ≤ length d → outcome (numberOf r) y ≡ putOf d at s → y ≡ splice d at s
-put-is d s y at r h e =
-    let done : outcome (numberOf written.Done) (splice d at s) ≡ putOf d at s = put-done d s at _ h refl in
-    cc
 
 -- the head's two numbers, one behind the other
 pub head-put : (d n b x y : List ℕ) (name bits : ℕ) (r t : Written) → head ≤ length d → n ≡ bytesOf 4 name → b ≡ bytesOf 4 bits
@@ -30,8 +23,8 @@ head-put d n b x y name bits r t h en eb p q =
     let ln : length n ≡ 4 = ap length en ∙ length-bytes 4 name in
     let lb : length b ≡ 4 = ap length eb ∙ length-bytes 4 bits in
     let fits : 0 + length n ≤ length d = omega arith in
-    let ex : x ≡ splice d 0 n = put-is d n x 0 r fits p in
-    let ey : y ≡ splice x 4 b = put-is x b y 4 t (omega (arith, ap length ex, splice-length d 0 n fits)) q in
+    let ex : x ≡ splice d 0 n = put-is d n x 0 (numberOf r) fits p in
+    let ey : y ≡ splice x 4 b = put-is x b y 4 (numberOf t) (omega (arith, ap length ex, splice-length d 0 n fits)) q in
     ey ∙ ap (λ (l : List ℕ). splice l 4 b) ex ∙ splice-next d n b 4 ln ∙ ap₂ (λ (k l : List ℕ). splice d 0 (k ++ l)) en eb
 
 set-append-add : (xs ys : List ℕ) (n a : ℕ) → set (xs ++ ys) (length xs + n) a ≡ xs ++ set ys n a
@@ -68,7 +61,7 @@ unfolding trimmedBy
 value-put d v y p r fits some e =
     let i : ℕ = length v - 1 in
     let last : head + length v - 1 ≡ head + i = omega arith in
-    let is : y ≡ splice d head v = put-is d v y head r fits e in
+    let is : y ≡ splice d head v = put-is d v y head (numberOf r) fits e in
     let byte : getD y (head + length v - 1) 0 ≡ getD v i 0 =
     ap₂ (λ (l : List ℕ) (k : ℕ). getD l k 0) is last ∙ spliced-at d head v fits i (omega arith) in
     ap (λ (b : ℕ). set y (head + length v - 1) (b - b % p)) byte
@@ -80,7 +73,7 @@ pub nothing-put : (d v y : List ℕ) (p : ℕ) (r : Written) → head + length v
     → y ≡ splice d head (trimmedBy p v)
 unfolding trimmedBy
 nothing-put d v y p r fits none e =
-    put-is d v y head r fits e ∙ ap (splice d head) (sym (set-out v (length v - 1) _ (omega arith)))
+    put-is d v y head (numberOf r) fits e ∙ ap (splice d head) (sym (set-out v (length v - 1) _ (omega arith)))
 
 -- the head and the value behind it are the item
 pub item-put : (d v x y : List ℕ) (name bits p u : ℕ) → x ≡ splice d 0 (bytesOf 4 name ++ bytesOf 4 bits) → y ≡ splice x head (trimmedBy p v)

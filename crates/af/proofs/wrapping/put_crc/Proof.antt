@@ -8,7 +8,7 @@ use Rattle.base.proofs.Numbers.{length-bytes}
 use Rattle.af.specs.Packet.{crcBytes}
 use lib.Seq.{length-take-le}
 use Rattle.af.proofs.wrapping.put_crc.Statement.{statement}
-use Rattle.af.proofs.Wraps.{put-fits}
+use Rattle.base.proofs.Answers.{put-is}
 use Rattle.af.proofs.wrapping.put_crc.Tie as tie
 
 slice-reshare-prefix-crc-for : tie.Need-slice-reshare-prefix-crc-for
@@ -36,7 +36,7 @@ returns : tie.Need-returns
 returns c =
     let a = c .before .before .before .before .before .before .before .before .before .args in
     let field = c .before .before .before .before .before .bytes2 in
-    put-fits (a .out .now) (field .result) _ (a .end) _ (omega (arith, length-bytes crcBytes (c .before .before .before .before .before .before .crc-for .result), ap length (field .ensures))) (c .before .before .put .ensures)
+    put-is (a .out .now) (field .result) _ (a .end) _ (omega (arith, length-bytes crcBytes (c .before .before .before .before .before .before .crc-for .result), ap length (field .ensures))) (c .before .before .put .ensures)
     ∙ ap (splice (a .out .now) (a .end)) (field .ensures ∙ ap (bytesOf crcBytes) (c .before .before .before .before .before .before .crc-for .ensures))
 
 pub put-crc-spec : {M : Type 1} → statement M

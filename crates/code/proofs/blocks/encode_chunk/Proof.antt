@@ -3,7 +3,8 @@ use mathlib.Core.Path.{_≡_}
 use Prim.Native.Nat.{_+_, _≤_}
 use borrow.Author.Needs.{needs}
 use lib.ListN.{length}
-use Rattle.code.proofs.CallCases.{put-is, encode-put}
+use Rattle.base.proofs.Answers.{put-is}
+use Rattle.code.proofs.CallCases.{encode-put}
 use Rattle.code.proofs.blocks.encode_chunk.Statement.{statement}
 use Rattle.code.proofs.blocks.encode_chunk.Tie as tie
 
@@ -31,7 +32,7 @@ returns c =
     let lx : length x ≡ length (a .out .now) = search needs in
     let one : 0 + length (a .d .now) ≤ length (a .out .now) = search needs in
     let two : length (a .d .now) + length p ≤ length x = search needs in
-    encode-put (a .out .now) (a .d .now) p x (c .before .before .put2 .last .0) (c .before .before .before .before .before .before .before .before .before .before .before .before .pre .1) lp (c .before .before .before .before .before .before .before .before .before .parity-of .ensures) (put-is (a .out .now) (a .d .now) x 0 (c .before .before .before .before .before .before .before .put .result) one (c .before .before .before .before .before .before .before .put .ensures)) (put-is x p (c .before .before .put2 .last .0) (length (a .d .now)) (c .before .before .put2 .result) two (c .before .before .put2 .ensures))
+    encode-put (a .out .now) (a .d .now) p x (c .before .before .put2 .last .0) (c .before .before .before .before .before .before .before .before .before .before .before .before .pre .1) lp (c .before .before .before .before .before .before .before .before .before .parity-of .ensures) (put-is (a .out .now) (a .d .now) x 0 _ one (c .before .before .before .before .before .before .before .put .ensures)) (put-is x p (c .before .before .put2 .last .0) (length (a .d .now)) _ two (c .before .before .put2 .ensures))
 
 pub encode-chunk-spec : {M : Type 1} → statement M
 encode-chunk-spec =
