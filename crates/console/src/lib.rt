@@ -3,6 +3,8 @@
 // call ends, and that nothing behind the answer changes, is proved.
 mod chunks;
 mod fields;
+mod items;
+mod packets;
 mod plans;
 mod replies;
 mod sums;
@@ -15,10 +17,13 @@ ghost use Rattle.console.specs.Wrote.{Wrote};
 // what does not fit: a full buffer is answered `unknown`.
 pub const LINE: usize = 2 * words::BYTES + 512;
 
-// A buffer as long as this holds every answer, and a program lends one: the longest is `filled ` and
-// the longest chunk, two digits a byte. Of an answer that does not fit a shorter buffer, what fits is
-// written.
-pub const ANSWER: usize = 7 + 2 * chunks::CHUNK;
+// A buffer as long as this holds every answer, and a program lends one. Of an answer that does not fit
+// a shorter buffer, what fits is written. No answer is longer than that to `walk`: `walk`, for each item
+// at most 18 letters, as in ` 0:6162635f:262080`, and ` end 0`; an item has a head of 8 bytes of its own.
+// The answer to `items` has at most 2 letters for each byte of the packet, and 13 more: 16 for a head, as
+// in ` 6162635f:80000:`, one more for an item of over 99,999 bits, of which a packet holds two, `items` and
+// ` end 0`. The other answers that tell of bytes have 2 letters for each, and at most 13 more.
+pub const ANSWER: usize = 18 * (words::BYTES / 8) + 10;
 
 // Answers one line, without its newline, at the front of out, without a newline, and says how many
 // bytes the answer has: 0 for an empty line and for a comment.
@@ -58,5 +63,13 @@ fn ask_all(line: &[u8], out: &mut [u8]) -> usize
     if element != 0 {
         return element;
     }
-    chunks::answer(line, out)
+    let chunk = chunks::answer(line, out);
+    if chunk != 0 {
+        return chunk;
+    }
+    let packet = packets::answer(line, out);
+    if packet != 0 {
+        return packet;
+    }
+    items::answer(line, out)
 }

@@ -1,6 +1,8 @@
 // What several answers are made of.
 ghost use mathlib.Core.Path.{_≡_};
 ghost use mathlib.Core.List.{_++_};
+ghost use Prim.Native.Nat.{_≤_};
+ghost use lib.ListN.{length};
 ghost use Rattle.text.specs.Text.{laid, behind, decimalOf};
 ghost use Rattle.console.specs.Wrote.{Wrote};
 
@@ -46,4 +48,38 @@ pub(crate) fn refused(out: &mut [u8], by: u8) -> usize
     ensures { λ r. ⌜ Wrote (now (out .entry)) 0 r (now (out .exit)) ⌝ }
 {
     number(out, b"refused ", by as usize)
+}
+
+// Bytes behind a label, `-` for none.
+pub(crate) fn value(out: &mut [u8], at: usize, label: &[u8], raw: &[u8]) -> usize
+    requires { ⌜ at ≤ length (now out) ⌝ }
+    ensures { λ r. ⌜ Wrote (now (out .entry)) at r (now (out .exit)) ⌝ }
+{
+    let to = text::plain(out, at, label);
+    if raw.len() == 0 {
+        return text::plain(out, to, b"-");
+    }
+    text::hex(out, to, raw)
+}
+
+// The n bytes that a call wrote at the front of a buffer, behind the answer's name, or its refusal. No
+// call writes more than it was lent, and where one did there would be no answer.
+pub(crate) fn written(
+    out: &mut [u8],
+    name: &[u8],
+    by: base::Written,
+    buffer: &[u8],
+    n: usize,
+) -> usize
+    ensures { λ r. ⌜ Wrote (now (out .entry)) 0 r (now (out .exit)) ⌝ }
+{
+    match by {
+        base::Written::Done => {
+            if buffer.len() < n {
+                return 0;
+            }
+            bytes(out, name, &buffer[..n])
+        }
+        base::Written::Refused(number) => refused(out, number),
+    }
 }

@@ -19,6 +19,18 @@ pub(crate) enum Pair {
     Malformed,
 }
 
+// What a word says where an item's name is asked.
+pub(crate) enum Name {
+    Of(u32),
+    Malformed,
+}
+
+// A buffer to lend. A function of its own, so that a caller's proof has a name for the array and not
+// its elements.
+pub(crate) fn zeros() -> [u8; BYTES] {
+    [0u8; BYTES]
+}
+
 // How many blanks the line has: as many as words follow its first.
 fn blanks(line: &[u8]) -> usize {
     let mut count = 0;
@@ -198,4 +210,16 @@ pub(crate) fn address(word: &[u8]) -> Pair {
         source: base::read2(&four, 0),
         dest: base::read2(&four, 2),
     })
+}
+
+// The name of an item that the word with that number says: four bytes.
+pub(crate) fn name_at(line: &[u8], at: usize) -> Name {
+    let mut four = [0u8; 4];
+    let Number::Of(n) = bytes_of(nth(line, at), &mut four) else {
+        return Name::Malformed;
+    };
+    if n != 4 {
+        return Name::Malformed;
+    }
+    Name::Of(base::read4(&four, 0))
 }
