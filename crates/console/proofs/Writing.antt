@@ -37,6 +37,10 @@ chain {a} {b} {c} {x} {y} {z} p q =
       behind = q .behind ∙ further y z b a (q .onward) (p .behind);
     }
 
+-- a text that goes on where a writer stopped
+pub goes : {a b c : List ℕ} {x y z : ℕ} (t : List ℕ) → Wrote a x y b → Lays b y t z c → Wrote a x z c
+goes {a} {b} {c} {x} {y} {z} t p w = chain p (wrote b y t (omega arith) w)
+
 -- an answer of a group that is asked where another has none
 pub next : {a b c : List ℕ} {x y : ℕ} → Wrote a 0 x b → x ≡ 0 → Wrote b 0 y c → Wrote a 0 y c
 next p none q = chain (rw none at p) q

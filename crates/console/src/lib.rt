@@ -18,11 +18,12 @@ ghost use Rattle.console.specs.Wrote.{Wrote};
 pub const LINE: usize = 2 * words::BYTES + 512;
 
 // A buffer as long as this holds every answer, and a program lends one. Of an answer that does not fit
-// a shorter buffer, what fits is written. No answer is longer than that to `walk`: `walk`, for each item
-// at most 18 letters, as in ` 0:6162635f:262080`, and ` end 0`; an item has a head of 8 bytes of its own.
-// The answer to `items` has at most 2 letters for each byte of the packet, and 13 more: 16 for a head, as
-// in ` 6162635f:80000:`, one more for an item of over 99,999 bits, of which a packet holds two, `items` and
-// ` end 0`. The other answers that tell of bytes have 2 letters for each, and at most 13 more.
+// a shorter buffer, what fits is written. The answer to `walk` has `walk`, for each item at most 18
+// letters, as in ` 0:6162635f:262080`, and ` end 0`, and each item has a head of 8 bytes of its own. No
+// other answer may be as long: that to `items` has at most 2 letters for each byte of the packet and 13
+// more, which are `items`, ` end 0`, and one for each item of over 99,999 bits, of which there are two at
+// most (with 5 digits, a head of 8 bytes has 16 letters, as in ` 6162635f:80000:`). The rest have 2
+// letters for each byte that they tell of, and 13 more at most, or list a packet of at most 8,192 bytes.
 pub const ANSWER: usize = 18 * (words::BYTES / 8) + 10;
 
 // Answers one line, without its newline, at the front of out, without a newline, and says how many
@@ -51,6 +52,21 @@ pub fn answer(line: &[u8], out: &mut [u8]) -> usize
 fn ask_all(line: &[u8], out: &mut [u8]) -> usize
     ensures { λ r. ⌜ Wrote (now (out .entry)) 0 r (now (out .exit)) ⌝ }
 {
+    let figure = ask_figures(line, out);
+    if figure != 0 {
+        return figure;
+    }
+    let packet = packets::answer(line, out);
+    if packet != 0 {
+        return packet;
+    }
+    items::answer(line, out)
+}
+
+// The groups on what the layers stand on: sums, the sizes of a cut, the field and the code.
+fn ask_figures(line: &[u8], out: &mut [u8]) -> usize
+    ensures { λ r. ⌜ Wrote (now (out .entry)) 0 r (now (out .exit)) ⌝ }
+{
     let sum = sums::answer(line, out);
     if sum != 0 {
         return sum;
@@ -63,13 +79,5 @@ fn ask_all(line: &[u8], out: &mut [u8]) -> usize
     if element != 0 {
         return element;
     }
-    let chunk = chunks::answer(line, out);
-    if chunk != 0 {
-        return chunk;
-    }
-    let packet = packets::answer(line, out);
-    if packet != 0 {
-        return packet;
-    }
-    items::answer(line, out)
+    chunks::answer(line, out)
 }

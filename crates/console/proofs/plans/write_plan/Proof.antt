@@ -3,7 +3,7 @@ use Prim.Native.Nat.{_≤_, _-_}
 use native.Mathlib.Omega.{arith}
 use borrow.Author.Needs.{needs}
 use Rattle.console.specs.Wrote.{Wrote}
-use Rattle.console.proofs.Writing.{wrote, chain}
+use Rattle.console.proofs.Writing.{chain, goes}
 use Rattle.console.proofs.plans.write_plan.Statement.{statement}
 use Rattle.console.proofs.plans.write_plan.Tie as tie
 
@@ -44,7 +44,7 @@ loop-less : tie.Need-loop-less Inv-loop μ-loop
 loop-less c = search needs
 
 loop-again : tie.Need-loop-again Inv-loop μ-loop
-loop-again c = (omega arith, chain (c .before .before .before .before .before .before .loop .inv .1) (wrote (c .before .before .before .before .before .before .loop .out) (c .before .before .before .before .before .before .loop .at) _ (omega arith) (c .before .before .labelled .ensures)))
+loop-again c = (omega arith, goes _ (c .before .before .before .before .before .before .loop .inv .1) (c .before .before .labelled .ensures))
 
 same-length : tie.Need-same-length Inv-loop μ-loop
 same-length c = search needs

@@ -1,0 +1,105 @@
+-- `items::answer_find` meets its contract: the bytes read fit the buffer. Assumes nothing.
+use mathlib.Core.Path.{ap}
+use native.Mathlib.Omega.{arith}
+use borrow.Author.Needs.{needs}
+use Rattle.console.specs.Sized.{sizeOf}
+use Rattle.console.proofs.Parts.{front}
+use Rattle.console.proofs.items.answer_find.Statement.{statement}
+use Rattle.console.proofs.items.answer_find.Tie as tie
+
+name-at-requires : tie.Need-name-at-requires
+name-at-requires c κs = search needs
+
+enum-known-name : tie.Need-enum-known-name
+enum-known-name c = search needs
+
+enum-told : tie.Need-enum-told
+enum-told c = search needs
+
+returns : tie.Need-returns
+returns c = search needs
+
+nth-requires : tie.Need-nth-requires
+nth-requires c κs = search needs
+
+slice-aggregate-bytes-of : tie.Need-slice-aggregate-bytes-of
+slice-aggregate-bytes-of c = search needs
+
+bytes-of-requires : tie.Need-bytes-of-requires
+bytes-of-requires c κs = search needs
+
+enum-known-n : tie.Need-enum-known-n
+enum-known-n c = search needs
+
+enum-told-2 : tie.Need-enum-told-2
+enum-told-2 c = search needs
+
+returns-2 : tie.Need-returns-2
+returns-2 c = search needs
+
+nth-requires-2 : tie.Need-nth-requires-2
+nth-requires-2 c κs = search needs
+
+slice-aggregate-bytes-of-2 : tie.Need-slice-aggregate-bytes-of-2
+slice-aggregate-bytes-of-2 c = search needs
+
+bytes-of-requires-2 : tie.Need-bytes-of-requires-2
+bytes-of-requires-2 c κs = search needs
+
+enum-known-m : tie.Need-enum-known-m
+enum-known-m c = search needs
+
+enum-told-3 : tie.Need-enum-told-3
+enum-told-3 c = search needs
+
+returns-3 : tie.Need-returns-3
+returns-3 c = search needs
+
+array-share-prefix-packet : tie.Need-array-share-prefix-packet
+array-share-prefix-packet c = omega (arith, ap sizeOf (c .before .before .before .before .before .before .before .before .before .n .given .1))
+
+slice-aggregate-write-found : tie.Need-slice-aggregate-write-found
+slice-aggregate-write-found c = front _ _ (array-share-prefix-packet (c .before))
+
+array-share-prefix-standing : tie.Need-array-share-prefix-standing
+array-share-prefix-standing c = omega (arith, ap sizeOf (c .before .before .before .m .given .1))
+
+slice-aggregate-write-found-2 : tie.Need-slice-aggregate-write-found-2
+slice-aggregate-write-found-2 c = front _ _ (array-share-prefix-standing (c .before))
+
+write-found-requires : tie.Need-write-found-requires
+write-found-requires c κs = search needs
+
+same-length : tie.Need-same-length
+same-length c = search needs
+
+returns-4 : tie.Need-returns-4
+returns-4 c = search needs
+
+pub answer-find-spec : {M : Type 1} → statement M
+answer-find-spec =
+    tie.close
+    (tie.spec
+    name-at-requires
+    enum-known-name
+    enum-told
+    returns
+    nth-requires
+    slice-aggregate-bytes-of
+    bytes-of-requires
+    enum-known-n
+    enum-told-2
+    returns-2
+    nth-requires-2
+    slice-aggregate-bytes-of-2
+    bytes-of-requires-2
+    enum-known-m
+    enum-told-3
+    returns-3
+    array-share-prefix-packet
+    slice-aggregate-write-found
+    array-share-prefix-standing
+    slice-aggregate-write-found-2
+    write-found-requires
+    same-length
+    returns-4)

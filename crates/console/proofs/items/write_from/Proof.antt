@@ -1,0 +1,83 @@
+-- `items::write_from` meets its contract: at each turn the items so far stand behind the word. Its turns fall. Assumes nothing.
+use borrow.Author.Needs.{needs}
+use Rattle.console.specs.Wrote.{Wrote}
+use Rattle.console.proofs.Writing.{chain}
+use Rattle.console.proofs.items.write_from.Statement.{statement}
+use Rattle.console.proofs.items.write_from.Tie as tie
+
+abbrev Inv-loop : tie.InvT-loop
+Inv-loop out₀ packet from to₀ at₀ left₀ out to at left = Wrote out₀ to₀ to out
+
+abbrev μ-loop : tie.MeasureT-loop
+μ-loop out₀ packet from to₀ at₀ left₀ out to at left = left
+
+slice-aggregate-word : tie.Need-slice-aggregate-word Inv-loop μ-loop
+slice-aggregate-word c = search needs
+
+word-requires : tie.Need-word-requires Inv-loop μ-loop
+word-requires c κs = search needs
+
+turns-requires : tie.Need-turns-requires Inv-loop μ-loop
+turns-requires c κs = search needs
+
+loop-holds : tie.Need-loop-holds Inv-loop μ-loop
+loop-holds c = search needs
+
+read-at-requires : tie.Need-read-at-requires Inv-loop μ-loop
+read-at-requires c κs = search needs
+
+enum-known-step : tie.Need-enum-known-step Inv-loop μ-loop
+enum-known-step c = search needs
+
+write-end-requires : tie.Need-write-end-requires Inv-loop μ-loop
+write-end-requires c κs = search needs
+
+same-length : tie.Need-same-length Inv-loop μ-loop
+same-length c = search needs
+
+returns : tie.Need-returns Inv-loop μ-loop
+returns c = chain (c .before .before .before .before .before .before .before .before .before .before .before .word .ensures) (chain (c .before .before .before .before .before .before .before .loop .inv) (c .before .before .write-end .ensures))
+
+write-item-requires : tie.Need-write-item-requires Inv-loop μ-loop
+write-item-requires c κs = search needs
+
+read-after-requires : tie.Need-read-after-requires Inv-loop μ-loop
+read-after-requires c κs = search needs
+
+sub-left : tie.Need-sub-left Inv-loop μ-loop
+sub-left c = search needs
+
+loop-less : tie.Need-loop-less Inv-loop μ-loop
+loop-less c = search needs
+
+loop-again : tie.Need-loop-again Inv-loop μ-loop
+loop-again c = chain (c .before .before .before .before .before .before .before .before .before .before .loop .inv) (c .before .before .before .write-item .ensures)
+
+same-length-2 : tie.Need-same-length-2 Inv-loop μ-loop
+same-length-2 c = search needs
+
+returns-2 : tie.Need-returns-2 Inv-loop μ-loop
+returns-2 c = chain (c .before .before .before .before .before .word .ensures) (c .before .loop .inv)
+
+pub write-from-spec : {M : Type 1} → statement M
+write-from-spec =
+    tie.close
+    (tie.spec
+    Inv-loop
+    μ-loop
+    slice-aggregate-word
+    word-requires
+    turns-requires
+    loop-holds
+    read-at-requires
+    enum-known-step
+    write-end-requires
+    same-length
+    returns
+    write-item-requires
+    read-after-requires
+    sub-left
+    loop-less
+    loop-again
+    same-length-2
+    returns-2)

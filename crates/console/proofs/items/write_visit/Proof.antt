@@ -1,0 +1,39 @@
+-- `items::write_visit` meets its contract: the name goes on where the depth stops. Assumes nothing.
+use native.Mathlib.Omega.{arith}
+use borrow.Author.Needs.{needs}
+use Rattle.console.proofs.Writing.{wrote, chain}
+use Rattle.console.proofs.items.write_visit.Statement.{statement}
+use Rattle.console.proofs.items.write_visit.Tie as tie
+
+slice-aggregate-labelled : tie.Need-slice-aggregate-labelled
+slice-aggregate-labelled c = search needs
+
+labelled-requires : tie.Need-labelled-requires
+labelled-requires c κs = search needs
+
+slice-aggregate-write-head : tie.Need-slice-aggregate-write-head
+slice-aggregate-write-head c = search needs
+
+write-head-requires : tie.Need-write-head-requires
+write-head-requires c κs =
+    let a = c .before .before .before .before .before .before .before .before .before .args in
+    let w = wrote (a .out .now) (a .at) _ (omega arith) (c .before .before .before .before .before .labelled .ensures) in omega (arith, w .within, w .same)
+
+same-length : tie.Need-same-length
+same-length c = search needs
+
+returns : tie.Need-returns
+returns c =
+    let a = c .before .before .before .before .before .before .before .before .before .before .before .before .args in
+    chain (wrote (a .out .now) (a .at) _ (omega arith) (c .before .before .before .before .before .before .before .before .labelled .ensures)) (c .before .before .write-head .ensures)
+
+pub write-visit-spec : {M : Type 1} → statement M
+write-visit-spec =
+    tie.close
+    (tie.spec
+    slice-aggregate-labelled
+    labelled-requires
+    slice-aggregate-write-head
+    write-head-requires
+    same-length
+    returns)

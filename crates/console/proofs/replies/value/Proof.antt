@@ -1,0 +1,47 @@
+-- `replies::value` meets its contract: the bytes go on where the label stops. Assumes nothing.
+use native.Mathlib.Omega.{arith}
+use borrow.Author.Needs.{needs}
+use Rattle.console.proofs.Writing.{wrote, goes}
+use Rattle.console.proofs.replies.value.Statement.{statement}
+use Rattle.console.proofs.replies.value.Tie as tie
+
+plain-requires : tie.Need-plain-requires
+plain-requires c κs = search needs
+
+slice-aggregate-plain : tie.Need-slice-aggregate-plain
+slice-aggregate-plain c = search needs
+
+plain-requires-2 : tie.Need-plain-requires-2
+plain-requires-2 c κs = search needs
+
+same-length : tie.Need-same-length
+same-length c = search needs
+
+returns : tie.Need-returns
+returns c =
+    let a = c .before .before .before .before .before .before .before .before .before .before .before .before .before .args in
+    goes _ (wrote (a .out .now) (a .at) _ (omega arith) (c .before .before .before .before .before .before .before .before .plain .ensures)) (c .before .before .plain2 .ensures)
+
+hex-requires : tie.Need-hex-requires
+hex-requires c κs = search needs
+
+same-length-2 : tie.Need-same-length-2
+same-length-2 c = search needs
+
+returns-2 : tie.Need-returns-2
+returns-2 c =
+    let a = c .before .before .before .before .before .before .before .before .before .before .before .before .args in
+    goes _ (wrote (a .out .now) (a .at) _ (omega arith) (c .before .before .before .before .before .before .before .plain .ensures)) (c .before .before .hex .ensures)
+
+pub value-spec : {M : Type 1} → statement M
+value-spec =
+    tie.close
+    (tie.spec
+    plain-requires
+    slice-aggregate-plain
+    plain-requires-2
+    same-length
+    returns
+    hex-requires
+    same-length-2
+    returns-2)
