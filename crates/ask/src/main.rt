@@ -13,9 +13,15 @@ enum Held {
     Nothing,
 }
 
+// Room for an answer and its newline. A function of its own, so that a proof has a name for the array
+// and not its elements.
+fn room() -> [u8; console::ANSWER + 1] {
+    [0u8; console::ANSWER + 1]
+}
+
 // Answers one line, and says whether the output took it.
 fn reply(line: &[u8]) -> bool {
-    let mut out = [0u8; console::ANSWER + 1];
+    let mut out = room();
     let n = console::answer(line, &mut out[..console::ANSWER]);
     if n == 0 {
         return true;

@@ -1,14 +1,18 @@
 -- `ask::reply` is safe: the answer leaves room for the newline. Assumes nothing.
+use native.Mathlib.Omega.{arith}
 use borrow.Author.Needs.{needs}
 use Rattle.ask.proofs.Parts.{front, closed}
 use Rattle.ask.proofs.reply.Statement.{statement}
 use Rattle.ask.proofs.reply.Tie as tie
 
+room-requires : tie.Need-room-requires
+room-requires c κs = search needs
+
 array-borrow-prefix-out : tie.Need-array-borrow-prefix-out
 array-borrow-prefix-out c = search needs
 
 slice-aggregate-answer : tie.Need-slice-aggregate-answer
-slice-aggregate-answer c = search needs
+slice-aggregate-answer c = front _ (c .before .room .result) (array-borrow-prefix-out (c .before))
 
 answer-requires : tie.Need-answer-requires
 answer-requires c κs = search needs
@@ -17,16 +21,17 @@ returns : tie.Need-returns
 returns c = search needs
 
 array-write-out : tie.Need-array-write-out
-array-write-out c = search needs
+array-write-out c = omega (arith, c .before .before .answer .ensures .within, slice-aggregate-answer (c .before .before .before))
 
 add-out : tie.Need-add-out
-add-out c = search needs
+add-out c = omega (arith, c .before .before .answer .ensures .within, slice-aggregate-answer (c .before .before .before))
 
 array-share-prefix-out : tie.Need-array-share-prefix-out
-array-share-prefix-out c = closed 10 0 (c .before .before .answer .ensures)
+array-share-prefix-out c =
+    closed 10 (c .before .before .before .before .room .result) (slice-aggregate-answer (c .before .before .before)) (omega arith) (c .before .before .answer .ensures)
 
 slice-aggregate-write-all : tie.Need-slice-aggregate-write-all
-slice-aggregate-write-all c = front _ _ (closed 10 0 (c .before .before .before .answer .ensures))
+slice-aggregate-write-all c = front _ _ (array-share-prefix-out (c .before))
 
 write-all-requires : tie.Need-write-all-requires
 write-all-requires c κs = search needs
@@ -38,6 +43,7 @@ pub reply-spec : {M : Type 1} → statement M
 reply-spec =
     tie.close
     (tie.spec
+    room-requires
     array-borrow-prefix-out
     slice-aggregate-answer
     answer-requires
