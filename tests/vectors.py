@@ -3,8 +3,8 @@
     python3 tests/vectors.py
 
 The answers come from crc.txt (made by a peer), from plans.py and fields.py (computed from document 01), from chunks.py (of
-parity.txt, made by a peer) and from the lists below.
-None is taken from the program. Running this again gives the same bytes.
+parity.txt, made by a peer), from packets.py (written out beside the sentence of document 01 that gives it, or by its own reader) and from
+the lists below. None is taken from the program. Running this again gives the same bytes.
 """
 import pathlib
 import sys
@@ -12,6 +12,7 @@ import sys
 sys.dont_write_bytecode = True
 import chunks
 import fields
+import packets
 import plans
 
 HERE = pathlib.Path(__file__).resolve().parent
@@ -149,6 +150,59 @@ def whole_chunks():
             ask(question, answer)
 
 
+def packets_and_items():
+    for title, part in packets.EDGES:
+        silent("# " + title)
+        before = None
+        for sentence, question, answer in part():
+            if sentence != before:
+                silent("# " + sentence)
+            before = sentence
+            assert packets.computed(question) == answer, question
+            ask(question, answer)
+    silent("# a spread of packets")
+    for question, answer in packets.spread_questions():
+        ask(question, answer)
+
+
+def ask_packet(*words):
+    question = " ".join(packets.hexed(word) if isinstance(word, bytes) else str(word) for word in words)
+    ask(question, packets.computed(question))
+
+
+def longest_packets():
+    none, name, filler = bytes(4), b"abcd", b"*dmy"
+    head = len(packets.item(name, 0, b""))
+    most = MOST_BYTES - head
+    silent("# the longest packets: one value, two values, which have the longest answer, and as many items as fit, each with another name")
+    values = [bytes(i * i % (251 - k) for i in range(n)) for k, n in enumerate((most, most // 2 - head // 2, most // 2 - head // 2))]
+    ask_packet("items", packets.whole(name, values[0]))
+    ask_packet("items", packets.whole(name, values[1]) + packets.whole(none, values[2]))
+    heads = b"".join(packets.item(i.to_bytes(4, "big"), 0, b"") for i in range(MOST_BYTES // head))
+    ask_packet("items", heads)
+    ask_packet("walk", none, heads)
+    ask_packet("walk", filler, packets.nested(4, filler) * (MOST_BYTES // (5 * head)) + packets.item(name, 0, b""))
+    ask_packet("walk", filler, packets.nested(3, filler, packets.item(filler, 0, b"") * (MOST_BYTES // head - 4)))
+    ask_packet("items", heads[:-head] + heads[:head])
+    silent("# one byte more")
+    more = "00" * (MOST_BYTES + 1)
+    for question in (f"items {more}", f"walk {more} -", f"find 61626364 - {more}", f"afwrap 0 1 32768 {more}"):
+        ask(question, "unknown")
+    silent("# the other questions with the most bytes, and the most room")
+    ask_packet("item", name, 8 * most, MOST_BYTES, values[0])
+    ask_packet("item", name, 8 * most, MOST_BYTES - 1, values[0])
+    ask_packet("item", name, 8 * MOST_BYTES, MOST_BYTES, bytes(MOST_BYTES))
+    ask_packet("find", name, packets.whole(name, values[0]), b"")
+    ask_packet("find", name, b"", packets.whole(name, values[0]))
+    ask_packet("find", none, packets.whole(name, values[1]), packets.whole(none, values[2]))
+    ask_packet("walk", heads, b"")
+    ask_packet("afwrap", 65535, 1, MOST_BYTES, bytes(MOST_BYTES))
+    ask_packet("afwrap", 65535, 1, MOST_BYTES, values[0][:8180])
+    ask_packet("list", packets.af(bytes(MOST_BYTES - 12)))
+    silent("# the longest listing")
+    ask_packet("list", packets.af(heads[:8176], seq=65535, minor=15))
+
+
 MALFORMED = """\
 mul
 mul 1
@@ -249,6 +303,8 @@ def malformed():
         if number % 20 == 7:
             silent("")
         ask(line, "unknown")
+    for question, answer in packets.malformed_questions():
+        ask(question, answer)
     silent("# blanks too many, carriage returns, tabs, bytes that are no letters")
     for line in (b" ", b"  ", b" crc 00", b"crc ", b"crc  00", b"crc 00 ", b"crc  ", b"crc\t00", b"crc 00\r", b"\r", b" # no comment",
                  b"crc 00\x00", b"\x00", b"\xff\xfe", b"crc \xb0\xb0", b" plan 1 2 1400 - 12", b"plan  1 2 1400 - 12", b"plan 1 2  1400 - 12",
@@ -272,7 +328,7 @@ def long_lines():
 
 
 def main():
-    for part in (sums, sizes, settings, counts, ordinary, elements, whole_chunks, malformed, long_lines):
+    for part in (sums, sizes, settings, counts, ordinary, elements, whole_chunks, packets_and_items, longest_packets, malformed, long_lines):
         part()
         silent("")
     questions.pop()
