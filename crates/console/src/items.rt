@@ -136,7 +136,7 @@ fn write_walk(out: &mut [u8], packet: &[u8], names: &[u8]) -> usize
 }
 
 // How often a reader or a walk can step: each item has a head, and the end comes behind the last. A
-// proved loop has to end, so those below count these turns, and no packet uses them up.
+// proved loop has to end, so those below count these turns down, and no packet takes more.
 fn turns(packet: &[u8]) -> usize {
     packet.len() / item::HEAD + 1
 }
