@@ -1,0 +1,5 @@
+pub mod Fields
+pub mod Checks
+pub mod Lays
+pub mod ReadBack
+pub mod Proved

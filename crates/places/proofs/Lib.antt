@@ -1,0 +1,5 @@
+pub mod Records
+pub mod Checks
+pub mod Ranges
+pub mod Turns
+pub mod Proved

@@ -1,0 +1,14 @@
+-- `is_free` meets its contract. Assumes nothing.
+use borrow.Author.Needs.{needs}
+use Rattle.places.proofs.Records.{free-by}
+use Rattle.places.proofs.record.is_free.Statement.{statement}
+use Rattle.places.proofs.record.is_free.Tie as tie
+
+place-at-requires : tie.Need-place-at-requires
+place-at-requires c κs = search needs
+
+returns : tie.Need-returns
+returns c = free-by _ _ (c .before .place-at .ensures)
+
+pub is-free-spec : {M : Type 1} → statement M
+is-free-spec = tie.close (tie.spec place-at-requires returns)

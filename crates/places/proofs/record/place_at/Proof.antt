@@ -1,0 +1,32 @@
+-- `place_at` meets its contract. Assumes nothing.
+use mathlib.Core.Path.{_≡_}
+use native.Mathlib.Omega.{arith}
+use borrow.Author.Needs.{needs}
+use lib.ListN.{length}
+use Rattle.places.specs.Places.{four}
+use Rattle.places.proofs.Records.{as-long, place-within, place-past}
+use Rattle.places.proofs.record.place_at.Statement.{statement}
+use Rattle.places.proofs.record.place_at.Tie as tie
+
+mul-result : tie.Need-mul-result
+mul-result c = search needs
+
+array-copy-out-result : tie.Need-array-copy-out-result
+array-copy-out-result c = search needs
+
+returns : tie.Need-returns
+returns c =
+    let long : length (c .before .before .before .args .t .places) ≡ four = as-long (c .before .before .before .args .t .places) _ (c .before .before .before .good .0 .1 .1 .0 .1 .0 .1) in
+    place-within (c .before .before .before .args .t) (c .before .before .before .args .i) _ (omega (arith, long))
+
+free-place-requires : tie.Need-free-place-requires
+free-place-requires c κs = search needs
+
+returns-2 : tie.Need-returns-2
+returns-2 c =
+    let long : length (c .before .before .before .args .t .places) ≡ four = as-long (c .before .before .before .args .t .places) _ (c .before .before .before .good .0 .1 .1 .0 .1 .0 .1) in
+    place-past (c .before .before .before .args .t) (c .before .before .before .args .i) (omega (arith, long)) (c .free-place .ensures)
+
+pub place-at-spec : {M : Type 1} → statement M
+place-at-spec =
+    tie.close (tie.spec mul-result array-copy-out-result returns free-place-requires returns-2)

@@ -1,0 +1,11 @@
+pub mod Checks
+pub mod FragmentLengths
+pub mod PlannedFigures
+pub mod PayloadPlaces
+pub mod Laying
+pub mod Run
+pub mod Cases
+pub mod Headers
+pub mod Joining
+pub mod OneAnswer
+pub mod Proved

@@ -1,0 +1,84 @@
+-- `send_one` meets its contract: each return is the law for its number. Assumes nothing.
+use mathlib.Core.Path.{sym}
+use native.Mathlib.Omega.{arith}
+use borrow.Author.Needs.{needs}
+use lib.Seq.{length-take-le}
+use Rattle.sender.specs.Calls.{sentNumber}
+use Rattle.sender.proofs.Cases as cases
+use Rattle.sender.proofs.PlannedFigures as figures
+use Rattle.sender.proofs.calls.send_one.Statement.{statement}
+use Rattle.sender.proofs.calls.send_one.Tie as tie
+
+returns : tie.Need-returns
+unfolding sentNumber
+returns c =
+    let a = c .before .before .before .before .args in
+    cases.one-42 (a .g) (a .number) (a .packet .now) (a .out .now) (a .index) (c .before .before .before .before .pre .passed) (omega (arith, c .if1 .taken, figures.is-f (a .g) (a .packet .now) (a .p) (c .before .before .before .before .pre)))
+
+payload-length-requires : tie.Need-payload-length-requires
+payload-length-requires c κs =
+    let a = c .before .before .before .before .args in
+    (c .before .before .before .before .pre, figures.asked (a .g) (a .packet .now) (a .p) (c .before .before .before .before .pre) (a .index) (c .if1 .left))
+
+add-size : tie.Need-add-size
+add-size c =
+    let a = c .before .before .before .before .before .before .args in
+    omega (arith, figures.h-most (a .g) (a .packet .now) (a .p) (c .before .before .before .before .before .before .pre), c .before .payload-length .ensures .1)
+
+returns-2 : tie.Need-returns-2
+unfolding sentNumber
+returns-2 c =
+    let a = c .before .before .before .before .before .before .before .args in
+    let less = figures.asked (a .g) (a .packet .now) (a .p) (c .before .before .before .before .before .before .before .pre) (a .index) (c .before .before .before .if1 .left) in
+    let size = figures.size-is (a .g) (a .packet .now) (a .p) (c .before .before .before .before .before .before .before .pre) (a .number) (a .index) _ (c .before .before .payload-length .ensures .0) in
+    cases.one-1 (a .g) (a .number) (a .packet .now) (a .out .now) (a .index) (c .before .before .before .before .before .before .before .pre .passed) less (omega (arith, size, c .if2 .taken))
+
+slice-aggregate-lay-block : tie.Need-slice-aggregate-lay-block
+slice-aggregate-lay-block c = search needs
+
+lay-block-requires : tie.Need-lay-block-requires
+lay-block-requires c κs = search needs
+
+array-share-prefix-block : tie.Need-array-share-prefix-block
+array-share-prefix-block c =
+    let a = c .before .before .before .before .before .before .before .before .before .before .args in
+    omega (arith, figures.total-most (a .g) (a .packet .now) (a .p) (c .before .before .before .before .before .before .before .before .before .before .pre))
+
+slice-aggregate-put-fragment : tie.Need-slice-aggregate-put-fragment
+slice-aggregate-put-fragment c =
+    let a = c .before .before .before .before .before .before .before .before .before .before .before .args in
+    sym (length-take-le _ _ (omega (arith, figures.total-most (a .g) (a .packet .now) (a .p) (c .before .before .before .before .before .before .before .before .before .before .before .pre))))
+
+put-fragment-requires : tie.Need-put-fragment-requires
+put-fragment-requires c κs =
+    let a = c .before .before .before .before .before .before .before .before .before .before .before .before .args in
+    let less = figures.asked (a .g) (a .packet .now) (a .p) (c .before .before .before .before .before .before .before .before .before .before .before .before .pre) (a .index) (c .before .before .before .before .before .before .before .before .if1 .left) in
+    let size = figures.size-is (a .g) (a .packet .now) (a .p) (c .before .before .before .before .before .before .before .before .before .before .before .before .pre) (a .number) (a .index) _ (c .before .before .before .before .before .before .before .payload-length .ensures .0) in
+    (c .before .before .before .before .before .before .before .before .before .before .before .before .pre, figures.handed (a .g) (a .packet .now) (a .p) (c .before .before .before .before .before .before .before .before .before .before .before .before .pre) _ (c .before .before .before .lay-block .ensures), less, omega (arith, size, c .before .before .before .before .before .if2 .left))
+
+same-length : tie.Need-same-length
+same-length c = search needs
+
+returns-3 : tie.Need-returns-3
+unfolding sentNumber
+returns-3 c =
+    let a = c .before .before .before .before .before .before .before .before .before .before .before .before .before .before .before .args in
+    let less = figures.asked (a .g) (a .packet .now) (a .p) (c .before .before .before .before .before .before .before .before .before .before .before .before .before .before .before .pre) (a .index) (c .before .before .before .before .before .before .before .before .before .before .before .if1 .left) in
+    let size = figures.size-is (a .g) (a .packet .now) (a .p) (c .before .before .before .before .before .before .before .before .before .before .before .before .before .before .before .pre) (a .number) (a .index) _ (c .before .before .before .before .before .before .before .before .before .before .payload-length .ensures .0) in
+    cases.one-done (a .g) (a .number) (a .packet .now) (a .out .now) (a .index) (c .before .before .before .before .before .before .before .before .before .before .before .before .before .before .before .pre .passed) less _ _ size (omega (arith, size, c .before .before .before .before .before .before .before .before .if2 .left)) (c .before .before .put-fragment .ensures)
+
+pub send-one-spec : {M : Type 1} → statement M
+send-one-spec =
+    tie.close
+    (tie.spec
+    returns
+    payload-length-requires
+    add-size
+    returns-2
+    slice-aggregate-lay-block
+    lay-block-requires
+    array-share-prefix-block
+    slice-aggregate-put-fragment
+    put-fragment-requires
+    same-length
+    returns-3)

@@ -1,0 +1,48 @@
+-- `put_fragment` meets its contract: the header stands at the front, and the payload in the part behind it. Assumes nothing.
+use borrow.Author.Needs.{needs}
+use Rattle.sender.proofs.Laying.{behind-header, room-behind, fragment-laid}
+use Rattle.sender.proofs.parts.put_fragment.Statement.{statement}
+use Rattle.sender.proofs.parts.put_fragment.Tie as tie
+
+header-of-requires : tie.Need-header-of-requires
+header-of-requires c κs = search needs
+
+write-header-requires : tie.Need-write-header-requires
+write-header-requires c κs = search needs
+
+sub-put-payload : tie.Need-sub-put-payload
+sub-put-payload c =
+    let a = c .before .before .before .before .before .before .before .before .args in
+    behind-header (a .g) (a .packet .now) (a .p) (c .before .before .before .before .before .before .before .before .pre .0) (a .out .now) _ _ _ (a .number) (a .i) (c .before .before .before .before .header-of .ensures) (c .before .before .before .before .before .before .before .before .pre .3) (c .before .before .write-header .ensures)
+
+part-put-payload-start : tie.Need-part-put-payload-start
+part-put-payload-start c = sub-put-payload c
+
+part-put-payload-end : tie.Need-part-put-payload-end
+part-put-payload-end c = search needs
+
+put-payload-requires : tie.Need-put-payload-requires
+put-payload-requires c κs =
+    let a = c .before .before .before .before .before .before .before .before .before .args in
+    (c .before .before .before .before .before .before .before .before .before .pre .0, c .before .before .before .before .before .before .before .before .before .pre .1, c .before .before .before .before .before .before .before .before .before .pre .2, room-behind (a .g) (a .packet .now) (a .p) (c .before .before .before .before .before .before .before .before .before .pre .0) (a .out .now) _ _ _ (a .number) (a .i) (c .before .before .before .before .before .header-of .ensures) (c .before .before .before .before .before .before .before .before .before .pre .3) (c .before .before .before .write-header .ensures))
+
+same-length : tie.Need-same-length
+same-length c = search needs
+
+returns : tie.Need-returns
+returns c =
+    let a = c .before .before .before .before .before .before .before .before .before .before .before .before .args in
+    fragment-laid (a .g) (a .packet .now) (a .p) (c .before .before .before .before .before .before .before .before .before .before .before .before .pre .0) (a .out .now) _ _ _ (a .number) (a .i) (c .before .before .before .before .before .before .before .before .header-of .ensures) (c .before .before .before .before .before .before .before .before .before .before .before .before .pre .3) (c .before .before .before .before .before .before .write-header .ensures) _ (c .before .before .put-payload .ensures)
+
+pub put-fragment-spec : {M : Type 1} → statement M
+put-fragment-spec =
+    tie.close
+    (tie.spec
+    header-of-requires
+    write-header-requires
+    sub-put-payload
+    part-put-payload-start
+    part-put-payload-end
+    put-payload-requires
+    same-length
+    returns)
