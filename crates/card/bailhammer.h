@@ -1,4 +1,5 @@
-/* The block calls of libcard.a for C (`rt staticlib card`). A slice is a pointer and then a length. */
+/* The calls of libcard.a for C (`rt staticlib card`): the block's two, and the sender's whole packet. A slice is a pointer and then a
+ * length. */
 #ifndef BAILHAMMER_H
 #define BAILHAMMER_H
 
@@ -15,10 +16,18 @@ extern "C" {
  *     1   the bytes lent are too few
  *     7   f is 0 or over 256
  *     8   sizes that cannot be
+ *    20   the AF packet has under 12 bytes
+ *    21   it does not begin with "AF"
+ *    22   its length is not LEN + 12, or is over 8,192
+ *    23   its major revision is not 1
+ *    24   its packet type is not 'T'
+ *    25   its CRC field is wrong
+ *    40   settings that cannot be
+ *    41   over 256 fragments
  *   256   no word of the code agrees with the cells kept; 0 stands in each missing cell
  *   257   too few fragments are kept: a chunk misses more than 48 bytes
- * Where the number is 1, 7, 8 or 257, no byte lent is changed. No pointer may be null, also where the length is 0,
- * and the bytes that are written may not overlap the bytes that are read.
+ * Where the number is neither 0 nor 256, no byte lent is changed. No pointer may be null, also where the length is 0,
+ * and the bytes that are written may not overlap the bytes that are read, nor those of another slice that is written.
  */
 
 /* Writes the block of a packet at the front of out: c chunks of k bytes (1 to 207), the packet and zeros behind it, each followed by
@@ -29,6 +38,15 @@ size_t bailhammer_encode(const uint8_t *packet, size_t packet_len, size_t k, siz
  * i is below kept_len and kept[i] is not 0. The block is f * s / (k + 48) chunks of k data and 48 parity bytes. Gives 0, 1, 7, 8, 256
  * or 257. */
 size_t bailhammer_fill(const uint8_t *kept, size_t kept_len, size_t f, size_t s, size_t k, uint8_t *block, size_t block_len);
+
+/* Writes all fragments of an AF packet at the front of out, one behind the other, under the packet's number: f fragments of h + s
+ * bytes each, the last one of h + last. FEC is on where fec is not 0, and the header has the address source and dest where addressed
+ * is not 0. m is the fragments that may be lost, 5 at most, and 0 without FEC; mtu is the most bytes of a fragment, above h and 16,384
+ * at most, where h is 14, two more with FEC, four more with an address. f, h, s and last stand in the first 8 bytes of split, two
+ * bytes each, big-endian; where split_len is below 8, nothing is written there. Gives 0; else the first of 40, 20 to 25, 41 and 1
+ * that is due. */
+size_t bailhammer_fragments(size_t fec, size_t m, size_t mtu, size_t addressed, uint16_t source, uint16_t dest, uint16_t number,
+                            const uint8_t *packet, size_t packet_len, uint8_t *split, size_t split_len, uint8_t *out, size_t out_len);
 
 #ifdef __cplusplus
 }

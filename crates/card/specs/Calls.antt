@@ -1,17 +1,25 @@
--- What the calls for C answer: the answers of crate code, each as one number, and fragments kept as bytes.
+-- What the calls for C answer: the answers of the crates code and sender, each as one number, and what C gives and takes as bytes.
 use mathlib.Core.Path.{_≡_}
-use mathlib.Core.Bool.{Bool, not}
-use mathlib.Core.List.{List, [], _∷_}
+use mathlib.Core.Bool.{Bool, not, cond}
+use mathlib.Core.List.{List, [], _∷_, _++_}
 use Prim.Native.Nat.{ℕ, zero, suc}
-use lib.Dec.{eqb}
-use lib.ListN.{getD}
+use lib.Dec.{eqb, ltb}
+use lib.ListN.{getD, length}
 use Rattle.base.specs.Bounds.{most-f}
+use Rattle.base.specs.Bytes.{splice, bytesOf}
 use Rattle.base.specs.Answer.{Answer, granted, refused, outcome}
 use Rattle.base.specs.Written as written
 use Rattle.base.specs.declared.Written.{Written}
 use Rattle.code.specs.Calls as filled
 use Rattle.code.specs.Calls.{encodeCall, BlockFilled}
 use Rattle.code.specs.declared.Filled.{Filled}
+use Rattle.cut.specs.declared.Address.{Address}
+use Rattle.cut.specs.declared.Address.the-variants.{None, Pair}
+use Rattle.cut.specs.declared.Settings.{Settings}
+use Rattle.sender.specs.Calls.{fragmentsCall, allNumber}
+use Rattle.sender.specs.declared.Split.{Split}
+use Rattle.sender.specs.declared.SentAll.{SentAll}
+use Rattle.sender.specs.declared.SentAll.the-variants as all
 
 -- test a, test (a + 1), .., n of them
 unfoldable pub flags : (ℕ → Bool) → ℕ → ℕ → List Bool
@@ -51,3 +59,32 @@ pub record CardFilled (kept : List ℕ) (f s k : ℕ) (block after : List ℕ) (
   pub answer : Filled
   pub left : BlockFilled (keptOf kept) f s k block after answer
   pub number : r ≡ filledNumber answer
+
+-- the address in the header where `addressed` is not 0
+unfoldable pub addressOf : ℕ → ℕ → ℕ → Address
+addressOf addressed source dest = cond (eqb addressed 0) None (Pair source dest)
+
+-- the settings by C's numbers: FEC where `fec` is not 0
+unfoldable pub settingsOf : ℕ → ℕ → ℕ → ℕ → ℕ → ℕ → Settings
+settingsOf fec m mtu addressed source dest = record { fec = not (eqb fec 0); m = m; mtu = mtu; address = addressOf addressed source dest }
+
+-- f, h, s and the last Plen, two bytes each
+unfoldable pub splitBytes : Split → List ℕ
+splitBytes p = bytesOf 2 (p .f) ++ bytesOf 2 (p .h) ++ bytesOf 2 (p .s) ++ bytesOf 2 (p .last)
+
+-- the number of the answer for all fragments: the refusal's, else 0
+unfoldable pub allRefusal : SentAll → ℕ
+allRefusal (all.Fragments p) = 0
+allRefusal (all.Refused n) = n
+
+-- what stands in the bytes lent for the split: its eight where there is place for them and nothing is refused
+unfoldable pub splitTold : SentAll → List ℕ → List ℕ
+splitTold (all.Fragments p) before = cond (ltb (length before) 8) before (splice before 0 (splitBytes p))
+splitTold (all.Refused n) before = before
+
+-- the call of crate sender for all fragments was answered, r is the number of its answer, and the split is told
+pub record CardSent (g : Settings) (pseq : ℕ) (packet split-before split-after before after : List ℕ) (r : ℕ) : Type 0 where
+  pub answer : SentAll
+  pub left : outcome (allNumber answer) after ≡ fragmentsCall g pseq packet before
+  pub number : r ≡ allRefusal answer
+  pub split : split-after ≡ splitTold answer split-before

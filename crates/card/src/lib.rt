@@ -1,9 +1,15 @@
-// The block calls of crate code for C: bailhammer.h declares them, and says what each number means.
+// The block calls of crate code and the sender's whole packet for C: bailhammer.h declares them, and says what each number means.
 use base::MOST_F;
 use base::Written;
 use code::Filled;
+use cut::Address;
+use cut::Settings;
+use sender::SentAll;
+use sender::Split;
 ghost use mathlib.Core.Path.{_≡_};
+ghost use Prim.Native.Nat.{_%_};
 ghost use Rattle.card.specs.Calls.{isKept, keptOf, writtenNumber, filledNumber, CardEncoded, CardFilled};
+ghost use Rattle.card.specs.Calls.{addressOf, settingsOf, splitBytes, allRefusal, splitTold, CardSent};
 
 // The number of a writing's answer.
 fn written_number(w: Written) -> usize
@@ -70,4 +76,90 @@ pub extern "C" fn bailhammer_fill(
 {
     let a = code::fill(kept_of(kept), f, s, k, block);
     filled_number(a)
+}
+
+// The address, where there is to be one.
+fn address_of(addressed: usize, source: u16, dest: u16) -> Address
+    ensures { λ r. ⌜ r ≡ addressOf addressed source dest ⌝ }
+{
+    if addressed == 0 {
+        return Address::None;
+    }
+    Address::Pair { source, dest }
+}
+
+// The settings.
+fn settings_of(
+    fec: usize,
+    m: usize,
+    mtu: usize,
+    addressed: usize,
+    source: u16,
+    dest: u16,
+) -> Settings
+    ensures { λ r. ⌜ r ≡ settingsOf fec m mtu addressed source dest ⌝ }
+{
+    Settings {
+        fec: fec != 0,
+        m,
+        mtu,
+        address: address_of(addressed, source, dest),
+    }
+}
+
+// The low byte of a number.
+fn low(x: usize) -> u8
+    ensures { λ r. ⌜ r ≡ x % 256 ⌝ }
+{
+    (x % 256) as u8
+}
+
+// The split as bytes.
+fn split_bytes(p: Split) -> [u8; 8]
+    ensures { λ r. ⌜ r ≡ splitBytes p ⌝ }
+{
+    [
+        low(p.f / 256),
+        low(p.f),
+        low(p.h / 256),
+        low(p.h),
+        low(p.s / 256),
+        low(p.s),
+        low(p.last / 256),
+        low(p.last),
+    ]
+}
+
+// Tells the split of what was sent, where its bytes have place, and gives the number of the answer.
+fn tell(a: SentAll, split: &mut [u8]) -> usize
+    ensures { λ r. ⌜ (r ≡ allRefusal a) × (now (split .exit) ≡ splitTold a (now (split .entry))) ⌝ }
+{
+    match a {
+        SentAll::Fragments(p) => {
+            base::put(split, 0, &split_bytes(p));
+            0
+        }
+        SentAll::Refused(n) => n as usize,
+    }
+}
+
+// Writes all fragments of a packet at the front of out, and how out is split, and gives 0; else the number of the refusal.
+#[no_mangle]
+pub extern "C" fn bailhammer_fragments(
+    fec: usize,
+    m: usize,
+    mtu: usize,
+    addressed: usize,
+    source: u16,
+    dest: u16,
+    number: u16,
+    packet: &[u8],
+    split: &mut [u8],
+    out: &mut [u8],
+) -> usize
+    ensures { λ r. ⌜ CardSent (settingsOf fec m mtu addressed source dest) number (now (packet .entry)) (now (split .entry)) (now (split .exit)) (now (out .entry)) (now (out .exit)) r ⌝ }
+{
+    let g = settings_of(fec, m, mtu, addressed, source, dest);
+    let a = sender::fragments(g, number, packet, out);
+    tell(a, split)
 }

@@ -1,0 +1,16 @@
+-- `address_of` meets its contract, case by case. Assumes nothing.
+use borrow.Author.Tests.{eq-eqb, ne-eqb}
+use Rattle.card.specs.Calls.{addressOf}
+use Rattle.card.proofs.address_of.Statement.{statement}
+use Rattle.card.proofs.address_of.Tie as tie
+
+returns : tie.Need-returns
+unfolding addressOf
+returns c = simp (eq-eqb _ _ (c .if1 .taken))
+
+returns-2 : tie.Need-returns-2
+unfolding addressOf
+returns-2 c = simp (ne-eqb _ _ (c .if1 .left))
+
+pub address-of-spec : {M : Type 1} → statement M
+address-of-spec = tie.close (tie.spec returns returns-2)
