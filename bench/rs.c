@@ -1,4 +1,5 @@
-/* Measures the block calls of libcard.a beside libfec's Reed-Solomon code on the same packet; bench/run makes and runs it. */
+/* Measures the block calls and the sender's call of libcard.a beside libfec's Reed-Solomon code on the same packet; bench/run makes
+ * and runs it. */
 #include <fec.h>
 #include <stdint.h>
 #include <stdio.h>
@@ -11,6 +12,8 @@
 
 enum {
     PACKET = 8192,      /* bytes of the packet */
+    AF_HEADER = 10,     /* those before its payload */
+    AF_CRC = 2,         /* and behind it */
     K = 205,            /* data bytes of a chunk */
     PARITY = 48,        /* parity bytes of a chunk */
     N = K + PARITY,
@@ -18,6 +21,11 @@ enum {
     BLOCK = C * N,      /* bytes of the block */
     F = 16,             /* fragments */
     S = 633,            /* bytes of a fragment: F * S is the least multiple of F from BLOCK on */
+    M = 2,              /* fragments that may be lost, and the most bytes of one: the sender's default, with FEC and no address */
+    MTU = 1400,
+    H = 16,             /* bytes of a fragment's header */
+    SENT = F * (H + S), /* bytes of all fragments */
+    SPLIT = 8,          /* bytes that say how they are split */
     FULL = 255,         /* bytes of a word of the code before it is shortened */
     DATA = FULL - PARITY,
     JUNK = 0x55,        /* stands in a missing cell */
@@ -41,6 +49,8 @@ static int hole_count[C];
 static uint8_t our_block[BLOCK];        /* what the calls measured work on */
 static uint8_t their_words[C][FULL];
 static int their_holes[C][PARITY];
+static uint8_t our_sent[SENT];          /* the fragments, one behind the other */
+static uint8_t our_split[SPLIT];
 static size_t our_answer;
 
 static void fail(const char *what)
@@ -51,13 +61,16 @@ static void fail(const char *what)
 
 /* ---- the settings */
 
-/* A packet of bytes that are the same in each run. */
+/* An AF packet without a CRC, so that the sender takes it; the bytes of its payload are the same in each run. */
 static void make_packet(void)
 {
+    enum { LEN = PACKET - AF_HEADER - AF_CRC };
+    static const uint8_t header[AF_HEADER] = {'A', 'F', 0, 0, LEN >> 8, LEN & 255, 0, 7, 0x10, 'T'};
+    memcpy(packet, header, AF_HEADER);
     uint32_t x = 1;
-    for (int i = 0; i < PACKET; i++) {
+    for (int i = 0; i < LEN; i++) {
         x = x * 1664525u + 1013904223u;
-        packet[i] = x >> 24;
+        packet[AF_HEADER + i] = x >> 24;
     }
 }
 
@@ -137,6 +150,17 @@ static void their_encode(void)
         encode_rs_char(rs, their_words[j], their_words[j] + DATA);
 }
 
+static void before_our_send(void)
+{
+    memset(our_sent, JUNK, sizeof our_sent);
+    memset(our_split, JUNK, sizeof our_split);
+}
+
+static void our_send(void)
+{
+    our_answer = bailhammer_fragments(1, M, MTU, 0, 0, 0, 1, packet, PACKET, our_split, SPLIT, our_sent, SENT);
+}
+
 static void before_our_fill(void)
 {
     memcpy(our_block, holed_block, sizeof our_block);
@@ -168,6 +192,7 @@ struct side {
 
 static const struct side our_encoding = {OURS, before_our_encode, our_encode};
 static const struct side their_encoding = {THEIRS, before_their_encode, their_encode};
+static const struct side our_sending = {OURS, before_our_send, our_send};
 static const struct side our_filling = {OURS, before_our_fill, our_fill};
 static const struct side their_filling = {THEIRS, before_their_fill, their_fill};
 
@@ -198,6 +223,32 @@ static void compare_encode(void)
     memcpy(words, their_words, sizeof words);
 }
 
+/* The number in the two bytes from i on of how the fragments are split. */
+static int split_at(int i)
+{
+    return our_split[i] * 256 + our_split[i + 1];
+}
+
+/* The byte at q of what the fragments carry: place q div F of fragment q mod F. */
+static uint8_t carried(int q)
+{
+    return our_sent[q % F * (H + S) + H + q / F];
+}
+
+/* Sends, and holds what the fragments carry against the block; behind the block's end it is zeros. */
+static void compare_send(void)
+{
+    before_our_send();
+    our_send();
+    if (our_answer != 0)
+        fail("bailhammer_fragments refuses the packet");
+    if (split_at(0) != F || split_at(2) != H || split_at(4) != S || split_at(6) != S)
+        fail("fragments: the split is not the one expected");
+    for (int q = 0; q < F * S; q++)
+        if (carried(q) != (q < BLOCK ? block[q] : 0))
+            fail("fragments: they do not carry the block");
+}
+
 /* Loses fragments, and fills in by both. */
 static void compare_fill(int lost)
 {
@@ -218,6 +269,7 @@ static void compare_fill(int lost)
 static void compare_all(void)
 {
     compare_encode();
+    compare_send();
     compare_fill(3);
     compare_fill(1);
 }
@@ -268,6 +320,14 @@ static void measure_encode(void)
     measure(what, our_encoding, their_encoding);
 }
 
+/* All that the sender does, beside libfec's encode alone. */
+static void measure_send(void)
+{
+    char what[64];
+    snprintf(what, sizeof what, "fragments %d of %d bytes (libfec: encode)", F, H + S);
+    measure(what, our_sending, their_encoding);
+}
+
 static void measure_fill(int lost)
 {
     lose(lost);
@@ -289,6 +349,7 @@ static void time_all(void)
     print_method();
     compare_all();
     measure_encode();
+    measure_send();
     measure_fill(3);
     measure_fill(1);
 }
@@ -332,6 +393,8 @@ static int count(const char *what, int ours, int n)
     struct side filling = ours ? our_filling : their_filling;
     if (!strcmp(what, "encode"))
         call_times(ours ? our_encoding : their_encoding, n);
+    else if (!strcmp(what, "fragments"))
+        call_times(ours ? our_sending : their_encoding, n);
     else if (!strcmp(what, "fill48"))
         count_fill(3, filling, n);
     else if (!strcmp(what, "fill16"))
@@ -363,7 +426,7 @@ int main(int argc, char **argv)
     else if (argc == 2 && !strcmp(argv[1], "compare"))
         compare_all();
     else if (argc != 5 || strcmp(argv[1], "count") || !count_words(argv + 2))
-        fail("usage: rs [compare | count encode|fill48|fill16 bailhammer|libfec 0|1|2]");
+        fail("usage: rs [compare | count encode|fragments|fill48|fill16 bailhammer|libfec 0|1|2]");
     free_rs_char(rs);
     return 0;
 }
