@@ -39,17 +39,17 @@ module _ (p : Place) where
     size-over h = pass (le-ltb most-f (p .count) few) (hit _ (lt-ltb place (p .count * p .size) h))
 
     module _ (fits : p .count * p .size ≤ place) where
-      pub last-over : place < p .count * p .last → true ≡ badFigures p
+      pub last-over : place < p .last → true ≡ badFigures p
       unfolding badFigures
       last-over h =
-          pass (le-ltb most-f (p .count) few) (pass (le-ltb place (p .count * p .size) fits) (hit _ (lt-ltb place (p .count * p .last) h)))
+          pass (le-ltb most-f (p .count) few) (pass (le-ltb place (p .count * p .size) fits) (hit _ (lt-ltb place (p .last) h)))
 
-      module _ (last-fits : p .count * p .last ≤ place) where
+      module _ (last-fits : p .last ≤ place) where
         rest : {r : Bool} → r ≡ (not (eqb (p .size) 0) && ltb (p .size) (p .last)) → r ≡ badFigures p
         unfolding badFigures
         rest e =
             pass (le-ltb most-f (p .count) few)
-            (pass (le-ltb place (p .count * p .size) fits) (pass (le-ltb place (p .count * p .last) last-fits) e))
+            (pass (le-ltb place (p .count * p .size) fits) (pass (le-ltb place (p .last) last-fits) e))
 
         pub size-unknown : p .size ≡ 0 → false ≡ badFigures p
         size-unknown e = rest (ap (λ (b : Bool). not b && ltb (p .size) (p .last)) (sym (eq-eqb (p .size) 0 e)))

@@ -2,7 +2,7 @@
 use mathlib.Core.Path.{_≡_, refl, sym, ap, _∙_, subst}
 use mathlib.Core.Bool.{Bool, true, false, not, cond, Bool·beq, _&&_, _||_}
 use Prim.Native.Nat.{ℕ, _+_, _*_, _≤_, _<_}
-use native.Mathlib.Nat.{pos-of-ne-zero, mul-zero}
+use native.Mathlib.Nat.{pos-of-ne-zero, mul-zero, mul-le-mul-right}
 use native.Mathlib.Omega.{arith}
 use borrow.Author.Tests.{eqb-true, eqb-false, ltb-false, leb-false, ne-eqb, le-ltb, lt-leb, not-false, not-true}
 use lib.Dec.{ltb, leb, eqb}
@@ -25,7 +25,7 @@ pub record InRange (p : Place) : Type 0 where
   pub condition : p .condition ≤ spoiled
   pub count : p .count ≤ most-f
   pub size : p .count * p .size ≤ place
-  pub last : p .count * p .last ≤ place
+  pub last : p .last ≤ place
   pub less : (p .size ≡ 0 → ⊥) → p .last ≤ p .size
   pub coded : p .fec ≡ true → Chunk (p .rsk) (p .rsz)
 
@@ -70,12 +70,12 @@ module _ (p : Place) where
       let e₀ : badFigures p ≡ false = figures e in
       let e₁ = or-right (ltb most-f (p .count)) _ e₀ in
       let e₂ = or-right (ltb place (p .count * p .size)) _ e₁ in
-      let e₃ = or-right (ltb place (p .count * p .last)) _ e₂ in
+      let e₃ = or-right (ltb place (p .last)) _ e₂ in
       record {
         condition = known e;
         count = ltb-false most-f (p .count) (or-left (ltb most-f (p .count)) _ e₀);
         size = ltb-false place (p .count * p .size) (or-left (ltb place (p .count * p .size)) _ e₁);
-        last = ltb-false place (p .count * p .last) (or-left (ltb place (p .count * p .last)) _ e₂);
+        last = ltb-false place (p .last) (or-left (ltb place (p .last)) _ e₂);
         less = λ some. ltb-false (p .size) (p .last) (and-then (not (eqb (p .size) 0)) _ e₃ (ap not (ne-eqb (p .size) 0 some)));
         coded = chunk-from (code e);
       }
@@ -87,7 +87,7 @@ module _ (p : Place) where
       (or-not
       (or-not (le-ltb most-f (p .count) (r .count))
       (or-not (le-ltb place (p .count * p .size) (r .size))
-      (or-not (le-ltb place (p .count * p .last) (r .last))
+      (or-not (le-ltb place (p .last) (r .last))
       (and-not (not (eqb (p .size) 0)) _
       (λ e. le-ltb (p .size) (p .last) (r .less (eqb-false (p .size) 0 (not-true (eqb (p .size) 0) e))))))))
       (and-not (p .fec) _
@@ -154,6 +154,12 @@ module _ (p : Place) (h : Header) (s : Sound h) (r : InRange p) (b : Belongs p h
   fits : p .count * h .plen ≤ place
   fits = omega (arith, s .fits, ap (λ (n : ℕ). n * h .plen) (b .count))
 
+  -- one fragment fits where all of them do
+  one-fits : h .plen ≤ place
+  one-fits =
+      let some : 1 * h .plen ≤ h .count * h .plen = mul-le-mul-right (h .plen) (omega (arith, s .below)) in
+      omega (arith, s .fits, some)
+
   pub range-kept : InRange (keptIn p h)
   unfolding keptIn
   range-kept =
@@ -165,7 +171,7 @@ module _ (p : Place) (h : Header) (s : Sound h) (r : InRange p) (b : Belongs p h
         condition = r .condition;
         count = r .count;
         size = subst (λ (n : ℕ). p .count * n ≤ place) (sym is-size) (r .size);
-        last = subst (λ (n : ℕ). p .count * n ≤ place) (sym is-last) fits;
+        last = omega (arith, is-last, one-fits);
         less = λ some. omega (arith, is-size, is-last, b .ends e (λ z. some (is-size ∙ z)));
         coded = r .coded;
       })
@@ -176,7 +182,7 @@ module _ (p : Place) (h : Header) (s : Sound h) (r : InRange p) (b : Belongs p h
         condition = r .condition;
         count = r .count;
         size = subst (λ (n : ℕ). p .count * n ≤ place) (sym is-size) fits;
-        last = subst (λ (n : ℕ). p .count * n ≤ place) (sym is-last) (r .last);
+        last = omega (arith, is-last, r .last);
         less = λ some. omega (arith, is-size, is-last, b .inner e);
         coded = r .coded;
       })
@@ -191,7 +197,7 @@ module _ (h : Header) where
         condition = omega arith;
         count = s .few;
         size = omega (arith, mul-zero (h .count));
-        last = omega (arith, mul-zero (h .count));
+        last = omega arith;
         less = λ some. absurd (some refl);
         coded = λ e. let c = s .chunk e in (c .0, c .1, c .2);
       }

@@ -12,12 +12,12 @@ use Rattle.places.specs.declared.Table.{Table}
 use Rattle.places.specs.Places.{four, delivered, spoiled, placeAt, isLast}
 
 -- 14 STATE: the ranges of a place's figures, in which every place can be formed with no byte outside it: at most 256 fragments, which
--- fit the place with the size of all and with that of the last, the last no longer than the others; with FEC, k and z are a chunk's
+-- fit the place, the last one too, which is no longer than the others; with FEC, k and z are a chunk's
 unfoldable pub badFigures : Place → Bool
 badFigures p =
     ltb most-f (p .count)
     || (ltb place (p .count * p .size)
-    || (ltb place (p .count * p .last)
+    || (ltb place (p .last)
     || (not (eqb (p .size) 0) && ltb (p .size) (p .last))))
 
 unfoldable pub badCode : Place → Bool

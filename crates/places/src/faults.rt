@@ -29,7 +29,7 @@ fn bad_figures(p: Place) -> bool
     if PLACE < count * size {
         return true;
     }
-    if PLACE < count * last {
+    if PLACE < last {
         return true;
     }
     if size == 0 {
@@ -55,7 +55,8 @@ fn bad_code(p: Place) -> bool
     p.rsk <= p.rsz
 }
 
-fn bad_place(p: Place) -> bool
+// Whether a field of a place is outside its range.
+pub fn bad_place(p: Place) -> bool
     ensures { λ r. ⌜ r ≡ badPlace p ⌝ }
 {
     if SPOILED < p.condition {

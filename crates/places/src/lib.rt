@@ -3,6 +3,7 @@ mod faults;
 mod record;
 
 use base::MOST_F;
+pub use faults::bad_place;
 pub use faults::bad_table;
 pub use faults::place_fault;
 pub use record::displaced_at;

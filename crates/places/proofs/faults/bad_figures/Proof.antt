@@ -30,13 +30,6 @@ mul-if2 c =
 returns-2 : tie.Need-returns-2
 returns-2 c = size-over _ (omega arith) (c .if2 .taken)
 
-mul-if3 : tie.Need-mul-if3
-mul-if3 c =
-    let p = c .before .before .before .before .before .args .p in
-    let few : p .count ≤ most-f = omega arith in
-    let small : p .last ≤ 65535 = omega arith in
-    omega (arith, mul-le-mul few small)
-
 returns-3 : tie.Need-returns-3
 returns-3 c = last-over _ (omega arith) (c .before .if2 .left) (c .if3 .taken)
 
@@ -56,7 +49,6 @@ bad-figures-spec =
     returns
     mul-if2
     returns-2
-    mul-if3
     returns-3
     returns-4
     returns-5)
