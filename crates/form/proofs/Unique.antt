@@ -1,0 +1,65 @@
+-- At most one packet agrees with what a place holds, where that suffices: with FEC by its chunks, without it by what agreeing says. Assumes nothing.
+use mathlib.Core.Path.{_≡_, sym, ap, _∙_}
+use mathlib.Core.Bool.{Bool, true, false, cond}
+use mathlib.Core.List.{List}
+use Prim.Native.Nat.{ℕ, _+_, _-_, _*_, _≤_, _<_}
+use native.Mathlib.Nat.{zero-add}
+use native.Mathlib.Omega.{arith}
+use lib.Dec.{eqb}
+use lib.ListN.{length, take}
+use Rattle.base.specs.Bounds.{most-k, parity}
+use Rattle.base.proofs.Logic.{either}
+use Rattle.base.proofs.Tables.{length-table, at-table}
+use Rattle.cut.specs.Block.{padded, chunkOf}
+use Rattle.cut.specs.Cells.{cellOf, cellsOf}
+use Rattle.cut.specs.Missing.{losses, suffice}
+use Rattle.cut.specs.Sizes.{receivedC}
+use Rattle.weave.specs.Calls.{notKept}
+use Rattle.codeword.specs.Code.{encode}
+use Rattle.codeword.proofs.Encoder.{encode-keeps}
+use Rattle.places.specs.declared.Place.{Place}
+use Rattle.form.specs.Agree.{enough, enoughIn, Fills, Agrees}
+use Rattle.form.specs.Claims.{OnePacket}
+use Rattle.form.proofs.Chunks.{chunks-same}
+use Rattle.form.proofs.Mending.{Laid, from-chunks, length-data-chunk, word-agrees, word-only}
+
+-- all cells of a place
+length-cells : (held : List ℕ) (f s : ℕ) → length (cellsOf held f s) ≡ f * s
+unfolding cellsOf
+length-cells held f s = length-table (cellOf held f s) 0 (f * s)
+
+laid-all : (held : List ℕ) (f s : ℕ) → Laid f s held (cellsOf held f s)
+unfolding cellsOf
+laid-all held f s q h = at-table (cellOf held f s) 0 (f * s) q h ∙ ap (cellOf held f s) (zero-add q)
+
+module _ (f s k z : ℕ) (kept : List Bool) (held : List ℕ) (small : k ≤ most-k) (enough-kept : suffice (notKept kept) f (k + parity) (receivedC f s k) ≡ true)
+    (P Q : List ℕ) (a : Fills f s k z (notKept kept) held P) (b : Fills f s k z (notKept kept) held Q) where
+  same-chunk : (j : ℕ) → j < receivedC f s k → chunkOf (padded P z) k j ≡ chunkOf (padded Q z) k j
+  same-chunk j below =
+      let cells : List ℕ = cellsOf held f s in
+      let room : f * s ≤ length (cellsOf held f s) = omega (arith, length-cells held f s) in
+      let word : encode (chunkOf (padded P z) k j) ≡ encode (chunkOf (padded Q z) k j) =
+      word-only f s k z kept held cells (laid-all held f s) room small P a j below enough-kept (encode (chunkOf (padded Q z) k j))
+      (word-agrees f s k z kept held cells (laid-all held f s) room small Q b j below) in
+      sym (encode-keeps (chunkOf (padded P z) k j) k (length-data-chunk f s k z (notKept kept) held P a j below))
+      ∙ ap (take k) word
+      ∙ encode-keeps (chunkOf (padded Q z) k j) k (length-data-chunk f s k z (notKept kept) held Q b j below)
+
+  one-filled : P ≡ Q
+  one-filled =
+      sym (from-chunks f s k z (notKept kept) held P a)
+      ∙ ap (take (receivedC f s k * k - z)) (chunks-same k (receivedC f s k) (padded P z) (padded Q z) same-chunk)
+      ∙ from-chunks f s k z (notKept kept) held Q b
+
+suffice-coded : (p : Place) → p .fec ≡ true → enoughIn p ≡ true → suffice (notKept (p .kept)) (p .count) (p .rsk + parity) (receivedC (p .count) (p .size) (p .rsk)) ≡ true
+unfolding enoughIn enough
+suffice-coded p fec e =
+    let lost : ℕ → Bool = notKept (p .kept) in
+    sym (ap (λ (b : Bool). cond b (suffice lost (p .count) (p .rsk + parity) (receivedC (p .count) (p .size) (p .rsk))) (eqb (losses lost (p .count)) 0)) fec) ∙ e
+
+pub one-packet : OnePacket
+one-packet p held P Q small e a b =
+    either (p .fec)
+    (λ (fec : p .fec ≡ true).
+    one-filled (p .count) (p .size) (p .rsk) (p .rsz) (p .kept) held (small fec) (suffice-coded p fec e) P Q (a .coded fec) (b .coded fec))
+    (λ (plain : p .fec ≡ false). a .plain plain ∙ sym (b .plain plain))
