@@ -1,3 +1,7 @@
 pub mod Chunks
 pub mod Mending
 pub mod Unique
+pub mod Gathering
+pub mod Zeros
+pub mod ChunkFigures
+pub mod Decoding

@@ -90,7 +90,7 @@ module _ (kept : List Bool) (f a n : ℕ) (v w : List ℕ) (lv : length v ≡ n)
 
 module _ (f s k : ℕ) where
   -- the chunks stand in the cells
-  within : receivedC f s k * (k + parity) ≤ f * s
+  pub within : receivedC f s k * (k + parity) ≤ f * s
   unfolding receivedC
   within = div-mul-le-self (f * s) (k + parity)
 

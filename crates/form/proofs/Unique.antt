@@ -1,34 +1,33 @@
 -- At most one packet agrees with what a place holds, where that suffices: with FEC by its chunks, without it by what agreeing says. Assumes nothing.
 use mathlib.Core.Path.{_≡_, sym, ap, _∙_}
-use mathlib.Core.Bool.{Bool, true, false, cond}
+use mathlib.Core.Bool.{Bool, true, false}
 use mathlib.Core.List.{List}
 use Prim.Native.Nat.{ℕ, _+_, _-_, _*_, _≤_, _<_}
 use native.Mathlib.Nat.{zero-add}
 use native.Mathlib.Omega.{arith}
-use lib.Dec.{eqb}
 use lib.ListN.{length, take}
 use Rattle.base.specs.Bounds.{most-k, parity}
 use Rattle.base.proofs.Logic.{either}
 use Rattle.base.proofs.Tables.{length-table, at-table}
 use Rattle.cut.specs.Block.{padded, chunkOf}
 use Rattle.cut.specs.Cells.{cellOf, cellsOf}
-use Rattle.cut.specs.Missing.{losses, suffice}
+use Rattle.cut.specs.Missing.{suffice}
 use Rattle.cut.specs.Sizes.{receivedC}
 use Rattle.weave.specs.Calls.{notKept}
 use Rattle.codeword.specs.Code.{encode}
 use Rattle.codeword.proofs.Encoder.{encode-keeps}
 use Rattle.places.specs.declared.Place.{Place}
-use Rattle.form.specs.Agree.{enough, enoughIn, Fills, Agrees}
+use Rattle.form.specs.Agree.{enough, enoughIn, Fills}
 use Rattle.form.specs.Claims.{OnePacket}
 use Rattle.form.proofs.Chunks.{chunks-same}
 use Rattle.form.proofs.Mending.{Laid, from-chunks, length-data-chunk, word-agrees, word-only}
 
 -- all cells of a place
-length-cells : (held : List ℕ) (f s : ℕ) → length (cellsOf held f s) ≡ f * s
+pub length-cells : (held : List ℕ) (f s : ℕ) → length (cellsOf held f s) ≡ f * s
 unfolding cellsOf
 length-cells held f s = length-table (cellOf held f s) 0 (f * s)
 
-laid-all : (held : List ℕ) (f s : ℕ) → Laid f s held (cellsOf held f s)
+pub laid-all : (held : List ℕ) (f s : ℕ) → Laid f s held (cellsOf held f s)
 unfolding cellsOf
 laid-all held f s q h = at-table (cellOf held f s) 0 (f * s) q h ∙ ap (cellOf held f s) (zero-add q)
 
@@ -51,15 +50,13 @@ module _ (f s k z : ℕ) (kept : List Bool) (held : List ℕ) (small : k ≤ mos
       ∙ ap (take (receivedC f s k * k - z)) (chunks-same k (receivedC f s k) (padded P z) (padded Q z) same-chunk)
       ∙ from-chunks f s k z (notKept kept) held Q b
 
-suffice-coded : (p : Place) → p .fec ≡ true → enoughIn p ≡ true → suffice (notKept (p .kept)) (p .count) (p .rsk + parity) (receivedC (p .count) (p .size) (p .rsk)) ≡ true
+pub enough-coded : (p : Place) → p .fec ≡ true → enoughIn p ≡ suffice (notKept (p .kept)) (p .count) (p .rsk + parity) (receivedC (p .count) (p .size) (p .rsk))
 unfolding enoughIn enough
-suffice-coded p fec e =
-    let lost : ℕ → Bool = notKept (p .kept) in
-    sym (ap (λ (b : Bool). cond b (suffice lost (p .count) (p .rsk + parity) (receivedC (p .count) (p .size) (p .rsk))) (eqb (losses lost (p .count)) 0)) fec) ∙ e
+enough-coded p fec = rw fec
 
 pub one-packet : OnePacket
 one-packet p held P Q small e a b =
     either (p .fec)
     (λ (fec : p .fec ≡ true).
-    one-filled (p .count) (p .size) (p .rsk) (p .rsz) (p .kept) held (small fec) (suffice-coded p fec e) P Q (a .coded fec) (b .coded fec))
+    one-filled (p .count) (p .size) (p .rsk) (p .rsz) (p .kept) held (small fec) (sym (enough-coded p fec) ∙ e) P Q (a .coded fec) (b .coded fec))
     (λ (plain : p .fec ≡ false). a .plain plain ∙ sym (b .plain plain))

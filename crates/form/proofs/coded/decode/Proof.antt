@@ -1,0 +1,166 @@
+-- `decode` meets its contract: what the calls leave is handed to the laws of decoding. Assumes nothing.
+use mathlib.Core.Path.{_≡_}
+use native.Mathlib.Omega.{arith}
+use borrow.Author.Needs.{needs}
+use lib.ListN.{length}
+use Rattle.base.specs.Bounds.{place}
+use Rattle.base.proofs.Logic.{clash}
+use Rattle.cut.specs.Sizes.{receivedC}
+use Rattle.code.specs.declared.Filled.{Filled}
+use Rattle.code.specs.declared.Filled.the-variants.{Done, Nothing, NotEnough, Refused}
+use Rattle.form.proofs.Decoding as laws
+use Rattle.form.proofs.coded.decode.Statement.{statement}
+use Rattle.form.proofs.coded.decode.Tie as tie
+
+-- what the two calls leave
+known : (c : tie.After-cells4) (r : Filled) → c .before .fill .result ≡ r
+    → laws.Decoding (c .before .before .before .before .before .before .before .before .before .before .before .before .args .p) (c .before .before .before .before .before .before .before .before .before .before .before .before .args .held .now) (c .before .before .before .before .before .deinterleave .last .1 .1 .1 .0) (c .before .fill .last .1 .1 .1 .1 .0) r
+known c r is =
+    let size : length (c .before .before .before .before .before .deinterleave .last .1 .1 .1 .0) ≡ place = search needs in
+    laws.decoding _ _ (c .before .fill .result) (c .before .before .before .before .before .before .before .before .before .before .before .before .pre .0) (c .before .before .before .before .before .before .before .before .before .before .before .before .pre .1) (search needs) size (c .before .before .before .before .before .deinterleave .ensures) (c .before .fill .ensures) is
+
+cast-f : tie.Need-cast-f
+cast-f c = search needs
+
+cast-s : tie.Need-cast-s
+cast-s c = search needs
+
+cast-k : tie.Need-cast-k
+cast-k c = search needs
+
+slice-aggregate-deinterleave : tie.Need-slice-aggregate-deinterleave
+slice-aggregate-deinterleave c = search needs
+
+deinterleave-requires : tie.Need-deinterleave-requires
+deinterleave-requires c κs = search needs
+
+slice-aggregate-fill : tie.Need-slice-aggregate-fill
+slice-aggregate-fill c = search needs
+
+fill-requires : tie.Need-fill-requires
+fill-requires c κs = search needs
+
+enum-told : tie.Need-enum-told
+enum-told c = search needs
+
+mul-c : tie.Need-mul-c
+mul-c c = omega (arith, laws.figured (known (c .before .before) Done (c .enum-told .given .1)) .placed)
+
+add-c : tie.Need-add-c
+add-c c = search needs
+
+div-c : tie.Need-div-c
+div-c c = search needs
+
+slice-aggregate-gather : tie.Need-slice-aggregate-gather
+slice-aggregate-gather c = search needs
+
+gather-requires : tie.Need-gather-requires
+unfolding receivedC
+gather-requires c κs =
+    let room = laws.chunks-room (known (c .before .before .before .before) Done (c .before .before .enum-told .given .1)) in
+    (room .0, omega (arith, room .1, c .before .before .before .before .before .before .before .before .before .before .before .before .before .before .before .before .pre .2), omega (arith, room .2))
+
+mul-l : tie.Need-mul-l
+unfolding receivedC
+mul-l c = omega (arith, laws.chunks-room (known (c .before .before .before .before .before .before .before) Done (c .before .before .before .before .before .enum-told .given .1)) .1)
+
+cast-l : tie.Need-cast-l
+cast-l c = search needs
+
+sub-l : tie.Need-sub-l
+unfolding receivedC
+sub-l c = laws.zeros-within (known (c .before .before .before .before .before .before .before .before) Done (c .before .before .before .before .before .before .enum-told .given .1))
+
+mul-all-zero : tie.Need-mul-all-zero
+unfolding receivedC
+mul-all-zero c = omega (arith, laws.chunks-room (known (c .before .before .before .before .before .before .before .before) Done (c .before .before .before .before .before .before .enum-told .given .1)) .1)
+
+sub-all-zero : tie.Need-sub-all-zero
+sub-all-zero c = search needs
+
+part-all-zero-start : tie.Need-part-all-zero-start
+part-all-zero-start c = search needs
+
+part-all-zero-end : tie.Need-part-all-zero-end
+unfolding receivedC
+part-all-zero-end c =
+    let d = known (c .before .before .before .before .before .before .before .before .before) Done (c .before .before .before .before .before .before .before .enum-told .given .1) in
+    omega (arith, laws.chunks-room d .1, laws.result-room d (c .before .before .before .before .before .before .before .before .before .before .before .before .before .before .before .before .before .before .before .before .before .args .buffer .now) _ (c .before .before .before .before .before .before .before .before .before .before .before .before .before .before .before .before .before .before .before .before .before .pre .2) (c .before .before .before .before .gather .ensures))
+
+all-zero-requires : tie.Need-all-zero-requires
+all-zero-requires c κs = search needs
+
+same-length : tie.Need-same-length
+same-length c = search needs
+
+returns : tie.Need-returns
+unfolding receivedC
+returns c =
+    let d = known (c .before .before .before .before .before .before .before .before .before .before .before .before) Done (c .before .before .before .before .before .before .before .before .before .before .enum-told .given .1) in
+    let buffer = c .before .before .before .before .before .before .before .before .before .before .before .before .before .before .before .before .before .before .before .before .before .before .before .before .args .buffer .now in
+    (laws.proposes d buffer _ (c .before .before .before .before .before .before .before .before .before .before .before .before .before .before .before .before .before .before .before .before .before .before .before .before .pre .2) (c .before .before .before .before .before .before .before .gather .ensures) (c .before .all-zero .ensures .0 (c .if1 .taken)), laws.result-room d buffer _ (c .before .before .before .before .before .before .before .before .before .before .before .before .before .before .before .before .before .before .before .before .before .before .before .before .pre .2) (c .before .before .before .before .before .before .before .gather .ensures))
+
+enum-told-2 : tie.Need-enum-told-2
+enum-told-2 c = search needs
+
+enum-told-3 : tie.Need-enum-told-3
+enum-told-3 c = search needs
+
+enum-told-4 : tie.Need-enum-told-4
+enum-told-4 c = search needs
+
+same-length-2 : tie.Need-same-length-2
+same-length-2 c = search needs
+
+returns-2 : tie.Need-returns-2
+unfolding receivedC
+returns-2 c =
+    let d = known (c .before .before .before .before .before .before .before .before .before .before .before .before) Done (c .before .before .before .before .before .before .before .before .before .before .enum-told .given .1) in
+    let buffer = c .before .before .before .before .before .before .before .before .before .before .before .before .before .before .before .before .before .before .before .before .before .before .before .before .args .buffer .now in
+    (laws.damaged d buffer _ (c .before .before .before .before .before .before .before .before .before .before .before .before .before .before .before .before .before .before .before .before .before .before .before .before .pre .2) (c .before .before .before .before .before .before .before .gather .ensures) (λ e. clash (c .before .all-zero .ensures .1 e) (c .if1 .left)), laws.result-room d buffer _ (c .before .before .before .before .before .before .before .before .before .before .before .before .before .before .before .before .before .before .before .before .before .before .before .before .pre .2) (c .before .before .before .before .before .before .before .gather .ensures))
+
+returns-3 : tie.Need-returns-3
+returns-3 c = (laws.nothing-agrees (known (c .before .before) Nothing (c .enum-told2 .given .1)), c .before .before .before .before .before .before .before .before .before .before .before .before .before .before .pre .2)
+
+returns-4 : tie.Need-returns-4
+returns-4 c = (laws.short-agrees (known (c .before .before) NotEnough (c .enum-told3 .given .1)), c .before .before .before .before .before .before .before .before .before .before .before .before .before .before .pre .2)
+
+returns-5 : tie.Need-returns-5
+returns-5 c = (laws.refused-agrees (known (c .before .before) (Refused _) (c .enum-told4 .given .1)), c .before .before .before .before .before .before .before .before .before .before .before .before .before .before .pre .2)
+
+pub decode-spec : {M : Type 1} → statement M
+decode-spec =
+    tie.close
+    (tie.spec
+    cast-f
+    cast-s
+    cast-k
+    slice-aggregate-deinterleave
+    deinterleave-requires
+    slice-aggregate-fill
+    fill-requires
+    enum-told
+    mul-c
+    add-c
+    div-c
+    slice-aggregate-gather
+    gather-requires
+    mul-l
+    cast-l
+    sub-l
+    mul-all-zero
+    sub-all-zero
+    part-all-zero-start
+    part-all-zero-end
+    all-zero-requires
+    same-length
+    returns
+    enum-told-2
+    enum-told-3
+    enum-told-4
+    same-length-2
+    returns-2
+    returns-3
+    returns-4
+    returns-5)

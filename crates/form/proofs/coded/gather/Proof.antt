@@ -1,0 +1,117 @@
+-- `gather` meets its contract: a chunk's data a turn. Assumes nothing.
+use mathlib.Core.Path.{_≡_}
+use Prim.Native.Nat.{_+_, _-_, _*_, _≤_}
+use native.Mathlib.Omega.{arith}
+use borrow.Author.Needs.{needs}
+use Rattle.base.specs.Bounds.{parity}
+use Rattle.base.specs.Bytes.{splice}
+use Rattle.form.specs.Inner.{dataOf}
+use Rattle.form.proofs.Gathering as gathering
+use Rattle.form.proofs.coded.gather.Statement.{statement}
+use Rattle.form.proofs.coded.gather.Tie as tie
+
+abbrev Inv-loop : tie.InvT-loop
+Inv-loop cells k c buffer₀ from₀ at₀ counter₀ buffer from at counter =
+    (counter ≤ c) × (from ≡ counter * (k + parity)) × (at ≡ counter * k) × (buffer ≡ splice buffer₀ 0 (dataOf cells k counter))
+
+abbrev μ-loop : tie.MeasureT-loop
+μ-loop cells k c buffer₀ from₀ at₀ counter₀ buffer from at counter = c - counter
+
+loop-holds : tie.Need-loop-holds Inv-loop μ-loop
+loop-holds c =
+    let a = c .before .before .args in
+    (omega arith, omega arith, omega arith, gathering.gathered-none (a .cells .now) (a .buffer .now) (a .k))
+
+add-put : tie.Need-add-put Inv-loop μ-loop
+add-put c =
+    let a = c .before .before .before .before .before .args in
+    let p = c .before .before .before .before .before .pre in
+    let inv = c .before .before .loop .inv in
+    omega (arith, inv .1, p .2, gathering.starts (a .cells .now) (a .buffer .now) (a .k) (a .c) (p .0) (p .1) (c .before .before .loop .counter) (c .before .loop-test .taken) .0)
+
+sub-put : tie.Need-sub-put Inv-loop μ-loop
+sub-put c = search needs
+
+part-put-start : tie.Need-part-put-start Inv-loop μ-loop
+part-put-start c = search needs
+
+part-put-end : tie.Need-part-put-end Inv-loop μ-loop
+part-put-end c =
+    let a = c .before .before .before .before .before .args in
+    let p = c .before .before .before .before .before .pre in
+    let inv = c .before .before .loop .inv in
+    omega (arith, inv .1, gathering.starts (a .cells .now) (a .buffer .now) (a .k) (a .c) (p .0) (p .1) (c .before .before .loop .counter) (c .before .loop-test .taken) .0)
+
+put-requires : tie.Need-put-requires Inv-loop μ-loop
+put-requires c κs = search needs
+
+add-from : tie.Need-add-from Inv-loop μ-loop
+add-from c =
+    let a = c .before .before .before .before .before .before .before .before .before .args in
+    let p = c .before .before .before .before .before .before .before .before .before .pre in
+    omega (arith, p .2, gathering.starts (a .cells .now) (a .buffer .now) (a .k) (a .c) (p .0) (p .1) (c .before .before .before .before .before .before .loop .counter) (c .before .before .before .before .before .loop-test .taken) .0)
+
+add-from-2 : tie.Need-add-from-2 Inv-loop μ-loop
+add-from-2 c =
+    let a = c .before .before .before .before .before .before .before .before .before .args in
+    let p = c .before .before .before .before .before .before .before .before .before .pre in
+    let inv = c .before .before .before .before .before .before .loop .inv in
+    omega (arith, inv .1, p .2, gathering.starts (a .cells .now) (a .buffer .now) (a .k) (a .c) (p .0) (p .1) (c .before .before .before .before .before .before .loop .counter) (c .before .before .before .before .before .loop-test .taken) .0)
+
+add-at : tie.Need-add-at Inv-loop μ-loop
+add-at c =
+    let a = c .before .before .before .before .before .before .before .before .before .args in
+    let p = c .before .before .before .before .before .before .before .before .before .pre in
+    let inv = c .before .before .before .before .before .before .loop .inv in
+    omega (arith, inv .2, p .2, gathering.starts (a .cells .now) (a .buffer .now) (a .k) (a .c) (p .0) (p .1) (c .before .before .before .before .before .before .loop .counter) (c .before .before .before .before .before .loop-test .taken))
+
+add-counter : tie.Need-add-counter Inv-loop μ-loop
+add-counter c = omega (arith, c .before .before .before .before .before .loop-test .taken, c .before .before .before .before .before .before .before .before .before .fits .c)
+
+loop-less : tie.Need-loop-less Inv-loop μ-loop
+loop-less c = omega (arith, c .before .before .before .before .before .loop-test .taken)
+
+loop-again : tie.Need-loop-again Inv-loop μ-loop
+loop-again c =
+    let a = c .before .before .before .before .before .before .before .before .before .args in
+    let p = c .before .before .before .before .before .before .before .before .before .pre in
+    let inv = c .before .before .before .before .before .before .loop .inv in (
+      omega (arith, c .before .before .before .before .before .loop-test .taken),
+      omega (arith, inv .1),
+      omega (arith, inv .2),
+      gathering.gathered-more (a .cells .now) (a .buffer .now) (a .k) (a .c) (p .0) (p .1) (c .before .before .before .before .before .before .loop .counter) (c .before .before .before .before .before .before .loop .from) (c .before .before .before .before .before .before .loop .at) (c .before .before .before .before .before .before .loop .buffer) _ _ (c .before .before .before .before .before .loop-test .taken) (inv .1) (inv .2) (inv .3) (c .before .before .put .ensures),
+    )
+
+same-length : tie.Need-same-length Inv-loop μ-loop
+same-length c =
+    let a = c .before .before .before .before .args in
+    let p = c .before .before .before .before .pre in
+    let inv = c .before .loop .inv in
+    gathering.gathered-length (a .cells .now) (a .buffer .now) (a .k) (a .c) (p .0) (p .1) (c .before .loop .counter) (c .before .loop .buffer) (inv .0) (inv .3)
+
+returns : tie.Need-returns Inv-loop μ-loop
+returns c =
+    let a = c .before .before .before .before .args in
+    let inv = c .before .loop .inv in
+    gathering.gathered-all (a .cells .now) (a .buffer .now) (c .before .loop .buffer) (a .k) (c .before .loop .counter) (a .c) (inv .0) (c .loop-test .left) (inv .3)
+
+pub gather-spec : {M : Type 1} → statement M
+gather-spec =
+    tie.close
+    (tie.spec
+    Inv-loop
+    μ-loop
+    loop-holds
+    add-put
+    sub-put
+    part-put-start
+    part-put-end
+    put-requires
+    add-from
+    add-from-2
+    add-at
+    add-counter
+    loop-less
+    loop-again
+    same-length
+    returns)
