@@ -5,3 +5,7 @@ pub mod Gathering
 pub mod Zeros
 pub mod ChunkFigures
 pub mod Decoding
+pub mod Joining
+pub mod Checks
+pub mod Handing
+pub mod Proved

@@ -1,0 +1,97 @@
+-- `hand_out` meets its contract: what is proposed is handed out where the AF checks pass it. Assumes nothing.
+use mathlib.Core.Path.{_≡_, sym, subst}
+use mathlib.Core.List.{List}
+use Prim.Native.Nat.{ℕ, _≤_}
+use borrow.Author.Tests.{not-true, not-false}
+use lib.ListN.{length, take}
+use lib.Seq.{length-take-le}
+use Rattle.base.proofs.Logic.{told}
+use Rattle.places.proofs.Ranges.{range-from}
+use Rattle.form.specs.Inner.{Only, Proposal}
+use Rattle.form.proofs.Handing.{form-nothing, not-accepted, form-packet}
+use borrow.Author.Needs.{needs}
+use Rattle.form.proofs.calls.hand_out.Statement.{statement}
+use Rattle.form.proofs.calls.hand_out.Tie as tie
+
+-- the bytes proposed, and that they are the one packet which can agree
+abbrev bytes : tie.After-known-told → List ℕ
+bytes c = take (c .before .n .given .0 .0) (c .before .before .before .before .propose .last .1 .1 .0)
+
+one : (c : tie.After-known-told) → (c .before .n .given .0 .0 ≤ length (c .before .before .before .before .propose .last .1 .1 .0)) × Only (c .before .before .before .before .before .before .before .before .args .p) (c .before .before .before .before .before .before .before .before .args .held .now) (bytes c)
+one c = subst (Proposal (c .before .before .before .before .before .before .before .before .args .p) (c .before .before .before .before .before .before .before .before .args .held .now) (c .before .before .before .before .propose .last .1 .1 .0)) (c .before .n .given .1) (c .before .before .before .before .propose .ensures .0)
+
+long : (c : tie.After-known-told) → c .before .n .given .0 .0 ≡ length (bytes c)
+long c = sym (length-take-le _ _ (one c .0))
+
+slice-aggregate-propose : tie.Need-slice-aggregate-propose
+slice-aggregate-propose c = search needs
+
+propose-requires : tie.Need-propose-requires
+propose-requires c κs = search needs
+
+enum-told : tie.Need-enum-told
+enum-told c = search needs
+
+enum-known-n : tie.Need-enum-known-n
+enum-known-n c = search needs
+
+array-share-prefix-buffer : tie.Need-array-share-prefix-buffer
+array-share-prefix-buffer c = one c .0
+
+slice-aggregate-accepted : tie.Need-slice-aggregate-accepted
+slice-aggregate-accepted c = long (c .before)
+
+accepted-requires : tie.Need-accepted-requires
+accepted-requires c κs = search needs
+
+returns : tie.Need-returns
+returns c =
+    let s = c .before .before .before .before .before .before .before .before .before .before .before in
+    not-accepted (s .args .p) (s .args .held .now) (s .args .out .now) (s .pre .0) (s .pre .1) _ (one (c .before .before .before) .1) (told (c .before .accepted .ensures) (not-true (c .before .accepted .result) (c .if1 .taken)))
+
+array-share-prefix-buffer-2 : tie.Need-array-share-prefix-buffer-2
+array-share-prefix-buffer-2 c = one (c .before .before .before .before) .0
+
+slice-aggregate-put : tie.Need-slice-aggregate-put
+slice-aggregate-put c = long (c .before .before .before .before .before)
+
+put-requires : tie.Need-put-requires
+put-requires c κs = search needs
+
+missing-in-requires : tie.Need-missing-in-requires
+missing-in-requires c κs = range-from (c .before .before .before .before .before .before .before .before .before .before .before .before .before .before .before .before .args .p) (c .before .before .before .before .before .before .before .before .before .before .before .before .before .before .before .before .pre .0 .ranged) .count
+
+returns-2 : tie.Need-returns-2
+returns-2 c =
+    let s = c .before .before .before .before .before .before .before in
+    let none = subst (Proposal (s .args .p) (s .args .held .now) (c .before .before .before .propose .last .1 .1 .0)) (c .enum-told .given .1) (c .before .before .before .propose .ensures .0) in
+    form-nothing (s .args .p) (s .args .held .now) (s .args .out .now) (s .pre .0) (s .pre .1) none
+
+same-length : tie.Need-same-length
+same-length c = search needs
+
+returns-3 : tie.Need-returns-3
+returns-3 c =
+    let s = c .before .before .before .before .before .before .before .before .before .before .before .before .before .before .before .before .before in
+    let asked = c .before .before .before .before .before .before .before .accepted in
+    form-packet (s .args .p) (s .args .held .now) (s .args .out .now) (s .pre .0) (s .pre .1) _ (one (c .before .before .before .before .before .before .before .before .before) .1) (told (asked .ensures) (not-false (asked .result) (c .before .before .before .before .before .before .if1 .left))) _ _ _ _ (long (c .before .before .before .before .before .before .before .before .before)) (c .missing-in .ensures) (c .before .before .before .put .ensures)
+
+pub hand-out-spec : {M : Type 1} → statement M
+hand-out-spec =
+    tie.close
+    (tie.spec
+    slice-aggregate-propose
+    propose-requires
+    enum-told
+    enum-known-n
+    array-share-prefix-buffer
+    slice-aggregate-accepted
+    accepted-requires
+    returns
+    array-share-prefix-buffer-2
+    slice-aggregate-put
+    put-requires
+    missing-in-requires
+    returns-2
+    same-length
+    returns-3)
