@@ -1,0 +1,77 @@
+-- After a fragment was kept in a place: what forming answered is how the place settles. Assumes nothing.
+use mathlib.Core.Path.{_≡_, sym, _∙_, subst}
+use mathlib.Core.Bool.{false}
+use mathlib.Core.List.{List, []}
+use Prim.Native.Nat.{ℕ, _-_, _*_, _<_}
+use native.Mathlib.Omega.{arith}
+use borrow.Author.Tests.{le-ltb}
+use lib.ListN.{length, take, drop, length-drop}
+use lib.Seq.{take-all}
+use Rattle.base.specs.Bounds.{most-l, place}
+use Rattle.base.specs.Answer.{granted, refused}
+use Rattle.base.proofs.Answers.{grants}
+use Rattle.base.proofs.Firsts.{skip, none-due}
+use Rattle.places.specs.declared.Place.{Place}
+use Rattle.places.specs.declared.Table.{Table}
+use Rattle.places.specs.declared.Displaced.{Displaced}
+use Rattle.places.specs.Places.{four, delivered, spoiled, placeAt, withPlace, inCondition}
+use Rattle.places.specs.Faults.{badPlace}
+use Rattle.form.specs.Calls.{formFault, numberOf, valuesOf, PlaceFormed}
+use Rattle.form.specs.declared.Formed.{Formed}
+use Rattle.form.specs.declared.Formed.the-variants.{Waits, Packet, Nothing, Refused}
+use Rattle.receiver.specs.declared.Received.the-variants as received
+use Rattle.receiver.specs.Promise.{outcome, closedAt, bytesAt, Settled, waits, delivers, damaged}
+use Rattle.receiver.specs.Inner.{Lent}
+
+-- a place in another condition
+pub closes : (t : Table) (i condition : ℕ) {p q : Place} {u : Table} → p ≡ placeAt t i → q ≡ inCondition p condition → u ≡ withPlace t i q
+    → u ≡ closedAt t i condition
+unfolding closedAt
+closes t i condition is-p is-q is-u = rw (is-u, is-q, is-p)
+
+-- the rest of a list from a on, as a part is lent
+pub rest-part : (a : ℕ) (l : List ℕ) → take (length l - a) (drop a l) ≡ drop a l
+rest-part a l = take-all (length l - a) (drop a l) (omega (arith, length-drop a l))
+
+-- what was formed of a place's bytes, by the table
+pub formed-at : (t : Table) (i : ℕ) (b out : List ℕ) {p : Place} {after : List ℕ} {r q : Formed} → p ≡ placeAt t i → r ≡ q
+    → PlaceFormed p (take (length b - i * place) (drop (i * place) b)) out after r → PlaceFormed (placeAt t i) (bytesAt b i) out after q
+unfolding bytesAt
+formed-at t i b out {p} {after} {r} {q} is-p is-r f =
+    subst (λ (x : Place). PlaceFormed x (drop (i * place) b) out after q) is-p
+    (subst (λ (x : List ℕ). PlaceFormed p x out after q) (rest-part (i * place) b)
+    (subst (λ (x : Formed). PlaceFormed p (take (length b - i * place) (drop (i * place) b)) out after x) is-r f))
+
+-- ---- how it settles
+
+module _ (t : Table) (i : ℕ) (d : Displaced) (b out : List ℕ) {after : List ℕ} where
+  pub settles-waiting : PlaceFormed (placeAt t i) (bytesAt b i) out after Waits → Settled t i d b out (outcome (received.Kept d) t b after)
+  settles-waiting f = rw (f .left .1) (waits (f .left .0))
+
+  module _ {u : Table} where
+    pub settles-delivered : {n m : ℕ} → PlaceFormed (placeAt t i) (bytesAt b i) out after (Packet n m) → u ≡ closedAt t i delivered
+        → Settled t i d b out (outcome (received.Delivered n m d) u b after)
+    settles-delivered f is-u =
+        let h = f .left .1 in rw (h .told, h .missing, is-u, h .written) (delivers (h .packet) (f .left .0) (h .agrees))
+
+    pub settles-damaged : PlaceFormed (placeAt t i) (bytesAt b i) out after Nothing → u ≡ closedAt t i spoiled
+        → Settled t i d b out (outcome (received.Damaged d) u b after)
+    settles-damaged f is-u = rw (is-u, f .left .2) (damaged (f .left .0) (f .left .1))
+
+-- ---- forming is not refused
+
+module _ (t : Table) (i : ℕ) (b out : List ℕ) (below : i < four) (lent : Lent b out) (fine : badPlace (placeAt t i) ≡ false) where
+  no-fault : 0 ≡ formFault (placeAt t i) (length (bytesAt b i)) (length out)
+  unfolding formFault bytesAt
+  no-fault =
+      skip 14 _ fine
+      (skip 1 _
+      (rw (le-ltb (length (drop (i * place) b)) place (omega (arith, length-drop (i * place) b, lent .all)), le-ltb (length out) most-l (lent .room)))
+      none-due)
+
+  pub never-refused : {after : List ℕ} {n : ℕ} → PlaceFormed (placeAt t i) (bytesAt b i) out after (Refused n) → ⊥
+  unfolding numberOf valuesOf
+  never-refused {after} {n} f =
+      let told : refused n ≡ granted [] = f .number ∙ sym (grants _ [] no-fault) in
+      let z : _≡_ {A = ℕ} 0 1 = cc in
+      omega arith

@@ -1,0 +1,66 @@
+-- A fragment is kept within its place. Assumes nothing.
+use mathlib.Core.Path.{_≡_, refl, ap, _∙_, subst}
+use mathlib.Core.Bool.{false}
+use mathlib.Core.List.{List}
+use Prim.Native.Nat.{ℕ, _+_, _*_, _≤_, _<_}
+use native.Mathlib.Nat.{mul-le-mul-right}
+use native.Mathlib.Omega.{arith}
+use lib.ListN.{length}
+use Rattle.base.specs.Answer.{Answer, outcome as leaves}
+use Rattle.base.specs.Bounds.{place}
+use Rattle.base.specs.Bytes.{splice}
+use Rattle.base.specs.Written.{putOf}
+use Rattle.base.proofs.Answers.{put-is}
+use Rattle.base.proofs.Logic.{either}
+use Rattle.base.proofs.Splice.{splice-length}
+use Rattle.header.specs.declared.Header.{Header}
+use Rattle.header.specs.Claims.{Sound}
+use Rattle.places.specs.declared.Place.{Place}
+use Rattle.places.specs.declared.Table.{Table}
+use Rattle.places.specs.declared.Displaced.{Displaced}
+use Rattle.places.specs.Places.{four, isLast, offsetOf, placeAt, withPlace, keptIn}
+use Rattle.places.specs.Faults.{badPlace}
+use Rattle.places.proofs.Records.{offset-last, offset-other}
+use Rattle.receiver.specs.Promise.{Outcome, all-places, keepAt, Settled, SettledAfter}
+use Rattle.receiver.specs.Inner.{Heard}
+use Rattle.receiver.proofs.Ranges.{written-place}
+
+module _ (h : Header) (s : Sound h) where
+  ends-within : h .index * h .plen + h .plen ≤ place
+  ends-within =
+      let more : (h .index + 1) * h .plen ≤ h .count * h .plen = mul-le-mul-right (h .plen) (omega (arith, s .below)) in
+      omega (arith, s .fits, more)
+
+  pub offset-fits : offsetOf h + h .plen ≤ place
+  offset-fits =
+      either (isLast h)
+      (λ e. omega (arith, offset-last h refl e, ends-within))
+      (λ e. omega (arith, offset-other h refl e, ends-within))
+
+-- a table's place that keeps it is in range, where the place with it is
+pub kept-fine : (t : Table) (i : ℕ) (p : Place) (h : Header) → length (t .places) ≡ four → i < four → badPlace (keptIn p h) ≡ false
+    → {q : Place} {u : Table} → q ≡ keptIn p h → u ≡ withPlace t i q → badPlace (placeAt u i) ≡ false
+kept-fine t i p h size below fine {q} is-q is-u =
+    ap (λ (x : Table). badPlace (placeAt x i)) is-u ∙ ap badPlace (written-place t i q size below ∙ is-q) ∙ fine
+
+module _ (t : Table) (i : ℕ) (p : Place) (d : Displaced) (h : Header) (b payload : List ℕ) where
+  module _ (below : i < four) (long : length b ≡ all-places) (heard : Heard h payload) where
+    fits : i * place + offsetOf h + length payload ≤ length b
+    fits = omega (arith, offset-fits h (heard .sound), heard .size)
+
+    module _ {at : ℕ} {after : List ℕ} {a : Answer} (is-at : at ≡ offsetOf h) (put : leaves a after ≡ putOf b (i * place + at) payload) where
+      -- the payload stands in its place,
+      pub kept-bytes : after ≡ splice b (i * place + offsetOf h) payload
+      kept-bytes = put-is b payload after (i * place + offsetOf h) a fits (put ∙ ap (λ (x : ℕ). putOf b (i * place + x) payload) is-at)
+
+      -- there are as many bytes as before,
+      pub kept-long : length after ≡ all-places
+      kept-long = ap length kept-bytes ∙ splice-length b (i * place + offsetOf h) payload fits ∙ long
+
+      -- and what settles then settles after keeping it
+      pub keeps-at : {out : List ℕ} {q : Place} {u : Table} {y : Outcome} → q ≡ keptIn p h → u ≡ withPlace t i q → Settled u i d after out y
+          → SettledAfter (keepAt t i p d h b payload) out y
+      unfolding keepAt
+      keeps-at {out} {q} {u} {y} is-q is-u settled =
+          subst (λ (x : List ℕ). Settled (withPlace t i (keptIn p h)) i d x out y) kept-bytes
+          (subst (λ (x : Table). Settled x i d after out y) (is-u ∙ ap (withPlace t i) is-q) settled)

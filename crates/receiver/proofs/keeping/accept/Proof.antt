@@ -1,0 +1,90 @@
+-- `accept` meets its contract: by the place that holds the number, or a place that is opened. Assumes nothing.
+use borrow.Author.Needs.{needs}
+use Rattle.receiver.proofs.Arrivals.{refusal-is, arrives-refused, arrives-there, arrives-new, there-fine, new-fine, new-below}
+use Rattle.receiver.proofs.keeping.accept.Statement.{statement}
+use Rattle.receiver.proofs.keeping.accept.Tie as tie
+
+held-at-requires : tie.Need-held-at-requires
+held-at-requires c κs = search needs
+
+place-at-requires : tie.Need-place-at-requires
+place-at-requires c κs = search needs
+
+place-fault-requires : tie.Need-place-fault-requires
+place-fault-requires c κs = search needs
+
+refusal-requires : tie.Need-refusal-requires
+refusal-requires c κs = search needs
+
+returns : tie.Need-returns
+returns c =
+    let a = c .before .before .before .before .before .before .before .before .before .args in
+    arrives-refused (a .t) (a .h) (a .lent .now) (a .payload .now) (a .out .now) (c .before .before .before .before .before .held-at .ensures) (c .before .before .before .before .if1 .taken) (c .before .before .before .place-at .ensures) (c .before .before .place-fault .ensures) (c .before .if2 .taken) (refusal-is _ _ (c .refusal .ensures))
+
+keep-requires : tie.Need-keep-requires
+keep-requires c κs =
+    let a = c .before .before .before .before .before .before .before .before .before .before .args in
+    let p = c .before .before .before .before .before .before .before .before .before .before .pre in
+    (c .before .before .before .before .before .if1 .taken, p .1, p .2, there-fine (a .t) (a .h) (p .2 .sound) (p .0) (c .before .before .before .before .before .if1 .taken) (c .before .before .before .before .place-at .ensures) (c .before .before .before .place-fault .ensures) (c .before .before .if2 .left))
+
+same-length : tie.Need-same-length
+same-length c = search needs
+
+same-length-2 : tie.Need-same-length-2
+same-length-2 c = search needs
+
+returns-2 : tie.Need-returns-2
+returns-2 c =
+    let a = c .before .before .before .before .before .before .before .before .before .before .before .before .before .before .before .args in
+    arrives-there (a .t) (a .h) (a .lent .now) (a .payload .now) (a .out .now) (c .before .before .before .before .before .before .before .before .before .before .before .held-at .ensures) (c .before .before .before .before .before .before .before .before .before .before .if1 .taken) (c .before .before .before .before .before .before .before .before .before .place-at .ensures) (c .before .before .before .before .before .before .before .before .place-fault .ensures) (c .before .before .before .before .before .before .before .if2 .left) (c .before .before .before .before .keep .ensures)
+
+open-at-requires : tie.Need-open-at-requires
+open-at-requires c κs = search needs
+
+displaced-at-requires : tie.Need-displaced-at-requires
+displaced-at-requires c κs = search needs
+
+turned-requires : tie.Need-turned-requires
+turned-requires c κs = search needs
+
+opened-by-requires : tie.Need-opened-by-requires
+opened-by-requires c κs = search needs
+
+keep-requires-2 : tie.Need-keep-requires-2
+keep-requires-2 c κs =
+    let a = c .before .before .before .before .before .before .before .before .before .before .before .args in
+    let p = c .before .before .before .before .before .before .before .before .before .before .before .pre in
+    (new-below (a .t) (a .h) (p .2 .sound) (p .0) (c .before .before .before .before .before .open-at .ensures), p .1, p .2, new-fine (a .t) (a .h) (p .2 .sound) (c .before .before .opened-by .ensures))
+
+same-length-3 : tie.Need-same-length-3
+same-length-3 c = search needs
+
+same-length-4 : tie.Need-same-length-4
+same-length-4 c = search needs
+
+returns-3 : tie.Need-returns-3
+returns-3 c =
+    let a = c .before .before .before .before .before .before .before .before .before .before .before .before .before .before .before .before .args in
+    arrives-new (a .t) (a .h) (a .lent .now) (a .payload .now) (a .out .now) (c .before .before .before .before .before .before .before .before .before .before .before .before .held-at .ensures) (c .before .before .before .before .before .before .before .before .before .before .before .if1 .left) (c .before .before .before .before .before .before .before .before .before .before .open-at .ensures) (c .before .before .before .before .before .before .before .before .before .displaced-at .ensures) (c .before .before .before .before .before .before .before .before .turned .ensures) (c .before .before .before .before .before .before .before .opened-by .ensures) (c .before .before .before .before .keep2 .ensures)
+
+pub accept-spec : {M : Type 1} → statement M
+accept-spec =
+    tie.close
+    (tie.spec
+    held-at-requires
+    place-at-requires
+    place-fault-requires
+    refusal-requires
+    returns
+    keep-requires
+    same-length
+    same-length-2
+    returns-2
+    open-at-requires
+    displaced-at-requires
+    turned-requires
+    opened-by-requires
+    keep-requires-2
+    same-length-3
+    same-length-4
+    returns-3)

@@ -1,0 +1,21 @@
+-- `seen_at` meets its contract. Assumes nothing.
+use mathlib.Core.Path.{ap, _∙_}
+use borrow.Author.Needs.{needs}
+use Rattle.places.proofs.Records.{as-long}
+use Rattle.places.specs.Faults.{badPlace}
+use Rattle.receiver.specs.Calls.{shownOf}
+use Rattle.receiver.proofs.Ranges.{any-fine}
+use Rattle.receiver.proofs.table.seen_at.Statement.{statement}
+use Rattle.receiver.proofs.table.seen_at.Tie as tie
+
+place-at-requires : tie.Need-place-at-requires
+place-at-requires c κs = search needs
+
+seen-requires : tie.Need-seen-requires
+seen-requires c κs = ap badPlace (c .place-at .ensures) ∙ any-fine (c .before .args .t) (c .before .pre) (as-long (c .before .args .t .places) _ (c .before .good .0 .1 .1 .0 .1 .0 .1)) (c .before .args .i)
+
+returns : tie.Need-returns
+returns c = c .seen .ensures ∙ ap shownOf (c .before .place-at .ensures)
+
+pub seen-at-spec : {M : Type 1} → statement M
+seen-at-spec = tie.close (tie.spec place-at-requires seen-requires returns)
