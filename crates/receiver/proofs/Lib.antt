@@ -4,3 +4,6 @@ pub mod Forming
 pub mod Offsets
 pub mod Arrivals
 pub mod Steps
+pub mod Unique
+pub mod Left
+pub mod Proved
