@@ -155,7 +155,7 @@ module _ (g : Settings) (packet : List ℕ) where
     unfolding packetFault many unsound
     checked-rest = clear-rest (not (fit g)) 40 unsound (λ (e : 40 ≡ 0). omega arith) passed
 
-    sound : afFault packet ≡ 0
+    pub sound : afFault packet ≡ 0
     unfolding unsound
     sound = either (eqb (afFault packet) 0) (λ e. eqb-true (afFault packet) 0 e) (λ e. due (afFault packet) many (rw e) ∙ checked-rest)
 

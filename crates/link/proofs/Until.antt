@@ -1,0 +1,187 @@
+-- T2: what is promised of a packet from its first fragment until it is displaced. Assumes nothing.
+use mathlib.Core.Logic.{_⊎_, inl, inr}
+use mathlib.Core.Path.{_≡_, refl, sym, ap, _∙_}
+use mathlib.Core.Bool.{Bool, true, false}
+use mathlib.Core.List.{List, [], _∷_}
+use Prim.Native.Nat.{ℕ, _<_}
+use native.Mathlib.Omega.{arith}
+use lib.ListN.{length}
+use Rattle.base.proofs.Logic.{either, clash}
+use Rattle.cut.specs.declared.Settings.{Settings}
+use Rattle.header.specs.Read.{faultOf}
+use Rattle.places.specs.declared.Displaced.{Displaced}
+use Rattle.places.specs.declared.Displaced.the-variants as displaced
+use Rattle.places.specs.Places.{four, free, heldAt}
+use Rattle.receiver.specs.declared.Received.the-variants.{Kept, Delivered, Refused}
+use Rattle.receiver.specs.Promise.{displacedValues, numberOf, Outcome, outcome, State}
+use Rattle.link.specs.Run.{Call, after, Made, Run, start, next, Reached, Holds, ShownOpen, numberIn, come, All}
+use Rattle.link.specs.Demand.{Takes, Own, enoughAfter, Answered, DisplacedBy, Promised, HandedOut, T2}
+use Rattle.link.proofs.Basic.{less-or-not}
+use Rattle.link.proofs.View.{Good, View, unheard, refuses, keeps, opens}
+use Rattle.link.proofs.Frame.{see, good-run, good-reached}
+use Rattle.link.proofs.Shown.{shown-open}
+use Rattle.link.proofs.Enough.{enough-is}
+use Rattle.link.proofs.Heard.{Brings, Foreign, brings, its-own, either-kind, come-none, come-foreign, come-it}
+use Rattle.link.proofs.Stage.{Stage, not-yet, open-at, done-at, Gone, open-held, done-held, enough-with, enough-none, foreign-step}
+use Rattle.link.proofs.Brought.{Next, own-step}
+
+-- ---- answers that are not a packet handed out
+
+refused-or-handed : (x length missing : ℕ) (d : Displaced) → numberOf (Refused x) ≡ numberOf (Delivered length missing d) → ⊥
+unfolding numberOf
+refused-or-handed x l m d e = let z : _≡_ {A = ℕ} 0 (length (l ∷ m ∷ displacedValues d)) = ap (λ (a : ℕ × List ℕ). length (a .1)) e in omega arith
+
+kept-or-handed : (d′ : Displaced) (length missing : ℕ) (d : Displaced) → numberOf (Kept d′) ≡ numberOf (Delivered length missing d) → ⊥
+unfolding numberOf displacedValues
+kept-or-handed displaced.None l m d e =
+    let z : _≡_ {A = ℕ} 1 (length (l ∷ m ∷ displacedValues d)) = ap (λ (a : ℕ × List ℕ). length (a .1)) e in omega arith
+kept-or-handed (displaced.Number x) l m displaced.None e = let z : _≡_ {A = ℕ} 2 3 = ap (λ (a : ℕ × List ℕ). length (a .1)) e in omega arith
+kept-or-handed (displaced.Number x) l m (displaced.Number y) e = let z : _≡_ {A = ℕ} 2 4 = ap (λ (a : ℕ × List ℕ). length (a .1)) e in omega arith
+
+refused-told : (e : Call) (s : State) (x : ℕ) → e .left ≡ outcome (Refused x) (s .table) (s .bytes) (e .lent) → e .left .answer ≡ numberOf (Refused x)
+unfolding outcome
+refused-told e s x q = ap (λ (y : Outcome). y .answer) q
+
+module _ (g : Settings) (n : ℕ) (packet : List ℕ) (takes : Takes g n packet) where
+  -- ---- where it is held
+
+  -- something of it came where it is held,
+  some-came : (es : List Call) (s : State) → Stage g n packet es s → Holds s n → come n es ≡ (λ i. false) → ⊥
+  some-came es s (not-yet absent c) held none = omega (arith, absent, held)
+  some-came es s (open-at i o z) held none = o .some none
+  some-came es s (done-at i o z) held none = clash z (enough-none g n packet takes es none)
+
+  -- and it is held where something of it came
+  is-held : (es : List Call) (s : State) → Stage g n packet es s → (come n es ≡ (λ i. false) → ⊥) → Holds s n
+  is-held es s (not-yet absent c) some = absurd (some c)
+  is-held es s (open-at i o z) some = omega (arith, open-held g n packet (come n es) s i o, o .low)
+  is-held es s (done-at i o z) some = omega (arith, done-held g n packet s i o, o .low)
+
+  module _ (es : List Call) (s : State) (r : Good s) (st : Stage g n packet es s) where
+    -- ---- the next call, where the number shows
+
+    shown-stage : Holds s n → enoughAfter g n packet es ≡ false → ShownOpen s n
+    shown-stage held f = go st
+      where
+        go : Stage g n packet es s → ShownOpen s n
+        go (not-yet absent c) = absurd (omega (arith, absent, held))
+        go (open-at i o z) = shown-open r i n (o .low) (o .full .is-open) (o .full .mine .number)
+        go (done-at i o z) = clash z f
+
+    module _ (e : Call) (made : Made s e) where
+      brought : (i : ℕ) → Brings g n packet e i → Next g n packet es e i
+      brought i b = own-step g n packet takes es s r e made i b st
+
+      foreign : Foreign n e → Stage g n packet (e ∷ es) (after e) ⊎ Gone g n packet es e
+      foreign f = foreign-step g n packet takes es s e f r made st
+
+      pub stays : Own g n packet e → Holds (after e) n → Stage g n packet (e ∷ es) (after e)
+      stays own held = either-kind g n packet takes e own (λ i b. brought i b .stage) (λ f. go (foreign f))
+        where
+          go : Stage g n packet (e ∷ es) (after e) ⊎ Gone g n packet es e → Stage g n packet (e ∷ es) (after e)
+          go (inl x) = x
+          go (inr x) = absurd (x .gone held)
+
+      -- what is not its own is not handed out under its number
+      not-handed : (i : ℕ) → Brings g n packet e i → enoughAfter g n packet (e ∷ es) ≡ false
+          → (length missing : ℕ) (d : Displaced) → e .left .answer ≡ numberOf (Delivered length missing d) → ⊥
+      not-handed i b f l m d told =
+          let a : Answered g n packet es e i = brought i b .answered in
+          either (come n es i)
+          (λ old.
+          either (enoughAfter g n packet es)
+          (λ yet. refused-or-handed 11 l m d (sym (a .late yet .0) ∙ told))
+          (λ before. refused-or-handed 12 l m d (sym (a .again old before .0) ∙ told)))
+          (λ new. let k = a .kept new f .0 in kept-or-handed (k .0) l m d (sym (k .1) ∙ told))
+
+      quiet-call : Own g n packet e → enoughAfter g n packet (e ∷ es) ≡ false
+          → (length missing : ℕ) (d : Displaced) → e .left .answer ≡ numberOf (Delivered length missing d) → numberIn e ≡ n → ⊥
+      quiet-call own f l m d told is = go (see r made)
+        where
+          heard-call : faultOf (e .own) (e .datagram) ≡ 0 → ⊥
+          heard-call passes = let one = its-own g n packet takes e own passes is in not-handed (one .0) (one .1) f l m d told
+
+          go : View (e .own) s (e .datagram) (e .lent) (e .left) → ⊥
+          go (unheard fault q) = refused-or-handed _ l m d (sym (refused-told e s _ q) ∙ told)
+          go (refuses passes low fault q) = heard-call passes
+          go (keeps passes low fault z) = heard-call passes
+          go (opens passes high z) = heard-call passes
+
+      leaves : Own g n packet e → Holds s n → (Holds (after e) n → ⊥) → DisplacedBy g n packet es e
+      leaves own held lost-now =
+          either-kind g n packet takes e own
+          (λ i b. absurd (lost-now (is-held (e ∷ es) (after e) (brought i b .stage) (own-came i b))))
+          (λ f. go f (foreign f))
+        where
+          own-came : (i : ℕ) → Brings g n packet e i → come n (e ∷ es) ≡ (λ j. false) → ⊥
+          own-came i b none = clash (come-it g n packet e es i b) (ap (λ (came : ℕ → Bool). came i) none)
+
+          go : Foreign n e → Stage g n packet (e ∷ es) (after e) ⊎ Gone g n packet es e → DisplacedBy g n packet es e
+          go f (inl x) = absurd (lost-now (is-held (e ∷ es) (after e) x (λ none. some-came es s st held (sym (come-foreign n e es f) ∙ none))))
+          go f (inr x) = x .by
+
+  -- ---- the run
+
+  module _ (first : State) (reached : Reached first) (absent : Holds first n → ⊥) where
+    standing : {es : List Call} {s : State} → Run first es s → All (Own g n packet) es → All (λ e. Holds (after e) n) es → Stage g n packet es s
+    unfolding All
+    standing start own held = not-yet (less-or-not (heldAt (first .table) n) four (λ l. absurd (absent l)) (λ l. l)) (come-none n)
+    standing (next {es = es} {u = u} e run m) own held =
+        stays es u (good-run (good-reached reached) run) (standing run (own .1) (held .1)) e m (own .0) (held .0)
+
+    held-now : {es : List Call} {s : State} → Run first es s → All (λ e. Holds (after e) n) es → 0 < length es → Holds s n
+    unfolding All
+    held-now start held some = absurd (omega arith)
+    held-now (next e run m) held some = held .0
+
+    promised : {es : List Call} {s : State} → Run first es s → All (Own g n packet) es → All (λ e. Holds (after e) n) es → Promised g n packet es s
+    promised {es} {s} run own held =
+        let r : Good s = good-run (good-reached reached) run in
+        let st : Stage g n packet es s = standing run own held in
+        record {
+          shown = λ some. shown-stage es s r st (held-now run held some);
+          answered = λ e made i below is matches. brought es s r st e made i (brings g n packet takes e i below is matches) .answered;
+          quiet = λ e made its. quiet-call es s r st e made its;
+          displaced = λ e made its some. leaves es s r st e made its (held-now run held some);
+        }
+
+    -- ---- it is handed out
+
+    -- the call with which it is enough
+    turning : {es : List Call} {s : State} → Run first es s → All (Own g n packet) es → All (λ e. Holds (after e) n) es
+        → (e : Call) → Made s e → Own g n packet e → enoughAfter g n packet es ≡ false → enoughAfter g n packet (e ∷ es) ≡ true → HandedOut g n packet (e ∷ es)
+    turning {es} {s} run own held e made its before now =
+        either-kind g n packet takes e its
+        (λ i b.
+        let a = brought es s (good-run (good-reached reached) run) (standing run own held) e made i b .answered .delivered before now in
+        record { later = []; call = e; earlier = es; split = refl; before = before; enough-now = now; told = a .0; written = a .1 })
+        (λ f.
+        clash now (enough-with g n packet takes (e ∷ es) (come n es) (come-foreign n e es f) ∙ sym (enough-is g packet (takes .passed) n es) ∙ before))
+
+    handed-out : {es : List Call} {s : State} → Run first es s → All (Own g n packet) es → All (λ e. Holds (after e) n) es
+        → enoughAfter g n packet es ≡ true → HandedOut g n packet es
+    unfolding All
+    handed-out start own held now = clash now (enough-none g n packet takes [] (come-none n))
+    handed-out (next {es = es} e run made) own held now =
+        either (enoughAfter g n packet es)
+        (λ yet. behind e es (handed-out run (own .1) (held .1) yet))
+        (λ before. turning run (own .1) (held .1) e made (own .0) before now)
+      where
+        behind : (e : Call) (es : List Call) → HandedOut g n packet es → HandedOut g n packet (e ∷ es)
+        behind e es h =
+            record {
+              later = e ∷ h .later;
+              call = h .call;
+              earlier = h .earlier;
+              split = ap (λ (l : List Call). e ∷ l) (h .split);
+              before = h .before;
+              enough-now = h .enough-now;
+              told = h .told;
+              written = h .written;
+            }
+
+pub until-displaced : T2
+until-displaced g n packet first es now scene held = (
+  promised g n packet (scene .takes) first (scene .reached) (scene .free) (scene .run) (scene .own) held,
+  handed-out g n packet (scene .takes) first (scene .reached) (scene .free) (scene .run) (scene .own) held,
+)

@@ -1,0 +1,3 @@
+pub mod Run
+pub mod Demand
+pub mod Reached
