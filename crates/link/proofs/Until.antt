@@ -58,7 +58,7 @@ module _ (g : Settings) (n : ℕ) (packet : List ℕ) (takes : Takes g n packet)
   is-held es s (done-at i o z) some = omega (arith, done-held g n packet s i o, o .low)
 
   module _ (es : List Call) (s : State) (r : Good s) (st : Stage g n packet es s) where
-    -- ---- the next call, where the number shows
+    -- ---- what is shown, and the next call
 
     shown-stage : Holds s n → enoughAfter g n packet es ≡ false → ShownOpen s n
     shown-stage held f = go st
@@ -82,7 +82,7 @@ module _ (g : Settings) (n : ℕ) (packet : List ℕ) (takes : Takes g n packet)
           go (inl x) = x
           go (inr x) = absurd (x .gone held)
 
-      -- what is not its own is not handed out under its number
+      -- before it is enough its own fragment is answered with no packet,
       not-handed : (i : ℕ) → Brings g n packet e i → enoughAfter g n packet (e ∷ es) ≡ false
           → (length missing : ℕ) (d : Displaced) → e .left .answer ≡ numberOf (Delivered length missing d) → ⊥
       not-handed i b f l m d told =
@@ -94,6 +94,7 @@ module _ (g : Settings) (n : ℕ) (packet : List ℕ) (takes : Takes g n packet)
           (λ before. refused-or-handed 12 l m d (sym (a .again old before .0) ∙ told)))
           (λ new. let k = a .kept new f .0 in kept-or-handed (k .0) l m d (sym (k .1) ∙ told))
 
+      -- nor is a datagram of its number that is refused by its header
       quiet-call : Own g n packet e → enoughAfter g n packet (e ∷ es) ≡ false
           → (length missing : ℕ) (d : Displaced) → e .left .answer ≡ numberOf (Delivered length missing d) → numberIn e ≡ n → ⊥
       quiet-call own f l m d told is = go (see r made)
@@ -107,6 +108,7 @@ module _ (g : Settings) (n : ℕ) (packet : List ℕ) (takes : Takes g n packet)
           go (keeps passes low fault z) = heard-call passes
           go (opens passes high z) = heard-call passes
 
+      -- a call after which it is no longer held displaced it
       leaves : Own g n packet e → Holds s n → (Holds (after e) n → ⊥) → DisplacedBy g n packet es e
       leaves own held lost-now =
           either-kind g n packet takes e own
