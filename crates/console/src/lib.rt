@@ -7,6 +7,7 @@ mod items;
 mod packets;
 mod plans;
 mod replies;
+mod sending;
 mod sums;
 mod words;
 
@@ -60,7 +61,11 @@ fn ask_all(line: &[u8], out: &mut [u8]) -> usize
     if packet != 0 {
         return packet;
     }
-    items::answer(line, out)
+    let item = items::answer(line, out);
+    if item != 0 {
+        return item;
+    }
+    sending::answer(line, out)
 }
 
 // The groups on what the layers stand on: sums, the sizes of a cut, the field and the code.

@@ -1,13 +1,13 @@
-// Questions on plans: how a packet of some length is cut.
+// Questions on plans: how a packet of some length is cut. The settings in their words stand in the sender's questions too.
 ghost use Rattle.console.specs.Wrote.{Wrote};
 use crate::replies;
 use crate::words;
 use crate::words::Number;
 use crate::words::Pair;
 
-// A plan that is asked for.
-enum Question {
-    Plan(cut::Settings, usize),
+// The settings that a question has in its words 1 to 4.
+pub(crate) enum Asked {
+    Of(cut::Settings),
     Malformed,
 }
 
@@ -16,42 +16,41 @@ enum Question {
 pub(crate) fn answer(line: &[u8], out: &mut [u8]) -> usize
     ensures { λ r. ⌜ Wrote (now (out .entry)) 0 r (now (out .exit)) ⌝ }
 {
-    let Question::Plan(settings, l) = asked(line) else {
+    if !words::asks(line, b"plan", 5) {
+        return 0;
+    }
+    let Asked::Of(g) = settings(line) else {
         return 0;
     };
-    match cut::plan(settings, l) {
+    let Number::Of(l) = words::decimal_at(line, 5) else {
+        return 0;
+    };
+    match cut::plan(g, l) {
         cut::Planned::Cut(figures) => write_plan(out, figures),
         cut::Planned::Refused(by) => replies::refused(out, by),
     }
 }
 
-// The question's words; each has to say what stands in its place.
-fn asked(line: &[u8]) -> Question {
-    if !words::asks(line, b"plan", 5) {
-        return Question::Malformed;
-    }
+// The settings FEC M MTU ADDR; each word has to say what stands in its place.
+pub(crate) fn settings(line: &[u8]) -> Asked {
     let Number::Of(fec) = words::decimal_to(line, 1, 1) else {
-        return Question::Malformed;
+        return Asked::Malformed;
     };
     let Number::Of(m) = words::decimal_at(line, 2) else {
-        return Question::Malformed;
+        return Asked::Malformed;
     };
     let Number::Of(mtu) = words::decimal_at(line, 3) else {
-        return Question::Malformed;
+        return Asked::Malformed;
     };
     let Pair::Of(address) = words::address(words::nth(line, 4)) else {
-        return Question::Malformed;
+        return Asked::Malformed;
     };
-    let Number::Of(l) = words::decimal_at(line, 5) else {
-        return Question::Malformed;
-    };
-    let settings = cut::Settings {
+    Asked::Of(cut::Settings {
         fec: fec == 1,
         m,
         mtu,
         address,
-    };
-    Question::Plan(settings, l)
+    })
 }
 
 // The figures in a row, each behind a blank, its name and an equals sign.

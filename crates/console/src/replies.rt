@@ -62,8 +62,18 @@ pub(crate) fn value(out: &mut [u8], at: usize, label: &[u8], raw: &[u8]) -> usiz
     text::hex(out, to, raw)
 }
 
-// The n bytes that a call wrote at the front of a buffer, behind the answer's name, or its refusal. No
-// call writes more than it was lent, and where one did there would be no answer.
+// The n bytes that a call wrote at the front of a buffer, behind the answer's name. No call writes more
+// than it was lent, and where one did there would be no answer.
+pub(crate) fn front(out: &mut [u8], name: &[u8], buffer: &[u8], n: usize) -> usize
+    ensures { λ r. ⌜ Wrote (now (out .entry)) 0 r (now (out .exit)) ⌝ }
+{
+    if buffer.len() < n {
+        return 0;
+    }
+    bytes(out, name, &buffer[..n])
+}
+
+// The same, or the call's refusal.
 pub(crate) fn written(
     out: &mut [u8],
     name: &[u8],
@@ -74,12 +84,7 @@ pub(crate) fn written(
     ensures { λ r. ⌜ Wrote (now (out .entry)) 0 r (now (out .exit)) ⌝ }
 {
     match by {
-        base::Written::Done => {
-            if buffer.len() < n {
-                return 0;
-            }
-            bytes(out, name, &buffer[..n])
-        }
+        base::Written::Done => front(out, name, buffer, n),
         base::Written::Refused(number) => refused(out, number),
     }
 }

@@ -31,6 +31,15 @@ same-length-3 c = search needs
 returns-3 : tie.Need-returns-3
 returns-3 c = search (next, needs)
 
+answer-requires-3 : tie.Need-answer-requires-3
+answer-requires-3 c κs = search needs
+
+same-length-4 : tie.Need-same-length-4
+same-length-4 c = search needs
+
+returns-4 : tie.Need-returns-4
+returns-4 c = search (next, needs)
+
 pub ask-all-spec : {M : Type 1} → statement M
 ask-all-spec =
     tie.close
@@ -43,4 +52,7 @@ ask-all-spec =
     returns-2
     answer-requires-2
     same-length-3
-    returns-3)
+    returns-3
+    answer-requires-3
+    same-length-4
+    returns-4)
