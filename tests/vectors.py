@@ -3,8 +3,8 @@
     python3 tests/vectors.py
 
 The answers come from crc.txt (made by a peer), from plans.py and fields.py (computed from document 01), from chunks.py (of
-parity.txt, made by a peer), from packets.py (written out beside the sentence of document 01 that gives it, or by its own reader) and from
-the lists below. None is taken from the program. Running this again gives the same bytes.
+parity.txt, made by a peer), from packets.py (written out beside the sentence of document 01 that gives it, or by its own reader), from
+fragments.py (by its own sender) and from the lists below. None is taken from the program. Running this again gives the same bytes.
 """
 import pathlib
 import sys
@@ -12,6 +12,7 @@ import sys
 sys.dont_write_bytecode = True
 import chunks
 import fields
+import fragments
 import packets
 import plans
 
@@ -143,11 +144,15 @@ def elements():
         ask_field(f"pow {e}")
 
 
-def whole_chunks():
-    for title, part in chunks.PARTS:
+def ask_parts(parts):
+    for title, part in parts:
         silent("# " + title)
         for question, answer in part():
             ask(question, answer)
+
+
+def whole_chunks():
+    ask_parts(chunks.PARTS)
 
 
 def packets_and_items():
@@ -201,6 +206,10 @@ def longest_packets():
     ask_packet("list", packets.af(bytes(MOST_BYTES - 12)))
     silent("# the longest listing")
     ask_packet("list", packets.af(heads[:8176], seq=65535, minor=15))
+
+
+def sent_packets():
+    ask_parts(fragments.PARTS)
 
 
 MALFORMED = """\
@@ -328,7 +337,8 @@ def long_lines():
 
 
 def main():
-    for part in (sums, sizes, settings, counts, ordinary, elements, whole_chunks, packets_and_items, longest_packets, malformed, long_lines):
+    for part in (sums, sizes, settings, counts, ordinary, elements, whole_chunks, packets_and_items, longest_packets, sent_packets, malformed,
+                 long_lines):
         part()
         silent("")
     questions.pop()
