@@ -1,0 +1,51 @@
+-- Unpacking: which answer is due after which tests. Assumes nothing.
+use mathlib.Core.Path.{_≡_, sym, ap, ap₂, _∙_}
+use mathlib.Core.Bool.{Bool, true, false, not, cond}
+use mathlib.Core.List.{List, []}
+use Prim.Native.Nat.{ℕ, _<_}
+use native.Mathlib.Omega.{arith}
+use borrow.Author.Tests.{eq-eqb, ne-eqb}
+use lib.Dec.{eqb}
+use lib.ListN.{length}
+use Rattle.base.specs.Answer.{Answer}
+use Rattle.base.specs.Written.{numberOf}
+use Rattle.base.specs.declared.Written.{Written}
+use Rattle.base.specs.declared.Written.the-variants.{Done, Refused}
+use Rattle.base.proofs.Answers.{grants, refuses}
+use Rattle.base.proofs.Firsts.{due, skip, none-due}
+use Rattle.places.specs.declared.Table.{Table}
+use Rattle.places.specs.Places.{freshTable}
+use Rattle.packed.specs.Packed.{table-bytes, tableFrom, badRecord, unpackFault, unpackCall}
+
+module _ (s : List ℕ) where
+  pub other-length : (length s ≡ table-bytes → ⊥) → 1 ≡ unpackFault s
+  unfolding unpackFault
+  other-length h = due 1 _ (ap not (ne-eqb (length s) table-bytes h))
+
+  module _ (long : length s ≡ table-bytes) where
+    right-length : not (eqb (length s) table-bytes) ≡ false
+    right-length = ap not (eq-eqb (length s) table-bytes long)
+
+    pub bad-record : badRecord s ≡ true → 14 ≡ unpackFault s
+    unfolding unpackFault
+    bad-record e = skip 1 _ right-length (due 14 _ e)
+
+    pub no-fault : badRecord s ≡ false → 0 ≡ unpackFault s
+    unfolding unpackFault
+    no-fault e = skip 1 _ right-length (skip 14 _ e none-due)
+
+  pub unpack-refused : (n : ℕ) (a : Written) (t : Table) → 0 < n → n ≡ unpackFault s → (a ≡ Refused n) × (t ≡ freshTable) → (numberOf a, t) ≡ unpackCall s
+  unfolding numberOf unpackCall
+  unpack-refused n a t some is-n is =
+      let refused : eqb (unpackFault s) 0 ≡ false = ne-eqb (unpackFault s) 0 (λ (e : unpackFault s ≡ 0). omega arith) in
+      ap₂ (λ (x : Answer) (y : Table). (x, y))
+      (ap numberOf (is .0) ∙ refuses n (unpackFault s) [] some is-n)
+      (is .1 ∙ sym (ap (λ (b : Bool). cond b (tableFrom s) freshTable) refused))
+
+  pub unpack-done : (t : Table) → 0 ≡ unpackFault s → t ≡ tableFrom s → (numberOf Done, t) ≡ unpackCall s
+  unfolding numberOf unpackCall
+  unpack-done t is-0 is-t =
+      let done : eqb (unpackFault s) 0 ≡ true = eq-eqb (unpackFault s) 0 (sym is-0) in
+      ap₂ (λ (x : Answer) (y : Table). (x, y))
+      (grants (unpackFault s) [] is-0)
+      (is-t ∙ sym (ap (λ (b : Bool). cond b (tableFrom s) freshTable) done))

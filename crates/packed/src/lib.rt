@@ -1,0 +1,23 @@
+// The record of the four places as bytes, for a caller in another language or a program that holds it between calls.
+mod reading;
+mod writing;
+
+use base::MOST_F;
+use base::Written;
+use places::FOUR;
+use places::Table;
+pub use reading::unpack;
+pub use writing::pack;
+
+// The bytes of a place's figures, of a place, and of the record.
+const FIGURES: usize = 14;
+
+const ONE: usize = FIGURES + MOST_F;
+
+pub const RECORD: usize = FOUR * ONE + 1;
+
+// What unpacking gives: the record, a fresh one where it is refused.
+pub struct Unpacked {
+    pub table: Table,
+    pub answer: Written,
+}
