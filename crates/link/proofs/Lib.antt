@@ -16,4 +16,6 @@ pub mod Stage
 pub mod Brought
 pub mod Until
 pub mod Link
+pub mod Witness
+pub mod Useless
 pub mod Proved

@@ -1,13 +1,16 @@
--- T1 from T2: with at most three other numbers the number stays held after every call, and so all that T2 promises holds. Assumes nothing.
+-- T1 from T2: with at most three other numbers the number stays held after every call, and so all that T2 promises holds; and what follows
+-- of the theorems for the next packet, and for a sender set for m losses. Assumes nothing.
+use mathlib.Core.List.{List, _++_}
 use Prim.Native.Nat.{ℕ, _≤_}
+use native.Mathlib.Omega.{arith}
 use Rattle.places.specs.Places.{four, heldAt}
 use Rattle.receiver.specs.Promise.{State}
-use Rattle.link.specs.Run.{Holds}
-use Rattle.link.specs.Demand.{T1, T2}
+use Rattle.link.specs.Run.{Call, Run, start, next, Reached, Holds}
+use Rattle.link.specs.Demand.{T1, T2, T3, T3b, Again}
 use Rattle.link.proofs.Basic.{less-or-not}
 use Rattle.link.proofs.Three.{stays}
 
-absent : (s : State) (n : ℕ) → (Holds s n → ⊥) → four ≤ heldAt (s .table) n
+pub absent : (s : State) (n : ℕ) → (Holds s n → ⊥) → four ≤ heldAt (s .table) n
 absent s n free = less-or-not (heldAt (s .table) n) four (λ l. absurd (free l)) (λ l. l)
 
 pub at-most-three : T2 → T1
@@ -15,3 +18,20 @@ at-most-three until g n packet first es now scene begins others few among =
     let held = stays n others few first (scene .reached) (absent first n (scene .free)) es now (scene .run) begins among in
     let all = until g n packet first es now scene held in
     (held, all .0, all .1)
+
+pub handed-out : T1 → T3 → T3b
+handed-out three survives g n packet first es now scene begins others few among fec bearable =
+    three g n packet first es now scene begins others few among .2 (survives g n packet es (scene .takes) fec (omega (arith, bearable)))
+
+-- ---- the next packet
+
+joined : {s u v : State} {es ds : List Call} → Run s es u → Run u ds v → Run s (ds ++ es) v
+joined run start = run
+joined run (next e more m) = next e (joined run more) m
+
+pub reached-on : {s u : State} {es : List Call} → Reached s → Run s es u → Reached u
+reached-on {es = es} c run = record { lent = c .lent; all = c .all; calls = es ++ c .calls; run = joined (c .run) run }
+
+pub again : Again
+again g g′ n packet packet′ first now now′ es es′ scene free takes run own =
+    record { takes = takes; reached = reached-on (scene .reached) (scene .run); free = free; run = run; own = own }

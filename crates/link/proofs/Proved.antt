@@ -1,19 +1,27 @@
--- The claims of specs/Demand.antt and specs/Reached.antt, each by citation. Assumes nothing.
-use Rattle.link.specs.Demand.{T1, T2, T3}
+-- The claims of specs/Demand.antt, specs/Reached.antt and specs/Useless.antt, each by citation. Assumes nothing.
+use Rattle.link.specs.Demand.{T1, T2, T3, T3b, Again}
 use Rattle.link.specs.Reached.{StaysInRange, GoesRound, HeldOnce, PartsApart}
-use Rattle.link.proofs.Link.{at-most-three}
+use Rattle.link.specs.Useless.{Falls}
+use Rattle.link.proofs.Link as link
 use Rattle.link.proofs.Ring as ring
 use Rattle.link.proofs.Survives.{survives}
 use Rattle.link.proofs.Until.{until-displaced}
+use Rattle.link.proofs.Useless as useless
 
 pub t1 : T1
-t1 = at-most-three until-displaced
+t1 = link.at-most-three until-displaced
 
 pub t2 : T2
 t2 = until-displaced
 
 pub t3 : T3
 t3 = survives
+
+pub t3b : T3b
+t3b = link.handed-out t1 t3
+
+pub again : Again
+again = link.again
 
 pub stays-in-range : StaysInRange
 stays-in-range = ring.stays-in-range
@@ -26,3 +34,6 @@ held-once = ring.held-once
 
 pub parts-apart : PartsApart
 parts-apart = ring.parts-apart
+
+pub falls : Falls
+falls = useless.falls

@@ -89,7 +89,7 @@ standing-run : {s u : State} {es : List Call} → Good s → Standing s → Run 
 standing-run r z start = z
 standing-run r z (next e run m) = let g = good-run r run in standing-view g m (standing-run r z run) (see g m)
 
-none-held : (i n : ℕ) → i < four → holds (placeAt freshTable i) n ≡ false
+pub none-held : (i n : ℕ) → i < four → holds (placeAt freshTable i) n ≡ false
 unfolding freshTable placeAt holds
 none-held i n l = ap (λ (p : Place). holds p n) (getD-replicate four i freePlace freePlace l)
 

@@ -27,7 +27,7 @@ use Rattle.link.proofs.Brought.{Next, own-step}
 
 -- ---- answers that are not a packet handed out
 
-refused-or-handed : (x length missing : ℕ) (d : Displaced) → numberOf (Refused x) ≡ numberOf (Delivered length missing d) → ⊥
+pub refused-or-handed : (x length missing : ℕ) (d : Displaced) → numberOf (Refused x) ≡ numberOf (Delivered length missing d) → ⊥
 unfolding numberOf
 refused-or-handed x l m d e = let z : _≡_ {A = ℕ} 0 (length (l ∷ m ∷ displacedValues d)) = ap (λ (a : ℕ × List ℕ). length (a .1)) e in omega arith
 
@@ -46,7 +46,7 @@ module _ (g : Settings) (n : ℕ) (packet : List ℕ) (takes : Takes g n packet)
   -- ---- where it is held
 
   -- something of it came where it is held,
-  some-came : (es : List Call) (s : State) → Stage g n packet es s → Holds s n → come n es ≡ (λ i. false) → ⊥
+  pub some-came : (es : List Call) (s : State) → Stage g n packet es s → Holds s n → come n es ≡ (λ i. false) → ⊥
   some-came es s (not-yet absent c) held none = omega (arith, absent, held)
   some-came es s (open-at i o z) held none = o .some none
   some-came es s (done-at i o z) held none = clash z (enough-none g n packet takes es none)
@@ -125,7 +125,7 @@ module _ (g : Settings) (n : ℕ) (packet : List ℕ) (takes : Takes g n packet)
   -- ---- the run
 
   module _ (first : State) (reached : Reached first) (absent : Holds first n → ⊥) where
-    standing : {es : List Call} {s : State} → Run first es s → All (Own g n packet) es → All (λ e. Holds (after e) n) es → Stage g n packet es s
+    pub standing : {es : List Call} {s : State} → Run first es s → All (Own g n packet) es → All (λ e. Holds (after e) n) es → Stage g n packet es s
     unfolding All
     standing start own held = not-yet (less-or-not (heldAt (first .table) n) four (λ l. absurd (absent l)) (λ l. l)) (come-none n)
     standing (next {es = es} {u = u} e run m) own held =

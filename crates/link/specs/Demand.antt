@@ -144,3 +144,20 @@ abbrev pub T3 : Type 0
 T3 =
     (g : Settings) (n : ℕ) (packet : List ℕ) (es : List Call) → Takes g n packet → g .fec ≡ true
     → losses (lost n es) (count g packet) ≤ g .m → enoughAfter g n packet es ≡ true
+
+-- T3 with T1: such a packet is handed out where at most m of its fragments are lost
+abbrev pub T3b : Type 0
+T3b =
+    (g : Settings) (n : ℕ) (packet : List ℕ) (first : State) (es : List Call) (now : State)
+    → Scene g n packet first es now
+    → Begins n es → (others : List ℕ) → length others ≤ 3
+    → All (Among n others) es → g .fec ≡ true → losses (lost n es) (count g packet) ≤ g .m
+    → HandedOut g n packet es
+
+-- "no earlier packet of its number is still held": once a packet was displaced, all this holds of the next one under its number too
+abbrev pub Again : Type 0
+Again =
+    (g g′ : Settings) (n : ℕ) (packet packet′ : List ℕ) (first now now′ : State) (es es′ : List Call)
+    → Scene g n packet first es now → (Holds now n → ⊥)
+    → Takes g′ n packet′ → Run now es′ now′ → All (Own g′ n packet′) es′
+    → Scene g′ n packet′ now es′ now′

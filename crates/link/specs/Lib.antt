@@ -1,3 +1,4 @@
 pub mod Run
 pub mod Demand
 pub mod Reached
+pub mod Useless
