@@ -1,6 +1,7 @@
 pub mod Chunks
 pub mod Mending
 pub mod Unique
+pub mod Search
 pub mod Gathering
 pub mod Zeros
 pub mod ChunkFigures

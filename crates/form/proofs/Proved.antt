@@ -13,10 +13,11 @@ use Rattle.code.proofs.CallCases.{granted-by, refused-by}
 use Rattle.places.specs.declared.Place.{Place}
 use Rattle.places.proofs.Ranges.{range-from}
 use Rattle.form.specs.Calls.{formFault, numberOf, PlaceFormed}
-use Rattle.form.specs.Claims.{OnePacket, OneFormed}
+use Rattle.form.specs.Claims.{OnePacket, OneFormed, Decided}
 use Rattle.form.specs.declared.Formed.{Formed}
 use Rattle.form.specs.declared.Formed.the-variants.{Waits, Packet, Nothing, Refused}
 use Rattle.form.proofs.Checks.{fault-free}
+use Rattle.form.proofs.Search as searching
 use Rattle.form.proofs.Unique as unique
 
 pub one-packet : OnePacket
@@ -60,3 +61,6 @@ module _ (p : Place) (held out : List ℕ) where
 
 pub one-formed : OneFormed
 one-formed p held out v w r q a b = formed p held out v w r q a b
+
+pub decided : Decided
+decided = searching.decided

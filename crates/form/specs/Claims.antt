@@ -18,3 +18,7 @@ OnePacket =
 abbrev pub OneFormed : Type 0
 OneFormed =
     (p : Place) (held out v w : List ℕ) (r q : Formed) → PlaceFormed p held out v r → PlaceFormed p held out w q → (r ≡ q) × (v ≡ w)
+
+-- document 01, "If no such packet exists": whether one exists can always be told, so that forming asks nothing impossible
+abbrev pub Decided : Type 0
+Decided = (p : Place) (held : List ℕ) → Dec ((P : List ℕ) × Agrees p held P)

@@ -5,5 +5,6 @@ pub mod Offsets
 pub mod Arrivals
 pub mod Steps
 pub mod Unique
+pub mod Exists
 pub mod Left
 pub mod Proved

@@ -3,9 +3,13 @@ use mathlib.Core.Path.{_∙_}
 use Rattle.header.specs.Read.{fieldsOf}
 use Rattle.receiver.specs.declared.Received.the-variants.{Kept, Delivered, Damaged}
 use Rattle.receiver.specs.Promise.{payloadOf}
-use Rattle.receiver.specs.Claims.{OneOutcome, OneReceived, OneQueried, Refusing, Untouched, DeliveryWrites, CountTold}
+use Rattle.receiver.specs.Claims.{SomeOutcome, OneOutcome, OneReceived, OneQueried, Refusing, Untouched, DeliveryWrites, CountTold}
 use Rattle.receiver.proofs.Unique.{received-one, queried-one, outcome-one}
+use Rattle.receiver.proofs.Exists.{outcome-some}
 use Rattle.receiver.proofs.Left.{keeps-length, refusing, left-by}
+
+pub some-outcome : SomeOutcome
+some-outcome own s datagram out = outcome-some own s datagram out
 
 pub one-outcome : OneOutcome
 one-outcome own s datagram out y z p q = outcome-one own s datagram out y z p q

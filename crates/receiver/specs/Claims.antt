@@ -16,6 +16,10 @@ use Rattle.receiver.specs.declared.Received.{Received}
 use Rattle.receiver.specs.declared.Received.the-variants.{Kept, Delivered, Damaged}
 use Rattle.receiver.specs.declared.Queried.{Queried}
 
+-- the promise asks nothing impossible: some outcome fits it, whatever the record and the inputs
+abbrev pub SomeOutcome : Type 0
+SomeOutcome = (own : Address) (s : State) (datagram out : List ℕ) → (y : Outcome) × Step own s datagram out y
+
 -- document 01, "What a promise has to say here": no second outcome fits the promise, whatever the record and the inputs
 abbrev pub OneOutcome : Type 0
 OneOutcome = (own : Address) (s : State) (datagram out : List ℕ) (y z : Outcome) → Step own s datagram out y → Step own s datagram out z → y ≡ z
