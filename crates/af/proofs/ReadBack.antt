@@ -18,12 +18,12 @@ use Rattle.af.proofs.Checks.{Passing}
 use Rattle.af.proofs.Wraps.{ar-lt, length-header}
 
 -- the bytes of a number are bytes
-bytes-bytes : (w x : ℕ) → Bytes (bytesOf w x)
+pub bytes-bytes : (w x : ℕ) → Bytes (bytesOf w x)
 unfolding bytesOf
 bytes-bytes zero x = tt
 bytes-bytes (suc w) x = bytes-append (bytesOf w (x / 256)) (x % 256 ∷ []) (bytes-bytes w (x / 256)) (mod-lt x (zero-lt-suc 255), tt)
 
-bytes-then : (w x : ℕ) (rest : List ℕ) → Bytes rest → Bytes (bytesOf w x ++ rest)
+pub bytes-then : (w x : ℕ) (rest : List ℕ) → Bytes rest → Bytes (bytesOf w x ++ rest)
 bytes-then w x rest h = bytes-append (bytesOf w x) rest (bytes-bytes w x) h
 
 -- a number that was written at i is read back there

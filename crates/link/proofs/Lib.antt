@@ -18,4 +18,8 @@ pub mod Until
 pub mod Link
 pub mod Witness
 pub mod Useless
+pub mod Runs
+pub mod Turns
+pub mod Arrivals
+pub mod Examples
 pub mod Proved

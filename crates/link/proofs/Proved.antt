@@ -1,9 +1,12 @@
--- The claims of specs/Demand.antt, specs/Reached.antt and specs/Useless.antt, each by citation. Assumes nothing.
+-- The claims of specs/Demand.antt, Reached.antt, Useless.antt and Examples.antt, each by citation. Assumes nothing.
 use Rattle.link.specs.Demand.{T1, T2, T3, T3b, Again}
 use Rattle.link.specs.Reached.{StaysInRange, GoesRound, HeldOnce, PartsApart}
 use Rattle.link.specs.Useless.{Falls}
+use Rattle.link.specs.Examples.{SomeRun, ThreeOthers, FourOthers}
+use Rattle.link.proofs.Examples.{handed-out-last, displaced-last}
 use Rattle.link.proofs.Link as link
 use Rattle.link.proofs.Ring as ring
+use Rattle.link.proofs.Runs as runs
 use Rattle.link.proofs.Survives.{survives}
 use Rattle.link.proofs.Until.{until-displaced}
 use Rattle.link.proofs.Useless as useless
@@ -37,3 +40,12 @@ parts-apart = ring.parts-apart
 
 pub falls : Falls
 falls = useless.falls
+
+pub some-run : SomeRun
+some-run = runs.some-run
+
+pub three-others : ThreeOthers
+three-others = handed-out-last
+
+pub four-others : FourOthers
+four-others = displaced-last

@@ -2,3 +2,4 @@ pub mod Run
 pub mod Demand
 pub mod Reached
 pub mod Useless
+pub mod Examples

@@ -1,0 +1,103 @@
+-- There are runs, for any inputs: some outcome fits the promise of each call; and what the sender writes are bytes. Assumes nothing.
+use mathlib.Core.Path.{_≡_, refl, ap, subst}
+use mathlib.Core.Bool.{Bool, true, false, cond}
+use mathlib.Core.List.{List, [], _∷_, _++_}
+use Prim.Native.Nat.{ℕ, zero, suc, _+_, _*_, _<_}
+use lib.Dec.{lit<}
+use lib.ListN.{length, getD, take, drop, replicate}
+use Rattle.base.specs.Bytes.{Bytes, bytesOf}
+use Rattle.base.specs.Table.{table}
+use Rattle.base.proofs.ByteLaws.{bytes-at, bytes-append, bytes-take, bytes-drop, bytes-zeros}
+use Rattle.base.proofs.Logic.{either}
+use Rattle.af.proofs.ReadBack.{bytes-bytes, bytes-then}
+use Rattle.codeword.specs.Code.{parityOf}
+use Rattle.codeword.proofs.Encoder.{bytes-parity}
+use Rattle.cut.specs.declared.Address.{Address}
+use Rattle.cut.specs.declared.Address.the-variants.{None, Pair}
+use Rattle.cut.specs.declared.Settings.{Settings}
+use Rattle.cut.specs.Block as block
+use Rattle.cut.specs.Cells.{fragmentOf, partOf}
+use Rattle.cut.specs.Sizes as cut
+use Rattle.header.specs.declared.Header.{Header}
+use Rattle.header.specs.Header.{sync, flagsOf, fecPart, addressPart, frontOf, bodyOf, headerBytes}
+use Rattle.header.specs.Claims.{Written}
+use Rattle.receiver.specs.Promise.{State}
+use Rattle.receiver.proofs.Proved.{some-outcome}
+use Rattle.sender.specs.Fragments.{blockFor, payloadFor, headerFor, fragmentFor}
+use Rattle.sender.proofs.FragmentLengths.{payload-fec, payload-plain}
+use Rattle.sender.proofs.Headers.{header-written}
+use Rattle.link.specs.Run.{Call, after, Run, start, next}
+use Rattle.link.specs.Demand.{Takes, count}
+use Rattle.link.specs.Examples.{Input, inputOf, Lawful, SomeRun}
+
+pub some-run : SomeRun
+unfolding Lawful
+some-run s [] lawful = ([], s, refl, start)
+some-run s (i ∷ is) lawful =
+    let before = some-run s is (lawful .2) in
+    let y = some-outcome (i .own) (before .1) (i .datagram) (i .lent) in
+    let e : Call = record { own = i .own; datagram = i .datagram; lent = i .lent; left = y .0 } in
+    (e ∷ before .0, after e, ap (λ (l : List Input). i ∷ l) (before .2), next e (before .3) (record { room = lawful .0; bytes = lawful .1; meets = y .1 }))
+
+-- ---- the bytes of a fragment
+
+bytes-fec : (h : Header) → Written h → Bytes (fecPart h)
+unfolding fecPart
+bytes-fec h w = either (h .fec) (λ e. rw e (w .rsk, (w .rsz, tt))) (λ e. rw e tt)
+
+bytes-address : (a : Address) → Bytes (addressPart a)
+unfolding addressPart
+bytes-address None = tt
+bytes-address (Pair source dest) = bytes-then 2 source _ (bytes-bytes 2 dest)
+
+module _ (h : Header) (w : Written h) where
+  bytes-front : Bytes (frontOf h)
+  unfolding frontOf
+  bytes-front =
+      let flags : List ℕ = bytesOf 2 (flagsOf h) in
+      let counts : List ℕ = bytesOf 3 (h .count) ++ flags in
+      let indices : List ℕ = bytesOf 3 (h .index) ++ counts in
+      bytes-append sync (bytesOf 2 (h .number) ++ indices) (lit< tt, (lit< tt, tt))
+      (bytes-then 2 (h .number) indices (bytes-then 3 (h .index) counts (bytes-then 3 (h .count) flags (bytes-bytes 2 (flagsOf h)))))
+
+  bytes-body : Bytes (bodyOf h)
+  unfolding bodyOf
+  bytes-body = bytes-append (frontOf h) _ bytes-front (bytes-append (fecPart h) _ (bytes-fec h w) (bytes-address (h .address)))
+
+  bytes-header : Bytes (headerBytes h)
+  unfolding headerBytes
+  bytes-header = bytes-append (bodyOf h) _ bytes-body (bytes-bytes 2 _)
+
+bytes-table : (rule : ℕ → ℕ) → ((i : ℕ) → rule i < 256) → (a n : ℕ) → Bytes (table rule a n)
+unfolding table
+bytes-table rule small a zero = tt
+bytes-table rule small a (suc n) = (small a, bytes-table rule small (suc a) n)
+
+bytes-block : (xs : List ℕ) (k c : ℕ) → Bytes xs → Bytes (block.blockOf parityOf xs k c)
+unfolding block.blockOf block.wordOf
+bytes-block xs k zero b = tt
+bytes-block xs k (suc c) b =
+    bytes-append (block.wordOf parityOf (take k xs)) _
+    (bytes-append (take k xs) _ (bytes-take k xs b) (bytes-parity (take k xs)))
+    (bytes-block (drop k xs) k c (bytes-drop k xs b))
+
+module _ (g : Settings) (packet : List ℕ) (b : Bytes packet) where
+  bytes-blockFor : Bytes (blockFor packet)
+  unfolding blockFor block.padded
+  bytes-blockFor = bytes-block _ _ _ (bytes-append packet _ b (bytes-zeros (cut.z (length packet))))
+
+  bytes-payload : (i : ℕ) → Bytes (payloadFor g packet i)
+  unfolding fragmentOf partOf
+  bytes-payload i =
+      either (g .fec)
+      (λ e.
+      rw (payload-fec g packet e i)
+      (bytes-table (λ t. getD (blockFor packet) (i + cut.f g (length packet) * t) 0) (λ t. bytes-at (blockFor packet) bytes-blockFor _) 0 (cut.s g (length packet))))
+      (λ e. rw (payload-plain g packet e i) (bytes-take (cut.s g (length packet)) (drop (i * cut.s g (length packet)) packet) (bytes-drop (i * cut.s g (length packet)) packet b)))
+
+pub bytes-fragment : (g : Settings) (n : ℕ) (packet : List ℕ) → Takes g n packet → (i : ℕ) → i < count g packet → Bytes (fragmentFor g n packet i)
+unfolding fragmentFor
+bytes-fragment g n packet takes i below =
+    bytes-append (headerBytes (headerFor g n packet i)) _
+    (bytes-header (headerFor g n packet i) (header-written g n packet i (takes .passed) below (takes .number) (takes .address)))
+    (bytes-payload g packet (takes .bytes) i)
