@@ -11,7 +11,7 @@ use Rattle.base.specs.Bounds.{most-l, most-f}
 use Rattle.base.specs.Bytes.{Bytes}
 use Rattle.base.specs.Round.{ceil}
 use Rattle.base.proofs.Firsts.{due, skip, none-due}
-use Rattle.base.proofs.Logic.{either, clash, and-left, and-right}
+use Rattle.base.proofs.Logic.{clash, and-left, and-right}
 use Rattle.af.specs.Packet.{packetOf}
 use Rattle.af.specs.Calls.{afFault}
 use Rattle.af.specs.Claims.{Back}

@@ -13,12 +13,11 @@ use Rattle.cut.specs.Missing as missing
 use Rattle.cut.specs.Sizes as cut
 use Rattle.cut.proofs.Proved.{any-three, no-four}
 use Rattle.header.specs.Read.{badAddress}
-use Rattle.places.specs.declared.Displaced.{Displaced}
 use Rattle.receiver.specs.declared.Received.the-variants.{Delivered}
 use Rattle.receiver.specs.Promise.{numberOf, State}
 use Rattle.link.specs.Run.{Call, after, Run, start, next, Holds, lost, All}
 use Rattle.link.specs.Demand.{T1, count, among, Among, Begins, Scene, enoughAfter, Promised, HandedOut}
-use Rattle.link.specs.Examples.{packet, number, Arrival, Its, Of, Broken, Played, opening, three-others, HandedOutLast, ThreeOthers, four-others, DisplacedLast, FourOthers}
+use Rattle.link.specs.Examples.{packet, number, Arrival, Played, opening, three-others, HandedOutLast, ThreeOthers, four-others, DisplacedLast, FourOthers}
 use Rattle.link.proofs.View.{Good}
 use Rattle.link.proofs.Frame.{good-fresh, good-run}
 use Rattle.link.proofs.Link.{at-most-three}

@@ -1,10 +1,9 @@
 -- There are runs, for any inputs: some outcome fits the promise of each call; and what the sender writes are bytes. Assumes nothing.
-use mathlib.Core.Path.{_≡_, refl, ap, subst}
-use mathlib.Core.Bool.{Bool, true, false, cond}
+use mathlib.Core.Path.{refl, ap}
 use mathlib.Core.List.{List, [], _∷_, _++_}
 use Prim.Native.Nat.{ℕ, zero, suc, _+_, _*_, _<_}
 use lib.Dec.{lit<}
-use lib.ListN.{length, getD, take, drop, replicate}
+use lib.ListN.{length, getD, take, drop}
 use Rattle.base.specs.Bytes.{Bytes, bytesOf}
 use Rattle.base.specs.Table.{table}
 use Rattle.base.proofs.ByteLaws.{bytes-at, bytes-append, bytes-take, bytes-drop, bytes-zeros}
@@ -21,14 +20,13 @@ use Rattle.cut.specs.Sizes as cut
 use Rattle.header.specs.declared.Header.{Header}
 use Rattle.header.specs.Header.{sync, flagsOf, fecPart, addressPart, frontOf, bodyOf, headerBytes}
 use Rattle.header.specs.Claims.{Written}
-use Rattle.receiver.specs.Promise.{State}
 use Rattle.receiver.proofs.Proved.{some-outcome}
 use Rattle.sender.specs.Fragments.{blockFor, payloadFor, headerFor, fragmentFor}
 use Rattle.sender.proofs.FragmentLengths.{payload-fec, payload-plain}
 use Rattle.sender.proofs.Headers.{header-written}
-use Rattle.link.specs.Run.{Call, after, Run, start, next}
+use Rattle.link.specs.Run.{Call, after, start, next}
 use Rattle.link.specs.Demand.{Takes, count}
-use Rattle.link.specs.Examples.{Input, inputOf, Lawful, SomeRun}
+use Rattle.link.specs.Examples.{Input, Lawful, SomeRun}
 
 pub some-run : SomeRun
 unfolding Lawful

@@ -1,17 +1,16 @@
 -- Which numbers the four places hold when each call of a run opens a new one: those of the last four. Assumes nothing.
-use mathlib.Core.Path.{_≡_, refl, sym, ap, _∙_, subst}
-use mathlib.Core.Bool.{Bool, true, false}
+use mathlib.Core.Path.{_≡_, sym, ap, _∙_, subst}
+use mathlib.Core.Bool.{true}
 use mathlib.Core.List.{List, [], _∷_}
-use Prim.Native.Nat.{ℕ, zero, suc, _+_, _-_, _%_, _≤_, _<_}
+use Prim.Native.Nat.{ℕ, _+_, _-_, _%_, _≤_, _<_}
 use native.Mathlib.Omega.{arith}
 use lib.ListN.{length}
-use Rattle.base.proofs.Logic.{either, clash}
 use Rattle.header.specs.Read.{fieldsOf, faultOf}
 use Rattle.places.specs.declared.Place.{Place}
-use Rattle.places.specs.Places.{four, free, freshTable, placeAt, keyOf, holds, heldAt, openAt, turned}
+use Rattle.places.specs.Places.{four, placeAt, keyOf, holds, heldAt, openAt, turned}
 use Rattle.places.specs.Claims.{Opened}
 use Rattle.places.proofs.Proved.{fresh-is-opened, opens-in-turn}
-use Rattle.receiver.specs.Promise.{Outcome, State}
+use Rattle.receiver.specs.Promise.{State}
 use Rattle.link.specs.Run.{Call, after, Made, Run, start, next, freshWith, Holds, numberIn}
 use Rattle.link.proofs.Basic.{same-or-not, less-or-not, held-found, held-some, holds-yes, holds-number, holds-some}
 use Rattle.link.proofs.View.{Good, View, unheard, refuses, keeps, opens}
