@@ -1,7 +1,7 @@
 -- The claims of specs/Demand.antt, Reached.antt, Useless.antt and Examples.antt, each by citation. Assumes nothing.
 use Rattle.link.specs.Demand.{T1, T2, T3, T3b, Again}
 use Rattle.link.specs.Reached.{StaysInRange, GoesRound, HeldOnce, PartsApart}
-use Rattle.link.specs.Useless.{Falls}
+use Rattle.link.specs.Useless.{SomeKeep, Falls}
 use Rattle.link.specs.Examples.{SomeRun, ThreeOthers, FourOthers}
 use Rattle.link.proofs.Examples.{handed-out-last, displaced-last}
 use Rattle.link.proofs.Link as link
@@ -37,6 +37,9 @@ held-once = ring.held-once
 
 pub parts-apart : PartsApart
 parts-apart = ring.parts-apart
+
+pub some-keep : SomeKeep
+some-keep = useless.some-keep
 
 pub falls : Falls
 falls = useless.falls

@@ -21,13 +21,13 @@ use Rattle.header.specs.Read.{fieldsOf, badAddress}
 use Rattle.places.specs.declared.Table.{Table}
 use Rattle.places.specs.Places.{four, delivered, freshTable, placeAt, heldAt}
 use Rattle.receiver.specs.Promise.{State, all-places}
-use Rattle.receiver.proofs.Proved.{count-told}
+use Rattle.receiver.proofs.Proved.{some-outcome, count-told}
 use Rattle.sender.specs.Fragments.{payloadFor, headerFor, fragmentFor}
 use Rattle.sender.proofs.FragmentLengths.{f-some}
 use Rattle.sender.proofs.Proved.{received}
 use Rattle.link.specs.Run.{Call, after, Made, start, next, freshWith, Reached, Holds, come, lost, All}
 use Rattle.link.specs.Demand.{Takes, count, Own, Scene, Among, Begins, enoughAfter}
-use Rattle.link.specs.Useless.{Receiver, Keeps, Delivers, RefusesAll, Fixed, StoresNoBytes, StoresNoRecord, Pretends, FalseCount, OneFragment, Sends, Falls}
+use Rattle.link.specs.Useless.{Receiver, Keeps, SomeKeep, Delivers, RefusesAll, Fixed, StoresNoBytes, StoresNoRecord, Pretends, FalseCount, OneFragment, Sends, Falls}
 use Rattle.link.proofs.Basic.{held-none}
 use Rattle.link.proofs.Frame.{good-reached}
 use Rattle.link.proofs.Heard.{Brings, Foreign, brings, brings-number, come-none, come-foreign, come-own, come-it}
@@ -258,3 +258,8 @@ falls = record {
   false-count = false-count;
   one-fragment = one-fragment;
 }
+
+-- ---- and one that keeps the promise
+
+pub some-keep : SomeKeep
+some-keep = (λ own s datagram out. some-outcome own s datagram out .0, record { meets = λ own s datagram out bytes. some-outcome own s datagram out .1 })

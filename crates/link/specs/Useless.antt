@@ -69,7 +69,11 @@ pub record OneFragment (S : Settings → ℕ → List ℕ → ℕ → List ℕ) 
 pub record Sends (S : Settings → ℕ → List ℕ → ℕ → List ℕ) : Type 0 where
   pub meets : (g : Settings) (n : ℕ) (packet : List ℕ) (i : ℕ) → Takes g n packet → i < count g packet → S g n packet i ≡ fragmentFor g n packet i
 
--- they all fall
+-- there are receivers that keep it
+abbrev pub SomeKeep : Type 0
+SomeKeep = (R : Receiver) × Keeps R
+
+-- but all of those above fall
 pub record Falls : Type 0 where
   pub refuses-all : (R : Receiver) → Keeps R → RefusesAll R → ⊥
   pub fixed : (R : Receiver) → Keeps R → Fixed R → ⊥
