@@ -26,6 +26,7 @@ pub record Input : Type 0 where
   pub datagram : List ℕ
   pub lent : List ℕ
 
+-- that of a call
 abbrev pub inputOf : Call → Input
 inputOf e = record { own = e .own; datagram = e .datagram; lent = e .lent }
 
@@ -57,6 +58,7 @@ pub data Arrival : Type 0 where
   Of : ℕ → Arrival
   Broken : List ℕ → Arrival
 
+-- the datagram that comes
 unfoldable pub datagramOf : Arrival → List ℕ
 datagramOf (Its i) = fragmentFor houseOf number packet i
 datagramOf (Of n) = fragmentFor plain n other 0
@@ -92,6 +94,7 @@ opening = Of 101 ∷ Of 102 ∷ Of 103 ∷ Of 104 ∷ []
 
 -- ---- T1: three other numbers
 
+-- demand 3: "fragments lost, repeated and reordered among those of other packets", and datagrams that are refused
 unfoldable pub three-others : List Arrival
 three-others =
     -- its first fragment to come is not fragment 0; it displaces 101
@@ -145,13 +148,14 @@ pub record ThreeOthers : Type 0 where
 
 -- ---- T2: a fourth displaces it
 
+-- demand 3: "Lift the limit of three"
 unfoldable pub four-others : List Arrival
 four-others =
     Its 0
     ∷ Of 1
     ∷ Of 2
     ∷ Of 3
-    -- the fourth: its place is the one opened longest ago
+    -- the fourth: the place opened longest ago is now that of 5
     ∷ Of 4
     ∷ []
 
