@@ -5,7 +5,7 @@ use mathlib.Core.List.{List, [], _∷_}
 use Prim.Native.Nat.{ℕ, suc, _+_, _%_, _≤_}
 use native.Mathlib.Nat.{pos-of-ne-zero}
 use native.Mathlib.Omega.{arith}
-use borrow.Author.Tests.{ltb-false, eqb-true, not-false, le-ltb, eq-eqb, ne-eqb}
+use borrow.Author.Tests.{ltb-false, le-ltb, eq-eqb, ne-eqb}
 use lib.Dec.{ltb, eqb}
 use lib.ListN.{length}
 use Rattle.base.specs.Answer.{granted, refused}
@@ -13,23 +13,12 @@ use Rattle.base.specs.Bounds.{least-l, most-l}
 use Rattle.base.specs.Tests.{first}
 use Rattle.base.proofs.Answers.{grants, refuses}
 use Rattle.base.proofs.Firsts.{skip, none-due, clear, clear-rest}
-use Rattle.base.proofs.Logic.{or-left, or-right}
+use Rattle.base.proofs.Logic.{or-left, or-right, same, same-from}
 use Rattle.af.specs.Packet.{sync, major, packetType, syncOf, lenOf, seqOf, arOf, majorOf, minorOf, ptOf, cfOf, coveredOf, crcOf, crcFor, bit}
 use Rattle.af.specs.Calls.{badLength, badCrc, afFault, checkCall, numberOf}
 use Rattle.af.specs.declared.Figures.{Figures}
 use Rattle.af.specs.declared.Checked.{Checked}
 use Rattle.af.specs.declared.Checked.the-variants.{Packet, Refused}
-
--- ---- two numbers that are to be equal
-
-pub same : {a b : ℕ} → a ≡ b → not (eqb a b) ≡ false
-same {a} {b} e = rw (eq-eqb a b e)
-
-pub other : {a b : ℕ} → (a ≡ b → ⊥) → not (eqb a b) ≡ true
-other {a} {b} e = rw (ne-eqb a b e)
-
-pub same-from : {a b : ℕ} → not (eqb a b) ≡ false → a ≡ b
-same-from {a} {b} e = eqb-true a b (not-false (eqb a b) e)
 
 -- ---- the tests from each number on
 

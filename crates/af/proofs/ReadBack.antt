@@ -2,7 +2,7 @@
 use mathlib.Core.Path.{_≡_, refl, sym, ap, ap₂, _∙_}
 use mathlib.Core.Bool.{Bool, true, false}
 use mathlib.Core.List.{List, [], _∷_, _++_, append-nil}
-use Prim.Native.Nat.{ℕ, zero, suc, _+_, _-_, _/_, _%_, _^_, _≤_, _<_}
+use Prim.Native.Nat.{ℕ, zero, suc, _+_, _-_, _/_, _%_, _≤_, _<_}
 use native.Mathlib.Nat.{mod-lt, zero-lt-suc}
 use native.Mathlib.Omega.{arith}
 use lib.Dec.{eqb, lit<}
@@ -11,7 +11,7 @@ use lib.Seq.{take-at, drop-at}
 use Rattle.base.specs.Bounds.{least-l}
 use Rattle.base.specs.Bytes.{Bytes, numberAt, bytesOf}
 use Rattle.base.proofs.ByteLaws.{bytes-append}
-use Rattle.base.proofs.Numbers.{number-back, number-drop, length-bytes}
+use Rattle.base.proofs.Numbers.{length-bytes, back-at}
 use Rattle.crc.proofs.Over.{word-lt}
 use Rattle.af.specs.Packet.{sync, packetType, major, minor, headerBytes, crcBytes, most-payload, syncOf, lenOf, seqOf, arOf, ptOf, cfOf, majorOf, minorOf, payloadOf, coveredOf, crcOf, arWith, headerOf, crcFor, closed, packetOf}
 use Rattle.af.proofs.Checks.{Passing}
@@ -25,10 +25,6 @@ bytes-bytes (suc w) x = bytes-append (bytesOf w (x / 256)) (x % 256 ∷ []) (byt
 
 pub bytes-then : (w x : ℕ) (rest : List ℕ) → Bytes rest → Bytes (bytesOf w x ++ rest)
 bytes-then w x rest h = bytes-append (bytesOf w x) rest (bytes-bytes w x) h
-
--- a number that was written at i is read back there
-back-at : (w x i : ℕ) (s rest : List ℕ) → drop i s ≡ bytesOf w x ++ rest → x < 256 ^ w → numberAt w s i ≡ x
-back-at w x i s rest e h = sym (number-drop w s i) ∙ ap (λ (l : List ℕ). numberAt w l 0) e ∙ number-back w x rest h
 
 -- ---- CRC and AR
 

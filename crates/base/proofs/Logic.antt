@@ -1,8 +1,10 @@
--- Cases on a truth value, and what tests joined by `&&` and `||` tell. Assumes nothing.
+-- Cases on a truth value, what tests joined by `&&` and `||` tell, and the test that two numbers differ. Assumes nothing.
 use mathlib.Core.Path.{_≡_, refl, sym, _∙_}
-use mathlib.Core.Bool.{Bool, true, false, _&&_, _||_}
+use mathlib.Core.Bool.{Bool, true, false, not, _&&_, _||_}
 use Prim.Native.Nat.{ℕ}
 use native.Mathlib.Omega.{arith}
+use borrow.Author.Tests.{eqb-true, not-false, eq-eqb, ne-eqb}
+use lib.Dec.{eqb}
 
 -- a decision on a truth value
 pub either {ℓ} : {P : Type ℓ} (b : Bool) → (b ≡ true → P) → (b ≡ false → P) → P
@@ -36,3 +38,20 @@ or-left false b e = refl
 pub or-right : (a b : Bool) → (a || b) ≡ false → b ≡ false
 or-right true b e = cc
 or-right false b e = e
+
+-- tests joined by `||`: one that is true ends them, one that is false hands on to the rest
+pub hit : {a : Bool} (b : Bool) → a ≡ true → true ≡ (a || b)
+hit b e = simp e
+
+pub pass : {a b r : Bool} → a ≡ false → r ≡ b → r ≡ (a || b)
+pass e q = simp e q
+
+-- two numbers that are to be equal
+pub same : {a b : ℕ} → a ≡ b → not (eqb a b) ≡ false
+same {a} {b} e = rw (eq-eqb a b e)
+
+pub other : {a b : ℕ} → (a ≡ b → ⊥) → not (eqb a b) ≡ true
+other {a} {b} e = rw (ne-eqb a b e)
+
+pub same-from : {a b : ℕ} → not (eqb a b) ≡ false → a ≡ b
+same-from {a} {b} e = eqb-true a b (not-false (eqb a b) e)

@@ -7,7 +7,7 @@ use native.Mathlib.Omega.{arith}
 use lib.Arith.{digits-div, digits-mod}
 use lib.Dec.{lit<}
 use lib.ListN.{length, getD, take, drop, length-append, length-drop, List·getD-eq-default}
-use lib.Seq.{getD-at, getD-drop, take-suc}
+use lib.Seq.{getD-at, getD-drop, take-suc, drop-drop}
 use Rattle.base.specs.Bytes.{Bytes, numberAt, bytesOf}
 use Rattle.base.proofs.ByteLaws.{bytes-at}
 
@@ -66,6 +66,14 @@ number-back (suc w) x rest h =
     let here : getD (bytesOf w (x / 256) ++ more) (0 + w) 0 ≡ x % 256 =
     ap (λ (k : ℕ). getD (bytesOf w (x / 256) ++ more) k 0) (zero-add w) ∙ getD-at (bytesOf w (x / 256)) (x % 256) rest 0 w (length-bytes w (x / 256)) in
     rw (append-assoc (bytesOf w (x / 256)) (x % 256 ∷ []) rest) (omega (arith, front, here))
+
+-- and it is read back where it stands in a list
+pub back-at : (w x i : ℕ) (s rest : List ℕ) → drop i s ≡ bytesOf w x ++ rest → x < 256 ^ w → numberAt w s i ≡ x
+back-at w x i s rest e h = sym (number-drop w s i) ∙ ap (λ (l : List ℕ). numberAt w l 0) e ∙ number-back w x rest h
+
+-- a number in a part of a list
+pub number-from : (w : ℕ) (s : List ℕ) (i j : ℕ) → numberAt w (drop i s) j ≡ numberAt w s (i + j)
+number-from w s i j = sym (number-drop w (drop i s) j) ∙ ap (λ (l : List ℕ). numberAt w l 0) (drop-drop j i s) ∙ number-drop w s (i + j)
 
 -- and bytes that were read are written back
 pub bytes-back : (w : ℕ) (s : List ℕ) (i : ℕ) → Bytes s → i + w ≤ length s → bytesOf w (numberAt w s i) ≡ take w (drop i s)

@@ -1,5 +1,5 @@
 -- Laws of `splice`. Assumes nothing.
-use mathlib.Core.Path.{_≡_, refl, sym, ap, _∙_}
+use mathlib.Core.Path.{_≡_, refl, sym, ap, ap₂, _∙_}
 use mathlib.Core.List.{List, [], _∷_, _++_, append-assoc, append-nil}
 use Prim.Native.Nat.{ℕ, suc, _+_, _-_, _<_, _≤_}
 use native.Mathlib.Nat.{add-zero, add-sub-cancel-left, min-le-left}
@@ -53,6 +53,24 @@ splice-next d a b n e =
     ap (λ (l : List ℕ). l ++ (b ++ drop (n + length b) (a ++ x))) (take-at a x n e)
     ∙ ap (λ (l : List ℕ). a ++ (b ++ l)) z
     ∙ sym (append-assoc a b (drop (0 + length (a ++ b)) d))
+
+-- and from anywhere
+pub splice-then : (d a b : List ℕ) (at : ℕ) → at ≤ length d → splice (splice d at a) (at + length a) b ≡ splice d at (a ++ b)
+unfolding splice
+splice-then d a b at inside =
+    let p : List ℕ = take at d ++ a in
+    let x : List ℕ = drop (at + length a) d in
+    let long : length p ≡ at + length a = length-append (take at d) a ∙ ap (λ (n : ℕ). n + length a) (length-take-le at d inside) in
+    let more : at + length a + length b ≡ at + length (a ++ b) = omega (arith, length-append a b) in
+    let tail : drop (at + length a + length b) (p ++ x) ≡ drop (at + length (a ++ b)) d =
+    ap (λ (n : ℕ). drop (n + length b) (p ++ x)) (sym long)
+    ∙ drop-append-add p x (length b)
+    ∙ drop-drop (length b) (at + length a) d
+    ∙ ap (λ (n : ℕ). drop n d) more in
+    ap (λ (l : List ℕ). take (at + length a) l ++ (b ++ drop (at + length a + length b) l)) (sym (append-assoc (take at d) a x))
+    ∙ ap₂ (λ (l m : List ℕ). l ++ (b ++ m)) (take-at p x (at + length a) long) tail
+    ∙ append-assoc (take at d) a (b ++ drop (at + length (a ++ b)) d)
+    ∙ ap (λ (l : List ℕ). take at d ++ l) (sym (append-assoc a b (drop (at + length (a ++ b)) d)))
 
 -- one byte more
 pub splice-more : (d : List ℕ) (at : ℕ) (s : List ℕ) (v : ℕ) → at + length s < length d

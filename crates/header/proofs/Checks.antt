@@ -1,18 +1,18 @@
 -- The checks 2 to 8: which number is due after which tests, and what a datagram that passes is known to be. Assumes nothing.
 use mathlib.Core.Path.{_≡_, refl, sym, ap, _∙_}
-use mathlib.Core.Bool.{Bool, true, false, not, _&&_, _||_}
+use mathlib.Core.Bool.{Bool, true, false, _&&_, _||_}
 use mathlib.Core.List.{List, [], _∷_}
 use Prim.Native.Nat.{ℕ, suc, _+_, _*_, _≤_, _<_}
 use native.Mathlib.Nat.{pos-of-ne-zero}
 use native.Mathlib.Omega.{arith}
-use borrow.Author.Tests.{ltb-false, leb-false, eqb-false, eqb-true, not-false, le-ltb, lt-leb, eq-eqb, ne-eqb}
+use borrow.Author.Tests.{ltb-false, leb-false, eqb-false, le-ltb, lt-leb, eq-eqb, ne-eqb}
 use lib.Dec.{ltb, leb, eqb}
 use lib.ListN.{length, take}
 use Rattle.base.specs.Bounds.{most-f, most-k, place, parity}
 use Rattle.base.specs.Bytes.{numberAt}
 use Rattle.base.specs.Tests.{first}
 use Rattle.base.proofs.Firsts.{skip, none-due, clear, clear-rest}
-use Rattle.base.proofs.Logic.{either, or-left, or-right}
+use Rattle.base.proofs.Logic.{either, or-left, or-right, same, other, same-from}
 use Rattle.crc.specs.Crc.{wordOf}
 use Rattle.cut.specs.declared.Address.{Address}
 use Rattle.weave.specs.Calls.{badCount, tooMuch, badChunk}
@@ -20,17 +20,6 @@ use Rattle.weave.proofs.CallCases.{f-most, fits-place, chunk-some}
 use Rattle.header.specs.declared.Header.{Header}
 use Rattle.header.specs.Read.{addressOf, fieldsOf, bodyLength, lengthOf, isShort, notSync, badCrc, badLength, badAddress, badIndex, badSize, faultOf}
 use Rattle.header.proofs.Fields.{no-chunk}
-
--- ---- two numbers that are to be equal
-
-pub same : {a b : ℕ} → a ≡ b → not (eqb a b) ≡ false
-same {a} {b} e = rw (eq-eqb a b e)
-
-pub other : {a b : ℕ} → (a ≡ b → ⊥) → not (eqb a b) ≡ true
-other {a} {b} e = rw (ne-eqb a b e)
-
-same-from : {a b : ℕ} → not (eqb a b) ≡ false → a ≡ b
-same-from {a} {b} e = eqb-true a b (not-false (eqb a b) e)
 
 -- ---- the tests from each number on
 

@@ -5,18 +5,15 @@ use mathlib.Core.List.{List, [], _∷_, _++_, append-assoc}
 use Prim.Native.Nat.{ℕ, _+_, _%_, _≤_}
 use native.Mathlib.Nat.{add-zero, zero-add}
 use native.Mathlib.Omega.{arith}
-use borrow.Author.Tests.{le-ltb}
 use lib.Dec.{ltb}
-use lib.ListN.{length, take, drop, length-append}
-use lib.Seq.{length-take-le, take-at, drop-drop, drop-append-add}
-use Rattle.base.specs.Answer.{Answer, granted, outcome, settled}
+use lib.ListN.{length, take, length-append}
+use Rattle.base.specs.Answer.{Answer, outcome, settled}
 use Rattle.base.specs.Bytes.{splice, bytesOf}
 use Rattle.base.specs.Tests.{first}
 use Rattle.base.specs.Written.{putFault, putOf}
-use Rattle.base.proofs.Answers.{writes}
-use Rattle.base.proofs.Firsts.{skip, none-due}
+use Rattle.base.proofs.Answers.{put-is}
 use Rattle.base.proofs.Numbers.{length-bytes}
-use Rattle.base.proofs.Splice.{splice-none, splice-length, splice-next, splice-start}
+use Rattle.base.proofs.Splice.{splice-none, splice-length, splice-next, splice-start, splice-then}
 use Rattle.crc.specs.Crc.{wordOf}
 use Rattle.cut.specs.Sizes.{addressBytes}
 use Rattle.cut.specs.declared.Address.{Address}
@@ -83,37 +80,12 @@ module _ (h : Header) (x : ℕ) (is-x : x ≡ addrFlag (h .address)) where
 
 -- ---- copies
 
--- a copy that fits is done
-pub put-fits : (d s y : List ℕ) (at : ℕ) (a : Answer) → at + length s ≤ length d → outcome a y ≡ putOf d at s → y ≡ splice d at s
-unfolding putOf putFault
-put-fits d s y at a h e =
-    let done : outcome (granted []) (splice d at s) ≡ putOf d at s = writes _ _ _ _ _ (skip 1 _ (le-ltb (length d) (at + length s) h) none-due) refl in
-    cc
-
 -- one copy right behind another, from the start
 put-next : (out x y a b b′ : List ℕ) (n : ℕ) (p : Answer) → length a ≡ n → n + length b ≤ length out → x ≡ splice out 0 a → b′ ≡ b
     → outcome p y ≡ putOf x n b′ → y ≡ splice out 0 (a ++ b)
 put-next out x y a b b′ n p long fits is-x is-b e =
     let same : length x ≡ length out = ap length is-x ∙ splice-length out 0 a (omega arith) in
-    put-fits x b′ y n p (omega (arith, ap length is-b)) e ∙ ap₂ (λ (l m : List ℕ). splice l n m) is-x is-b ∙ splice-next out a b n long
-
--- the same from anywhere
-splice-then : (d a b : List ℕ) (at : ℕ) → at ≤ length d → splice (splice d at a) (at + length a) b ≡ splice d at (a ++ b)
-unfolding splice
-splice-then d a b at inside =
-    let p : List ℕ = take at d ++ a in
-    let x : List ℕ = drop (at + length a) d in
-    let long : length p ≡ at + length a = length-append (take at d) a ∙ ap (λ (n : ℕ). n + length a) (length-take-le at d inside) in
-    let more : at + length a + length b ≡ at + length (a ++ b) = omega (arith, length-append a b) in
-    let tail : drop (at + length a + length b) (p ++ x) ≡ drop (at + length (a ++ b)) d =
-    ap (λ (n : ℕ). drop (n + length b) (p ++ x)) (sym long)
-    ∙ drop-append-add p x (length b)
-    ∙ drop-drop (length b) (at + length a) d
-    ∙ ap (λ (n : ℕ). drop n d) more in
-    ap (λ (l : List ℕ). take (at + length a) l ++ (b ++ drop (at + length a + length b) l)) (sym (append-assoc (take at d) a x))
-    ∙ ap₂ (λ (l m : List ℕ). l ++ (b ++ m)) (take-at p x (at + length a) long) tail
-    ∙ append-assoc (take at d) a (b ++ drop (at + length (a ++ b)) d)
-    ∙ ap (λ (l : List ℕ). take at d ++ l) (sym (append-assoc a b (drop (at + length (a ++ b)) d)))
+    put-is x b′ y n p (omega (arith, ap length is-b)) e ∙ ap₂ (λ (l m : List ℕ). splice l n m) is-x is-b ∙ splice-next out a b n long
 
 -- ---- the front
 
@@ -128,7 +100,7 @@ front-laid h out x₁ x₂ x₃ x₄ x₅ b₂ b₃ b₄ b₅ flags p₁ p₂ p�
     let a₃ : List ℕ = a₂ ++ bytesOf 3 (h .index) in
     let a₄ : List ℕ = a₃ ++ bytesOf 3 (h .count) in
     let two : length sync ≡ 2 = refl in
-    let z₁ : x₁ ≡ splice out 0 a₁ = put-fits out sync x₁ 0 p₁ (omega (arith, two)) e₁ in
+    let z₁ : x₁ ≡ splice out 0 a₁ = put-is out sync x₁ 0 p₁ (omega (arith, two)) e₁ in
     let z₂ : x₂ ≡ splice out 0 a₂ = put-next out x₁ x₂ a₁ (bytesOf 2 (h .number)) b₂ 2 p₂ refl (omega (arith, length-bytes 2 (h .number))) z₁ is-2 e₂ in
     let z₃ : x₃ ≡ splice out 0 a₃ = put-next out x₂ x₃ a₂ (bytesOf 3 (h .index)) b₃ 4 p₃ refl (omega (arith, length-bytes 3 (h .index))) z₂ is-3 e₃ in
     let z₄ : x₄ ≡ splice out 0 a₄ = put-next out x₃ x₄ a₃ (bytesOf 3 (h .count)) b₄ 7 p₄ refl (omega (arith, length-bytes 3 (h .count))) z₃ is-4 e₄ in
@@ -146,7 +118,7 @@ module _ (h : Header) (out : List ℕ) (at : ℕ) where
   unfolding fecPart
   fec-laid y p e room is-y =
       let part : h .rsk ∷ h .rsz ∷ [] ≡ fecPart h = ap (λ (b : Bool). cond b (h .rsk ∷ h .rsz ∷ []) []) (sym e) in
-      (ap (λ (l : List ℕ). at + length l) part, put-fits out (h .rsk ∷ h .rsz ∷ []) y at p room is-y ∙ ap (splice out at) part)
+      (ap (λ (l : List ℕ). at + length l) part, put-is out (h .rsk ∷ h .rsz ∷ []) y at p room is-y ∙ ap (splice out at) part)
 
   pub fec-none : h .fec ≡ false → (at ≡ at + length (fecPart h)) × (out ≡ splice out at (fecPart h))
   unfolding fecPart
@@ -164,11 +136,11 @@ module _ (a : Address) (out : List ℕ) (at : ℕ) where
   address-laid source dest u v b d p q is-a is-b is-d room e f =
       let two : length b ≡ 2 = ap length is-b ∙ length-bytes 2 source in
       let more : length d ≡ 2 = ap length is-d ∙ length-bytes 2 dest in
-      let is-u : u ≡ splice out at b = put-fits out b u at p (omega arith) e in
+      let is-u : u ≡ splice out at b = put-is out b u at p (omega arith) e in
       let same : length u ≡ length out = ap length is-u ∙ splice-length out at b (omega arith) in
       let part : b ++ d ≡ addressPart a = ap₂ (λ (l m : List ℕ). l ++ m) is-b is-d ∙ ap addressPart (sym is-a) in (
         omega (arith, length-append b d, ap length part),
-        put-fits u d v (at + 2) q (omega arith) f
+        put-is u d v (at + 2) q (omega arith) f
             ∙ ap₂ (λ (l : List ℕ) (n : ℕ). splice l (at + n) d) is-u (sym two)
             ∙ splice-then out b d at (omega arith)
             ∙ ap (splice out at) part,
@@ -180,7 +152,7 @@ pub crc-laid : (out y b : List ℕ) (at word : ℕ) (p : Answer) → word ≡ wo
     → y ≡ splice out at (bytesOf 2 (wordOf (take at out)))
 crc-laid out y b at word p is-word is-b room e =
     let two : length b ≡ 2 = ap length is-b ∙ length-bytes 2 word in
-    put-fits out b y at p (omega arith) e ∙ ap (splice out at) (is-b ∙ ap (bytesOf 2) is-word)
+    put-is out b y at p (omega arith) e ∙ ap (splice out at) (is-b ∙ ap (bytesOf 2) is-word)
 
 pub header-laid : (h : Header) (out w x y v : List ℕ) (a b : ℕ) → w ≡ splice out 0 (frontOf h) → a ≡ 12 + length (fecPart h) → x ≡ splice w 12 (fecPart h)
     → b ≡ a + length (addressPart (h .address)) → y ≡ splice x a (addressPart (h .address)) → v ≡ splice y b (bytesOf 2 (wordOf (take b y)))

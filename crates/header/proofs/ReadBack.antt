@@ -2,14 +2,14 @@
 use mathlib.Core.Path.{_≡_, refl, sym, ap, ap₂, _∙_}
 use mathlib.Core.Bool.{Bool, true, false, cond}
 use mathlib.Core.List.{List, [], _∷_, _++_, append-assoc}
-use Prim.Native.Nat.{ℕ, _+_, _%_, _^_, _<_}
+use Prim.Native.Nat.{ℕ, _+_, _%_, _<_}
 use native.Mathlib.Omega.{arith}
 use borrow.Author.Tests.{le-leb, lt-leb}
 use lib.Dec.{leb}
 use lib.ListN.{length, getD, take, drop, length-append}
-use lib.Seq.{take-at, drop-at, drop-drop}
+use lib.Seq.{take-at, drop-at}
 use Rattle.base.specs.Bytes.{numberAt, bytesOf}
-use Rattle.base.proofs.Numbers.{number-back, number-drop}
+use Rattle.base.proofs.Numbers.{number-back, number-drop, back-at, number-from}
 use Rattle.crc.specs.Crc.{wordOf}
 use Rattle.crc.proofs.Over.{word-lt}
 use Rattle.cut.specs.Sizes.{addressBytes}
@@ -21,15 +21,6 @@ use Rattle.header.specs.Read.{flagsAt, hasFec, hasAddress, addressAt, ad
 use Rattle.header.specs.Claims.{Fitting, Written, Sound}
 use Rattle.header.proofs.Checks.{Passing, fit-index, fit-size}
 use Rattle.header.proofs.Lays.{fec-length, lead-length, body-length, address-length, header-length}
-
--- ---- numbers in a part
-
-number-from : (w : ℕ) (s : List ℕ) (i j : ℕ) → numberAt w (drop i s) j ≡ numberAt w s (i + j)
-number-from w s i j = sym (number-drop w (drop i s) j) ∙ ap (λ (l : List ℕ). numberAt w l 0) (drop-drop j i s) ∙ number-drop w s (i + j)
-
--- a number that was written at i is read back there
-back-at : (w x i : ℕ) (s rest : List ℕ) → drop i s ≡ bytesOf w x ++ rest → x < 256 ^ w → numberAt w s i ≡ x
-back-at w x i s rest e h = sym (number-drop w s i) ∙ ap (λ (l : List ℕ). numberAt w l 0) e ∙ number-back w x rest h
 
 -- ---- the flags
 

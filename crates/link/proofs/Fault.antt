@@ -6,9 +6,8 @@ use Prim.Native.Nat.{ℕ, _≤_}
 use native.Mathlib.Omega.{arith}
 use borrow.Author.Tests.{le-ltb}
 use lib.ListN.{length, getD}
-use Rattle.base.proofs.Logic.{either}
+use Rattle.base.proofs.Logic.{either, same}
 use Rattle.cut.specs.declared.Settings.{Settings}
-use Rattle.header.proofs.Checks.{same}
 use Rattle.places.specs.declared.Place.{Place}
 use Rattle.places.specs.Places.{open-now, delivered, isLast}
 use Rattle.places.specs.Faults.{badSizeIn, mismatch, placeFault}

@@ -12,6 +12,7 @@ use Rattle.base.specs.Round.{ceil}
 use Rattle.base.proofs.ByteLaws.{bytes-append, bytes-take, bytes-drop}
 use Rattle.base.proofs.Firsts.{skip, none-due}
 use Rattle.base.proofs.Splice.{splice-start}
+use Rattle.base.proofs.Logic.{same}
 use Rattle.cut.specs.declared.Address.the-variants.{None}
 use Rattle.cut.specs.declared.Settings.{Settings}
 use Rattle.cut.specs.Cells.{partOf}
@@ -19,7 +20,6 @@ use Rattle.cut.specs.Plan.{fit}
 use Rattle.cut.specs.Sizes as cut
 use Rattle.af.specs.Packet.{headerOf, closed, packetOf, payloadOf}
 use Rattle.af.specs.Claims.{Back}
-use Rattle.af.proofs.Checks.{same}
 use Rattle.af.proofs.Proved.{a1}
 use Rattle.header.specs.declared.Header.{Header}
 use Rattle.header.specs.Claims.{Fitting}

@@ -1,12 +1,11 @@
 -- Writing the record: what is laid down piece by piece is the record. Assumes nothing.
 use mathlib.Core.Path.{_≡_, refl, sym, ap, ap₂, _∙_, subst}
-use mathlib.Core.List.{List, [], _∷_, _++_, map, append-assoc}
+use mathlib.Core.List.{List, [], _∷_, _++_, map}
 use Prim.Native.Nat.{ℕ, _+_, _*_, _≤_, _<_}
 use native.Mathlib.Omega.{arith}
 use borrow.Author.Tests.{lt-ltb, le-ltb}
 use lib.Dec.{lit<}
-use lib.ListN.{length, getD, take, drop, length-append, length-map}
-use lib.Seq.{length-take-le, take-at, drop-drop}
+use lib.ListN.{length, getD, length-append, length-map}
 use Rattle.base.specs.Answer.{Answer, outcome}
 use Rattle.base.specs.Bounds.{most-f}
 use Rattle.base.specs.Bytes.{splice, bytesOf}
@@ -15,7 +14,7 @@ use Rattle.base.specs.declared.Written.{Written}
 use Rattle.base.specs.declared.Written.the-variants.{Refused}
 use Rattle.base.proofs.Answers.{writes, leaves, put-is, put-done}
 use Rattle.base.proofs.Firsts.{due, skip, none-due}
-use Rattle.base.proofs.Splice.{splice-length, splice-behind, splice-next}
+use Rattle.base.proofs.Splice.{splice-length, splice-next, splice-then}
 use Rattle.places.specs.declared.Place.{Place}
 use Rattle.places.specs.declared.Table.{Table}
 use Rattle.places.specs.Places.{four, placeAt}
@@ -40,24 +39,6 @@ length-place p e = omega (arith, length-append (figuresOf p) (map flagOf (p .kep
 
 -- ---- a place
 
--- a run right behind a run from anywhere
-splice-then : (d a b : List ℕ) (at n : ℕ) → at + length a ≤ length d → at + length a ≡ n → splice (splice d at a) n b ≡ splice d at (a ++ b)
-unfolding splice
-splice-then d a b at n fits is-n =
-    let x : List ℕ = splice d at a in
-    let front : take n x ≡ take at d ++ a =
-    ap (take n) (sym (append-assoc (take at d) a (drop (at + length a) d)))
-    ∙ take-at (take at d ++ a) (drop (at + length a) d) n (omega (arith, length-append (take at d) a, length-take-le at d (omega arith))) in
-    let more : at + length a + length b ≡ at + length (a ++ b) = omega (arith, length-append a b) in
-    let behind : drop (n + length b) x ≡ drop (at + length (a ++ b)) d =
-    sym (drop-drop (length b) n x)
-    ∙ ap (drop (length b)) (ap (λ (k : ℕ). drop k x) (sym is-n) ∙ splice-behind d at a fits)
-    ∙ drop-drop (length b) (at + length a) d
-    ∙ ap (λ (k : ℕ). drop k d) more in
-    ap₂ (λ (l m : List ℕ). l ++ (b ++ m)) front behind
-    ∙ append-assoc (take at d) a (b ++ drop (at + length (a ++ b)) d)
-    ∙ ap (λ (l : List ℕ). take at d ++ l) (sym (append-assoc a b (drop (at + length (a ++ b)) d)))
-
 -- what is laid down of place i, from `at` on
 abbrev Laid : Table → ℕ → ℕ → List ℕ → List ℕ → Type 0
 Laid t i at x y = (length (packedPlace (placeAt t i)) ≡ place-bytes) × (y ≡ splice x at (packedPlace (placeAt t i)))
@@ -75,7 +56,8 @@ place-laid t i p out x y f k at a b is-p room long is-f is-k e₁ e₂ =
     let is-y : y ≡ splice out at (packedPlace p) =
     put-is x k y (at + 14) b (omega arith) e₂
     ∙ ap (λ (l : List ℕ). splice l (at + 14) k) is-x
-    ∙ splice-then out f k at (at + 14) (omega arith) (omega arith)
+    ∙ ap (λ (n : ℕ). splice (splice out at f) n k) (omega (arith, long-f))
+    ∙ splice-then out f k at (omega arith)
     ∙ ap₂ (λ (l m : List ℕ). splice out at (l ++ m)) is-f is-k in
     subst (λ (q : Place). (length (packedPlace q) ≡ place-bytes) × (y ≡ splice out at (packedPlace q))) is-p (length-place p long, is-y)
 

@@ -7,20 +7,12 @@ use lib.Dec.{ltb, leb, eqb}
 use lib.ListN.{getD}
 use Rattle.base.specs.Bounds.{most-f, most-k, place}
 use Rattle.base.proofs.Firsts.{due, skip, none-due}
+use Rattle.base.proofs.Logic.{same, other, hit, pass}
 use Rattle.header.specs.declared.Header.{Header}
-use Rattle.header.proofs.Checks.{same, other}
 use Rattle.places.specs.declared.Place.{Place}
 use Rattle.places.specs.declared.Table.{Table}
 use Rattle.places.specs.Places.{four, spoiled, delivered, placeAt, isLast}
 use Rattle.places.specs.Faults.{badFigures, badCode, badPlace, badTable, badSizeIn, mismatch, placeFault}
-
--- ---- tests joined by `||`: one that is true ends them, one that is false hands on to the rest
-
-hit : {a : Bool} (b : Bool) → a ≡ true → true ≡ (a || b)
-hit b e = simp e
-
-pass : {a b r : Bool} → a ≡ false → r ≡ b → r ≡ (a || b)
-pass e q = simp e q
 
 -- ---- 14, of a place
 

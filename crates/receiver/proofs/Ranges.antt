@@ -9,8 +9,7 @@ use lib.ListN.{length}
 use lib.Seq.{getD-set-same}
 use Rattle.base.specs.Bounds.{most-l}
 use Rattle.base.proofs.Firsts.{due, skip, none-due, clear, clear-rest}
-use Rattle.base.proofs.Logic.{either, or-left, or-right}
-use Rattle.header.proofs.Checks.{same, other}
+use Rattle.base.proofs.Logic.{either, or-left, or-right, same, other}
 use Rattle.places.specs.declared.Place.{Place}
 use Rattle.places.specs.declared.Table.{Table}
 use Rattle.places.specs.Places.{four, free, freePlace, placeAt, withPlace, firstPlace, openAt}

@@ -10,13 +10,12 @@ use lib.ListN.{length, take, drop, length-drop}
 use Rattle.base.specs.Bytes.{Bytes}
 use Rattle.base.specs.Tests.{first}
 use Rattle.base.proofs.Firsts.{due, skip, none-due}
-use Rattle.base.proofs.Logic.{either}
+use Rattle.base.proofs.Logic.{either, same, other}
 use Rattle.cut.specs.declared.Address.{Address}
 use Rattle.header.specs.declared.Header.{Header}
 use Rattle.header.specs.declared.Parsed.{Parsed}
 use Rattle.header.specs.declared.Parsed.the-variants as parsed
 use Rattle.header.specs.Read.{fieldsOf, lengthOf, faultOf, parsedOf}
-use Rattle.header.proofs.Checks.{same, other}
 use Rattle.header.proofs.Fields.{parse-refused, parse-read}
 use Rattle.header.proofs.Proved.{passed-sound, payload-stands}
 use Rattle.places.specs.declared.Table.{Table}

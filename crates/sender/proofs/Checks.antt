@@ -13,7 +13,7 @@ use Rattle.base.specs.Bounds.{least-l, most-l, most-f}
 use Rattle.base.specs.Tests.{first}
 use Rattle.base.proofs.Answers.{refuses}
 use Rattle.base.proofs.Firsts.{due, skip, clear, clear-rest}
-use Rattle.base.proofs.Logic.{either}
+use Rattle.base.proofs.Logic.{either, same, other}
 use Rattle.cut.specs.Plan.{fit, planFault, planOf, figuresOf, numberOf}
 use Rattle.cut.specs.Sizes.{f}
 use Rattle.cut.specs.declared.Settings.{Settings}
@@ -25,7 +25,6 @@ use Rattle.af.specs.Calls.{afFault, checkCall}
 use Rattle.af.specs.Calls as calls
 use Rattle.af.specs.declared.Figures as declared
 use Rattle.af.specs.declared.Checked.the-variants as checked
-use Rattle.af.proofs.Checks.{same, other}
 use Rattle.af.proofs.Proved.{a3}
 use Rattle.code.proofs.CallCases.{granted-by, refused-by}
 use Rattle.sender.specs.Calls.{checks, packetFault}
