@@ -75,6 +75,25 @@ module _ (own : Address) (s : List ℕ) (passed : faultOf own s ≡ 0) {h : Head
 
 -- ---- the checks in their order
 
+module _ (own : Address) (t : Table) (lent : ℕ) (s : List ℕ) (room : ℕ) {n : ℕ} (is-n : n ≡ roomFault t lent room) where
+  pub room-due : (n ≡ 0 → ⊥) → n ≡ receiveFault own t lent s room
+  unfolding receiveFault
+  room-due some = is-n ∙ due _ _ (other (λ z. some (is-n ∙ z)))
+
+  module _ (none : n ≡ 0) where
+    pub header-due : {m : ℕ} → m ≡ faultOf own s → (m ≡ 0 → ⊥) → m ≡ receiveFault own t lent s room
+    unfolding receiveFault
+    header-due is-m some = is-m ∙ skip _ _ (same (sym is-n ∙ none)) (due _ _ (other (λ z. some (is-m ∙ z))))
+
+    last-due : (f : ℕ) → f ≡ first ((not (eqb f 0), f) ∷ [])
+    last-due f = either (eqb f 0) (λ z. eqb-true f 0 z ∙ skip _ [] (same (eqb-true f 0 z)) none-due) (λ z. due _ [] (other (eqb-false f 0 z)))
+
+    held-due : faultOf own s ≡ 0 → heldFault t (fieldsOf s) ≡ receiveFault own t lent s room
+    unfolding receiveFault
+    held-due passed = skip _ _ (same (sym is-n ∙ none)) (skip _ _ (same passed) (last-due (heldFault t (fieldsOf s))))
+
+-- ---- and the step that each of them is
+
 module _ (own : Address) (t : Table) (b s out : List ℕ) where
   refused : {n : ℕ} {y : Outcome} → n ≡ receiveFault own t (length b) s (length out) → (n ≡ 0 → ⊥) → y ≡ outcome (Refused n) t b out
       → Step own (record { table = t; bytes = b }) s out y
@@ -83,35 +102,21 @@ module _ (own : Address) (t : Table) (b s out : List ℕ) where
       left-out _ (ap (λ (x : ℕ). eqb x 0) (sym is-n) ∙ ne-eqb n 0 some) (e ∙ ap (λ (x : ℕ). outcome (Refused x) t b out) is-n)
 
   module _ {n : ℕ} (is-n : n ≡ roomFault t (length b) (length out)) where
-    room-due : (n ≡ 0 → ⊥) → n ≡ receiveFault own t (length b) s (length out)
-    unfolding receiveFault
-    room-due some = is-n ∙ due _ _ (other (λ z. some (is-n ∙ z)))
-
     -- 14 and 1,
     pub step-room : {y : Outcome} → (n ≡ 0 → ⊥) → y ≡ outcome (Refused n) t b out → Step own (record { table = t; bytes = b }) s out y
-    step-room some e = refused (room-due some) some e
+    step-room some e = refused (room-due own t (length b) s (length out) is-n some) some e
 
     module _ (none : n ≡ 0) where
-      header-due : {m : ℕ} → m ≡ faultOf own s → (m ≡ 0 → ⊥) → m ≡ receiveFault own t (length b) s (length out)
-      unfolding receiveFault
-      header-due is-m some = is-m ∙ skip _ _ (same (sym is-n ∙ none)) (due _ _ (other (λ z. some (is-m ∙ z))))
-
       -- 2 to 8,
       pub step-header : {m : ℕ} {y : Outcome} → (m ≡ faultOf own s) × (m ≡ 0 → ⊥) → y ≡ outcome (Refused m) t b out → Step own (record { table = t; bytes = b }) s out y
-      step-header m e = refused (header-due (m .0) (m .1)) (m .1) e
-
-      last-due : (f : ℕ) → f ≡ first ((not (eqb f 0), f) ∷ [])
-      last-due f = either (eqb f 0) (λ z. eqb-true f 0 z ∙ skip _ [] (same (eqb-true f 0 z)) none-due) (λ z. due _ [] (other (eqb-false f 0 z)))
-
-      held-due : faultOf own s ≡ 0 → heldFault t (fieldsOf s) ≡ receiveFault own t (length b) s (length out)
-      unfolding receiveFault
-      held-due passed = skip _ _ (same (sym is-n ∙ none)) (skip _ _ (same passed) (last-due (heldFault t (fieldsOf s))))
+      step-header m e = refused (header-due own t (length b) s (length out) is-n none (m .0) (m .1)) (m .1) e
 
       -- and then what the place says that holds its number
       passes : (y : Outcome) → faultOf own s ≡ 0 → Arrives t (fieldsOf s) b (payloadOf s) out y → Step own (record { table = t; bytes = b }) s out y
       unfolding Arrives Step
       passes y passed arrives =
-          subst (λ (x : ℕ). cond (eqb x 0) (SettledAfter (keepOf t (fieldsOf s) b (payloadOf s)) out y) (y ≡ outcome (Refused x) t b out)) (held-due passed) arrives
+          subst (λ (x : ℕ). cond (eqb x 0) (SettledAfter (keepOf t (fieldsOf s) b (payloadOf s)) out y) (y ≡ outcome (Refused x) t b out))
+          (held-due own t (length b) s (length out) is-n none passed) arrives
 
       pub step-arrives : (y : Outcome) {h : Header} → (faultOf own s ≡ 0) × (h ≡ fieldsOf s)
           → Arrives t h b (take (length s - (length s - h .plen)) (drop (length s - h .plen) s)) out y

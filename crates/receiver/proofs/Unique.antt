@@ -1,6 +1,6 @@
 -- No second outcome fits the promise of `receive`, and no second answer has the same number and values. Assumes nothing.
 use mathlib.Core.Path.{_≡_, refl, sym, ap, _∙_, subst}
-use mathlib.Core.Bool.{Bool, true, false, not, cond}
+use mathlib.Core.Bool.{true, false, cond}
 use mathlib.Core.List.{List, [], _∷_, _++_, append-assoc, append-nil}
 use Prim.Native.Nat.{ℕ, _≤_, _<_}
 use borrow.Author.Tests.{eqb-true, eqb-false, ltb-true, ltb-false, eq-eqb, ne-eqb}
@@ -8,7 +8,6 @@ use lib.Dec.{ltb, eqb}
 use lib.ListN.{length, getD, drop, set, List·getD-eq-default}
 use lib.Seq.{getD-set-same, set-out}
 use Rattle.base.specs.Bounds.{most-k}
-use Rattle.base.specs.Tests.{first}
 use Rattle.base.proofs.Logic.{either, clash}
 use Rattle.cut.specs.declared.Address.{Address}
 use Rattle.header.specs.declared.Header.{Header}
@@ -32,6 +31,7 @@ use Rattle.receiver.specs.Promise.{displacedValues, numberOf, Outcome, o
 use Rattle.receiver.specs.Calls.{seenValues, queriedNumber}
 use Rattle.receiver.specs.Claims.{dueFor, keptBy}
 use Rattle.receiver.proofs.Ranges.{fine-table, place-fine}
+use Rattle.receiver.proofs.Steps.{room-due, header-due}
 
 -- ---- answers, each read back off its number and values
 
@@ -112,22 +112,16 @@ queried-one (queried.Refused m) (queried.Refused n) e = cc
 
 -- ---- what is due where nothing is
 
--- a part's number that is handed on: where nothing is due, none was due there, nor of the rest
-handed-on : (x : ℕ) (ts : List (Bool × ℕ)) → first ((not (eqb x 0), x) ∷ ts) ≡ 0 → (x ≡ 0) × (first ts ≡ 0)
-unfolding first
-handed-on x ts e =
-    either (eqb x 0)
-    (λ (z : eqb x 0 ≡ true). (eqb-true x 0 z, ap (λ (b : Bool). cond (not b) x (first ts)) (sym z) ∙ e))
-    (λ (z : eqb x 0 ≡ false). absurd (eqb-false x 0 z (ap (λ (b : Bool). cond (not b) x (first ts)) (sym z) ∙ e)))
-
 module _ (own : Address) (t : Table) (lent : ℕ) (datagram : List ℕ) (room : ℕ) (passed : receiveFault own t lent datagram room ≡ 0) where
   pub room-passed : roomFault t lent room ≡ 0
-  unfolding receiveFault
-  room-passed = handed-on (roomFault t lent room) _ passed .0
+  room-passed =
+      either (eqb (roomFault t lent room) 0) (λ z. eqb-true (roomFault t lent room) 0 z)
+      (λ z. room-due own t lent datagram room refl (eqb-false (roomFault t lent room) 0 z) ∙ passed)
 
   header-passed : faultOf own datagram ≡ 0
-  unfolding receiveFault
-  header-passed = handed-on (faultOf own datagram) _ (handed-on (roomFault t lent room) _ passed .1) .0
+  header-passed =
+      either (eqb (faultOf own datagram) 0) (λ z. eqb-true (faultOf own datagram) 0 z)
+      (λ z. header-due own t lent datagram room refl room-passed refl (eqb-false (faultOf own datagram) 0 z) ∙ passed)
 
 -- ---- the place that keeps a fragment has chunks that the code has
 
