@@ -6,7 +6,7 @@ use borrow.Author.Needs.{needs}
 use borrow.Author.Tests.{lt-ltb, le-ltb}
 use Rattle.base.specs.Tests.{first}
 use Rattle.base.proofs.Firsts.{due, skip, none-due}
-use Rattle.base.proofs.Logic.{told}
+use Rattle.base.proofs.Logic.{told, same, other}
 use Rattle.base.proofs.Numbers.{number-one}
 use Rattle.af.specs.Calls.{afFault}
 use Rattle.af.proofs.checking.fault.Statement.{statement}
@@ -22,16 +22,16 @@ on-21 : (c : tie.Else1) {r : ℕ} → r ≡ first (checks.from-21 (seen c)) → 
 on-21 c e = skip 20 _ (le-ltb _ _ (c .if1 .left)) e ∙ checks.in-order (seen c)
 
 on-22 : (c : tie.Else2) {r : ℕ} → r ≡ first (checks.from-22 (seen (c .before .before))) → r ≡ afFault (seen (c .before .before))
-on-22 c e = on-21 (c .before .before) (skip 21 _ (checks.same (sym (c .before .read2 .ensures) ∙ c .if2 .left)) e)
+on-22 c e = on-21 (c .before .before) (skip 21 _ (same (sym (c .before .read2 .ensures) ∙ c .if2 .left)) e)
 
 on-23 : (c : tie.Else3) {r : ℕ} → r ≡ first (checks.from-23 (seen (c .before .before .before .before))) → r ≡ afFault (seen (c .before .before .before .before))
 on-23 c e = on-22 (c .before .before) (skip 22 _ (told (c .before .bad-length .ensures) (c .if3 .left)) e)
 
 on-24 : (c : tie.Else4) {r : ℕ} → r ≡ first (checks.from-24 (seen (c .before .before .before .before .before .before))) → r ≡ afFault (seen (c .before .before .before .before .before .before))
-on-24 c e = on-23 (c .before .before) (skip 23 _ (checks.same (ap (λ (k : ℕ). k / 16 % 8) (sym (c .before .ar-of .ensures)) ∙ c .if4 .left)) e)
+on-24 c e = on-23 (c .before .before) (skip 23 _ (same (ap (λ (k : ℕ). k / 16 % 8) (sym (c .before .ar-of .ensures)) ∙ c .if4 .left)) e)
 
 on-25 : (c : tie.Else5) {r : ℕ} → r ≡ first (checks.from-25 (seen (c .before .before .before .before .before .before .before .before))) → r ≡ afFault (seen (c .before .before .before .before .before .before .before .before))
-on-25 c e = on-24 (c .before .before) (skip 24 _ (checks.same (sym (number-one _ 9 (c .before .byte-at .ensures)) ∙ c .if5 .left)) e)
+on-25 c e = on-24 (c .before .before) (skip 24 _ (same (sym (number-one _ 9 (c .before .byte-at .ensures)) ∙ c .if5 .left)) e)
 
 returns : tie.Need-returns
 returns c = due 20 _ (lt-ltb _ _ (c .if1 .taken)) ∙ checks.in-order (c .before .before .args .packet .now)
@@ -40,7 +40,7 @@ read2-requires : tie.Need-read2-requires
 read2-requires c κs = search needs
 
 returns-2 : tie.Need-returns-2
-returns-2 c = on-21 (c .before .before) (due 21 _ (checks.other (λ e. c .if2 .taken (c .before .read2 .ensures ∙ e))))
+returns-2 c = on-21 (c .before .before) (due 21 _ (other (λ e. c .if2 .taken (c .before .read2 .ensures ∙ e))))
 
 bad-length-requires : tie.Need-bad-length-requires
 bad-length-requires c κs = search needs
@@ -52,7 +52,7 @@ ar-of-requires : tie.Need-ar-of-requires
 ar-of-requires c κs = search needs
 
 returns-4 : tie.Need-returns-4
-returns-4 c = on-23 (c .before .before) (due 23 _ (checks.other (λ e. c .if4 .taken (ap (λ (k : ℕ). k / 16 % 8) (c .before .ar-of .ensures) ∙ e))))
+returns-4 c = on-23 (c .before .before) (due 23 _ (other (λ e. c .if4 .taken (ap (λ (k : ℕ). k / 16 % 8) (c .before .ar-of .ensures) ∙ e))))
 
 byte-at-requires : tie.Need-byte-at-requires
 byte-at-requires c κs = search needs
@@ -60,7 +60,7 @@ byte-at-requires c κs = search needs
 returns-5 : tie.Need-returns-5
 returns-5 c =
     let s = seen (c .before .before .before .before .before .before .before .before) in
-    on-24 (c .before .before) (due 24 (checks.from-25 s) (checks.other (λ e. c .if5 .taken (number-one s 9 (c .before .byte-at .ensures) ∙ e))))
+    on-24 (c .before .before) (due 24 (checks.from-25 s) (other (λ e. c .if5 .taken (number-one s 9 (c .before .byte-at .ensures) ∙ e))))
 
 bad-crc-requires : tie.Need-bad-crc-requires
 bad-crc-requires c κs = search needs
