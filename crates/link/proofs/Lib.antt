@@ -2,6 +2,7 @@ pub mod Basic
 pub mod View
 pub mod Frame
 pub mod Ring
+pub mod Holdings
 pub mod Three
 pub mod Survives
 pub mod Shown

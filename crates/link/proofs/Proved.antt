@@ -1,9 +1,10 @@
 -- The claims of specs/Demand.antt, Reached.antt, Useless.antt and Examples.antt, each by citation. Assumes nothing.
 use Rattle.link.specs.Demand.{T1, T2, T3, T3b, Again}
-use Rattle.link.specs.Reached.{StaysInRange, GoesRound, HeldOnce, PartsApart}
+use Rattle.link.specs.Reached.{StaysInRange, GoesRound, HeldOnce, PartsApart, HeldCame, StaysKept}
 use Rattle.link.specs.Useless.{SomeKeep, Falls}
 use Rattle.link.specs.Examples.{SomeRun, ThreeOthers, FourOthers}
 use Rattle.link.proofs.Examples.{handed-out-last, displaced-last}
+use Rattle.link.proofs.Holdings as holdings
 use Rattle.link.proofs.Link as link
 use Rattle.link.proofs.Ring as ring
 use Rattle.link.proofs.Runs as runs
@@ -37,6 +38,12 @@ held-once = ring.held-once
 
 pub parts-apart : PartsApart
 parts-apart = ring.parts-apart
+
+pub held-came : HeldCame
+held-came = holdings.held-came
+
+pub stays-kept : StaysKept
+stays-kept = holdings.stays-kept
 
 pub some-keep : SomeKeep
 some-keep = useless.some-keep

@@ -1,14 +1,18 @@
 -- What every reached state is: the invariants of the receiver's runs. Each is proved in proofs/Proved.antt.
 use mathlib.Core.Path.{_≡_}
-use mathlib.Core.Bool.{true, false}
+use mathlib.Core.Bool.{true, false, not, cond, _&&_}
+use mathlib.Core.List.{List, _∷_}
 use Prim.Native.Nat.{ℕ, _+_, _-_, _*_, _≤_, _<_}
-use lib.ListN.{length}
+use lib.Dec.{leb}
+use lib.ListN.{length, getD, take, drop}
 use Rattle.base.specs.Bounds.{place}
-use Rattle.places.specs.Places.{four, placeAt, holds}
+use Rattle.header.specs.Read.{fieldsOf}
+use Rattle.places.specs.declared.Place.{Place}
+use Rattle.places.specs.Places.{four, placeAt, holds, openAt, offsetOf}
 use Rattle.places.specs.Faults.{badTable}
 use Rattle.places.specs.Claims.{Opened}
-use Rattle.receiver.specs.Promise.{State, all-places}
-use Rattle.link.specs.Run.{Reached}
+use Rattle.receiver.specs.Promise.{State, all-places, payloadOf, bytesAt}
+use Rattle.link.specs.Run.{Call, Made, Reached, Holds, heard, numberIn, indexIn}
 
 -- document 01, 14 and 1: the record is in range and the lent bytes are all there, so no call of a run is refused for its state
 abbrev pub StaysInRange : Type 0
@@ -27,3 +31,47 @@ HeldOnce =
 abbrev pub PartsApart : Type 0
 PartsApart =
     (s : State) → Reached s → (i : ℕ) → i < four → (placeAt (s .table) i .count - 1) * placeAt (s .table) i .size + placeAt (s .table) i .last ≤ place
+
+-- ---- what a place holds is what came since it was opened, whoever sent it
+
+-- document 01: the bytes that a place has for its fragment j, by its own figures; without FEC the last stands at the place's end
+unfoldable pub partIn : Place → List ℕ → ℕ → List ℕ
+partIn p held j =
+    cond (not (p .fec) && leb (p .count) (j + 1))
+    (take (p .last) (drop (place - p .last) held))
+    (take (p .size) (drop (j * p .size) held))
+
+-- the call e is among these, the last one first, and from it on place i held the number n
+pub data HeldSince (i n : ℕ) (e : Call) : List Call → Type 0 where
+  just-now : {es : List Call} → holds (placeAt (e .left .table) i) n ≡ true → HeldSince i n e (e ∷ es)
+  before : {es : List Call} (c : Call) → HeldSince i n e es → holds (placeAt (c .left .table) i) n ≡ true → HeldSince i n e (c ∷ es)
+
+-- fragment j of the number n came in one of the calls, since place i was opened for it, and the place has its payload
+pub record Came (es : List Call) (s : State) (i n j : ℕ) : Type 0 where
+  pub call : Call
+  pub since : HeldSince i n call es
+  pub passed : heard call ≡ true
+  pub number : numberIn call ≡ n
+  pub index : indexIn call ≡ j
+  -- where its own header says that it stands,
+  pub stands : take (fieldsOf (call .datagram) .plen) (drop (offsetOf (fieldsOf (call .datagram))) (bytesAt (s .bytes) i)) ≡ payloadOf (call .datagram)
+  -- and where the place's figures say it
+  pub part : partIn (placeAt (s .table) i) (bytesAt (s .bytes) i) j ≡ payloadOf (call .datagram)
+
+-- document 01, "every kept byte": each fragment that a place keeps came, and the bytes that the place has for it are its payload
+abbrev pub HeldCame : Type 0
+HeldCame =
+    (s : State) (c : Reached s) (i n j : ℕ) → i < four → holds (placeAt (s .table) i) n ≡ true → getD (placeAt (s .table) i .kept) j false ≡ true
+    → Came (c .calls) s i n j
+
+-- what a call leaves of fragment j of the number n in place i: it opens the place for another number, or number, fragment and bytes stay
+pub data Stays (s : State) (e : Call) (i n j : ℕ) : Type 0 where
+  displaced : heard e ≡ true → (Holds s (numberIn e) → ⊥) → openAt (s .table) ≡ i → Stays s e i n j
+  stays : holds (placeAt (e .left .table) i) n ≡ true → getD (placeAt (e .left .table) i .kept) j false ≡ true
+      → partIn (placeAt (e .left .table) i) (bytesAt (e .left .bytes) i) j ≡ partIn (placeAt (s .table) i) (bytesAt (s .bytes) i) j → Stays s e i n j
+
+-- document 01, 12 and "until displaced": a kept fragment stays, whatever datagram comes, until its place is opened for another number
+abbrev pub StaysKept : Type 0
+StaysKept =
+    (s : State) → Reached s → (e : Call) → Made s e → (i n j : ℕ) → i < four → holds (placeAt (s .table) i) n ≡ true
+    → getD (placeAt (s .table) i .kept) j false ≡ true → Stays s e i n j
