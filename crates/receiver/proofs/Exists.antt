@@ -11,8 +11,7 @@ use Rattle.places.specs.declared.Displaced.{Displaced}
 use Rattle.places.specs.Places.{placeAt}
 use Rattle.form.specs.Agree.{enoughIn, Agrees}
 use Rattle.form.proofs.Proved.{decided}
-use Rattle.receiver.specs.declared.Received.the-variants.{Refused}
-use Rattle.receiver.specs.Promise.{Outcome, outcome, State, bytesAt, Settled, waits, delivers, damaged, SettledAfter, Step}
+use Rattle.receiver.specs.Promise.{Outcome, State, bytesAt, Settled, waits, delivers, damaged, SettledAfter, Step}
 use Rattle.receiver.specs.Claims.{dueFor, keptBy}
 
 -- a fragment that was kept settles: not enough yet, or a packet agrees, or none does
@@ -32,6 +31,5 @@ pub outcome-some : (own : Address) (s : State) (datagram out : List ℕ) → (y 
 unfolding Step
 outcome-some own s datagram out =
     let k = keptBy s datagram in
-    either-some (eqb (dueFor own s datagram out) 0) (λ y. SettledAfter k out y)
-    (λ y. y ≡ outcome (Refused (dueFor own s datagram out)) (s .table) (s .bytes) out)
+    either-some (eqb (dueFor own s datagram out) 0) (λ y. SettledAfter k out y) _
     (settled-some (k .table) (k .at) (k .displaced) (k .bytes) out) (_, refl)
