@@ -67,7 +67,7 @@ def conditions(k, missing, given):
     n = k + PARITY
     degree = [254 - place if place < k else n - 1 - place for place in range(n)]
     for root in range(1, PARITY + 1):
-        at = [power(root * d) for d in degree]
+        at = [power(root * d % 255) for d in degree]  # α^255 is 1
         there = 0
         for place in set(range(n)) - set(missing):
             there ^= times(given[place], at[place])

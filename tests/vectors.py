@@ -4,7 +4,8 @@
 
 The answers come from crc.txt (made by a peer), from plans.py and fields.py (computed from document 01), from chunks.py (of
 parity.txt, made by a peer), from packets.py (written out beside the sentence of document 01 that gives it, or by its own reader), from
-fragments.py (by its own sender) and from the lists below. None is taken from the program. Running this again gives the same bytes.
+fragments.py (by its own sender), from receiver.py (by hand and by its own receiver) and from the lists below. None is taken from the program.
+Running this again gives the same bytes.
 """
 import pathlib
 import sys
@@ -15,6 +16,7 @@ import fields
 import fragments
 import packets
 import plans
+import receiver
 
 HERE = pathlib.Path(__file__).resolve().parent
 ASK = HERE.parent / "crates" / "ask"
@@ -212,6 +214,12 @@ def sent_packets():
     ask_parts(fragments.PARTS)
 
 
+def received_fragments():
+    silent("# before any other question on the receiver its table is fresh")
+    ask(f"query {receiver.TABLE}", "places free free free free")
+    ask_parts(receiver.PARTS)
+
+
 MALFORMED = """\
 mul
 mul 1
@@ -337,8 +345,8 @@ def long_lines():
 
 
 def main():
-    for part in (sums, sizes, settings, counts, ordinary, elements, whole_chunks, packets_and_items, longest_packets, sent_packets, malformed,
-                 long_lines):
+    for part in (sums, sizes, settings, counts, ordinary, elements, whole_chunks, packets_and_items, longest_packets, sent_packets,
+                 received_fragments, malformed, long_lines):
         part()
         silent("")
     questions.pop()

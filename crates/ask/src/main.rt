@@ -20,9 +20,9 @@ fn room() -> [u8; console::ANSWER + 1] {
 }
 
 // Answers one line, and says whether the output took it.
-fn reply(line: &[u8]) -> bool {
+fn reply(line: &[u8], seat: &mut [u8]) -> bool {
     let mut out = room();
-    let n = console::answer(line, &mut out[..console::ANSWER]);
+    let n = console::answer(line, seat, &mut out[..console::ANSWER]);
     if n == 0 {
         return true;
     }
@@ -31,12 +31,12 @@ fn reply(line: &[u8]) -> bool {
 }
 
 // Takes one byte of input. What does not fit the line is dropped: a full line is no question.
-fn take_byte(byte: u8, line: &mut [u8], used: usize) -> Held
+fn take_byte(byte: u8, line: &mut [u8], used: usize, seat: &mut [u8]) -> Held
     requires { ⌜ used ≤ length (now line) ⌝ }
     ensures { λ r. ⌜ heldOf r ≤ length (now (line .exit)) ⌝ }
 {
     if byte == b'\n' {
-        if reply(&line[..used]) {
+        if reply(&line[..used], seat) {
             return Held::Bytes(0);
         }
         return Held::Nothing;
@@ -49,14 +49,14 @@ fn take_byte(byte: u8, line: &mut [u8], used: usize) -> Held
 }
 
 // Takes what one read brought.
-fn take_all(chunk: &[u8], line: &mut [u8], used: usize) -> Held
+fn take_all(chunk: &[u8], line: &mut [u8], used: usize, seat: &mut [u8]) -> Held
     requires { ⌜ used ≤ length (now line) ⌝ }
     ensures { λ r. ⌜ heldOf r ≤ length (now (line .exit)) ⌝ }
 {
     let mut n = used;
     let mut i = 0;
     while i < chunk.len() {
-        let Held::Bytes(more) = take_byte(chunk[i], line, n) else {
+        let Held::Bytes(more) = take_byte(chunk[i], line, n, seat) else {
             return Held::Nothing;
         };
         n = more;
@@ -66,7 +66,7 @@ fn take_all(chunk: &[u8], line: &mut [u8], used: usize) -> Held
 }
 
 // Reads once. The end of the input ends the line that is held, too.
-fn take_some(line: &mut [u8], used: usize) -> Held
+fn take_some(line: &mut [u8], used: usize, seat: &mut [u8]) -> Held
     requires { ⌜ used ≤ length (now line) ⌝ }
     ensures { λ r. ⌜ heldOf r ≤ length (now (line .exit)) ⌝ }
 {
@@ -74,19 +74,19 @@ fn take_some(line: &mut [u8], used: usize) -> Held
     let got = libc::read(STDIN_FILENO, &mut chunk);
     let n = io::count(got, &chunk);
     if n == 0 {
-        reply(&line[..used]);
+        reply(&line[..used], seat);
         return Held::Nothing;
     }
-    take_all(&chunk[..n], line, used)
+    take_all(&chunk[..n], line, used, seat)
 }
 
 // Answers every line of the input. A proved loop has to end, and nothing says that the input does.
 // So the loop counts its reads down, from a number that no run uses up.
-fn answer_all(line: &mut [u8]) {
+fn answer_all(line: &mut [u8], seat: &mut [u8]) {
     let mut used = 0;
     let mut reads = u64::MAX;
     while reads > 0 {
-        let Held::Bytes(n) = take_some(line, used) else {
+        let Held::Bytes(n) = take_some(line, used, seat) else {
             return;
         };
         used = n;
@@ -96,5 +96,6 @@ fn answer_all(line: &mut [u8]) {
 
 fn main() {
     let mut line = [0u8; console::LINE];
-    answer_all(&mut line);
+    let mut seat = [0u8; console::SEAT];
+    answer_all(&mut line, &mut seat);
 }

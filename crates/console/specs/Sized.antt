@@ -1,5 +1,6 @@
--- What the reader of bytes promises of their number. Assumes nothing.
-use Prim.Native.Nat.{ℕ}
+-- What the reader of bytes promises of their number, and how long a seat is. Assumes nothing.
+use Prim.Native.Nat.{ℕ, _+_}
+use Rattle.packed.specs.Packed.{table-bytes}
 use Rattle.console.specs.declared.words.Number.{Number}
 use Rattle.console.specs.declared.words.Number.the-variants.{Of, Malformed}
 
@@ -7,3 +8,11 @@ use Rattle.console.specs.declared.words.Number.the-variants.{Of, Malform
 abbrev pub sizeOf : Number → ℕ
 sizeOf (Of n) = n
 sizeOf Malformed = 0
+
+-- the most bytes that a question lends as the table's
+abbrev pub lent-most : ℕ
+lent-most = 65536
+
+-- a seat: the packed record, and then these
+abbrev pub seat-size : ℕ
+seat-size = table-bytes + lent-most

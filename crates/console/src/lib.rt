@@ -6,6 +6,7 @@ mod fields;
 mod items;
 mod packets;
 mod plans;
+mod receiving;
 mod replies;
 mod sending;
 mod sums;
@@ -24,12 +25,16 @@ pub const LINE: usize = 2 * words::BYTES + 512;
 // other answer may be as long: that to `items` has at most 2 letters for each byte of the packet and 13
 // more, which are `items`, ` end 0`, and one for each item of over 99,999 bits, of which there are two at
 // most (with 5 digits, a head of 8 bytes has 16 letters, as in ` 6162635f:80000:`). The rest have 2
-// letters for each byte that they tell of, and 13 more at most, or list a packet of at most 8,192 bytes.
+// letters for each byte that they tell of, and fewer than 100 more, or list a packet of at most 8,192 bytes.
 pub const ANSWER: usize = 18 * (words::BYTES / 8) + 10;
+
+// A seat: what the receiver's questions leave for the next line. One of zeros holds a fresh table. With a seat of
+// another length the receiver's questions are unknown.
+pub const SEAT: usize = packed::RECORD + receiving::LENT;
 
 // Answers one line, without its newline, at the front of out, without a newline, and says how many
 // bytes the answer has: 0 for an empty line and for a comment.
-pub fn answer(line: &[u8], out: &mut [u8]) -> usize
+pub fn answer(line: &[u8], seat: &mut [u8], out: &mut [u8]) -> usize
     ensures { λ r. ⌜ Wrote (now (out .entry)) 0 r (now (out .exit)) ⌝ }
 {
     if line.len() == 0 {
@@ -41,7 +46,7 @@ pub fn answer(line: &[u8], out: &mut [u8]) -> usize
     if LINE <= line.len() {
         return replies::unknown(out);
     }
-    let n = ask_all(line, out);
+    let n = ask_all(line, seat, out);
     if n == 0 {
         return replies::unknown(out);
     }
@@ -50,7 +55,18 @@ pub fn answer(line: &[u8], out: &mut [u8]) -> usize
 
 // Asks the groups of questions one after another; each answers 0, and leaves the buffer as it is,
 // where the line is none of its own or is malformed.
-fn ask_all(line: &[u8], out: &mut [u8]) -> usize
+fn ask_all(line: &[u8], seat: &mut [u8], out: &mut [u8]) -> usize
+    ensures { λ r. ⌜ Wrote (now (out .entry)) 0 r (now (out .exit)) ⌝ }
+{
+    let stateless = ask_stateless(line, out);
+    if stateless != 0 {
+        return stateless;
+    }
+    receiving::answer(line, seat, out)
+}
+
+// The groups whose answer hangs on the line alone.
+fn ask_stateless(line: &[u8], out: &mut [u8]) -> usize
     ensures { λ r. ⌜ Wrote (now (out .entry)) 0 r (now (out .exit)) ⌝ }
 {
     let figure = ask_figures(line, out);

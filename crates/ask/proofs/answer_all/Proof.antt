@@ -8,10 +8,10 @@ use Rattle.ask.proofs.answer_all.Statement.{statement}
 use Rattle.ask.proofs.answer_all.Tie as tie
 
 abbrev Inv-loop : tie.InvT-loop
-Inv-loop line₀ used₀ reads₀ line used reads = (used ≤ length line) × (length line ≡ length line₀)
+Inv-loop line₀ seat₀ used₀ reads₀ line seat used reads = (used ≤ length line) × (length line ≡ length line₀) × (length seat ≡ length seat₀)
 
 abbrev μ-loop : tie.MeasureT-loop
-μ-loop line₀ used₀ reads₀ line used reads = reads
+μ-loop line₀ seat₀ used₀ reads₀ line seat used reads = reads
 
 loop-holds : tie.Need-loop-holds Inv-loop μ-loop
 loop-holds c = search needs
@@ -28,6 +28,9 @@ enum-told c = search needs
 same-length : tie.Need-same-length Inv-loop μ-loop
 same-length c = search needs
 
+same-length-2 : tie.Need-same-length-2 Inv-loop μ-loop
+same-length-2 c = search needs
+
 returns : tie.Need-returns Inv-loop μ-loop
 returns c = search needs
 
@@ -40,8 +43,11 @@ loop-less c = search needs
 loop-again : tie.Need-loop-again Inv-loop μ-loop
 loop-again c = search (ap heldOf (c .before .n .given .1), needs)
 
-same-length-2 : tie.Need-same-length-2 Inv-loop μ-loop
-same-length-2 c = search needs
+same-length-3 : tie.Need-same-length-3 Inv-loop μ-loop
+same-length-3 c = search needs
+
+same-length-4 : tie.Need-same-length-4 Inv-loop μ-loop
+same-length-4 c = search needs
 
 returns-2 : tie.Need-returns-2 Inv-loop μ-loop
 returns-2 c = search needs
@@ -57,9 +63,11 @@ answer-all-spec =
     enum-known-n
     enum-told
     same-length
+    same-length-2
     returns
     sub-reads
     loop-less
     loop-again
-    same-length-2
+    same-length-3
+    same-length-4
     returns-2)

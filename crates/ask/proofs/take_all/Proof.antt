@@ -1,4 +1,4 @@
--- `ask::take_all` meets its contract: at each turn the bytes held fit the line, which keeps its length. Assumes nothing.
+-- `ask::take_all` meets its contract: at each turn the bytes held fit the line, which keeps its length, and so does the seat. Assumes nothing.
 use Prim.Native.Nat.{_≤_, _-_}
 use mathlib.Core.Path.{_≡_, ap}
 use lib.ListN.{length}
@@ -8,10 +8,10 @@ use Rattle.ask.proofs.take_all.Statement.{statement}
 use Rattle.ask.proofs.take_all.Tie as tie
 
 abbrev Inv-loop : tie.InvT-loop
-Inv-loop chunk line₀ used n₀ i₀ line n i = (i ≤ length chunk) × (n ≤ length line) × (length line ≡ length line₀)
+Inv-loop chunk line₀ used seat₀ n₀ i₀ line seat n i = (i ≤ length chunk) × (n ≤ length line) × (length line ≡ length line₀) × (length seat ≡ length seat₀)
 
 abbrev μ-loop : tie.MeasureT-loop
-μ-loop chunk line₀ used n₀ i₀ line n i = length chunk - i
+μ-loop chunk line₀ used seat₀ n₀ i₀ line seat n i = length chunk - i
 
 loop-holds : tie.Need-loop-holds Inv-loop μ-loop
 loop-holds c = search needs
@@ -31,6 +31,9 @@ enum-told c = search needs
 same-length : tie.Need-same-length Inv-loop μ-loop
 same-length c = search needs
 
+same-length-2 : tie.Need-same-length-2 Inv-loop μ-loop
+same-length-2 c = search needs
+
 returns : tie.Need-returns Inv-loop μ-loop
 returns c = search needs
 
@@ -43,8 +46,11 @@ loop-less c = search needs
 loop-again : tie.Need-loop-again Inv-loop μ-loop
 loop-again c = search (ap heldOf (c .before .more .given .1), needs)
 
-same-length-2 : tie.Need-same-length-2 Inv-loop μ-loop
-same-length-2 c = search needs
+same-length-3 : tie.Need-same-length-3 Inv-loop μ-loop
+same-length-3 c = search needs
+
+same-length-4 : tie.Need-same-length-4 Inv-loop μ-loop
+same-length-4 c = search needs
 
 returns-2 : tie.Need-returns-2 Inv-loop μ-loop
 returns-2 c = search needs
@@ -61,9 +67,11 @@ take-all-spec =
     enum-known-more
     enum-told
     same-length
+    same-length-2
     returns
     add-i
     loop-less
     loop-again
-    same-length-2
+    same-length-3
+    same-length-4
     returns-2)

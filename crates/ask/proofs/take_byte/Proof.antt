@@ -16,11 +16,17 @@ reply-requires c κs = search needs
 same-length : tie.Need-same-length
 same-length c = search needs
 
+same-length-2 : tie.Need-same-length-2
+same-length-2 c = search needs
+
 returns : tie.Need-returns
 returns c = search needs
 
-same-length-2 : tie.Need-same-length-2
-same-length-2 c = search needs
+same-length-3 : tie.Need-same-length-3
+same-length-3 c = search needs
+
+same-length-4 : tie.Need-same-length-4
+same-length-4 c = search needs
 
 returns-2 : tie.Need-returns-2
 returns-2 c = search needs
@@ -28,11 +34,11 @@ returns-2 c = search needs
 slice-write-line : tie.Need-slice-write-line
 slice-write-line c = search needs
 
-add-t10 : tie.Need-add-t10
-add-t10 c = search needs
+add-t13 : tie.Need-add-t13
+add-t13 c = search needs
 
-same-length-3 : tie.Need-same-length-3
-same-length-3 c = search needs
+same-length-5 : tie.Need-same-length-5
+same-length-5 c = search needs
 
 returns-3 : tie.Need-returns-3
 returns-3 c = search (stored, needs)
@@ -48,11 +54,13 @@ take-byte-spec =
     slice-aggregate-reply
     reply-requires
     same-length
-    returns
     same-length-2
+    returns
+    same-length-3
+    same-length-4
     returns-2
     slice-write-line
-    add-t10
-    same-length-3
+    add-t13
+    same-length-5
     returns-3
     returns-4)

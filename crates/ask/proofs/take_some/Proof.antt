@@ -31,6 +31,9 @@ reply-requires c κs = search needs
 same-length : tie.Need-same-length
 same-length c = search needs
 
+same-length-2 : tie.Need-same-length-2
+same-length-2 c = search needs
+
 returns : tie.Need-returns
 returns c = search needs
 
@@ -43,8 +46,11 @@ slice-aggregate-take-all c = search needs
 take-all-requires : tie.Need-take-all-requires
 take-all-requires c κs = search needs
 
-same-length-2 : tie.Need-same-length-2
-same-length-2 c = search needs
+same-length-3 : tie.Need-same-length-3
+same-length-3 c = search needs
+
+same-length-4 : tie.Need-same-length-4
+same-length-4 c = search needs
 
 returns-2 : tie.Need-returns-2
 returns-2 c = search needs
@@ -62,9 +68,11 @@ take-some-spec =
     slice-aggregate-reply
     reply-requires
     same-length
+    same-length-2
     returns
     array-share-prefix-chunk
     slice-aggregate-take-all
     take-all-requires
-    same-length-2
+    same-length-3
+    same-length-4
     returns-2)

@@ -31,11 +31,17 @@ unknown-requires-2 c κs = search needs
 same-length-2 : tie.Need-same-length-2
 same-length-2 c = search needs
 
+same-length-3 : tie.Need-same-length-3
+same-length-3 c = search needs
+
 returns-4 : tie.Need-returns-4
 returns-4 c = search (next, needs)
 
-same-length-3 : tie.Need-same-length-3
-same-length-3 c = search needs
+same-length-4 : tie.Need-same-length-4
+same-length-4 c = search needs
+
+same-length-5 : tie.Need-same-length-5
+same-length-5 c = search needs
 
 returns-5 : tie.Need-returns-5
 returns-5 c = search needs
@@ -53,6 +59,8 @@ answer-spec =
     ask-all-requires
     unknown-requires-2
     same-length-2
-    returns-4
     same-length-3
+    returns-4
+    same-length-4
+    same-length-5
     returns-5)

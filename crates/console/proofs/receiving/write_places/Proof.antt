@@ -1,0 +1,42 @@
+-- `receiving::write_places` meets its contract: each place goes on where the one before stops. Assumes nothing.
+use borrow.Author.Needs.{needs}
+use Rattle.console.proofs.Writing.{chain}
+use Rattle.console.proofs.receiving.write_places.Statement.{statement}
+use Rattle.console.proofs.receiving.write_places.Tie as tie
+
+slice-aggregate-word : tie.Need-slice-aggregate-word
+slice-aggregate-word c = search needs
+
+word-requires : tie.Need-word-requires
+word-requires c κs = search needs
+
+write-seen-requires : tie.Need-write-seen-requires
+write-seen-requires c κs = search needs
+
+write-seen-requires-2 : tie.Need-write-seen-requires-2
+write-seen-requires-2 c κs = search needs
+
+write-seen-requires-3 : tie.Need-write-seen-requires-3
+write-seen-requires-3 c κs = search needs
+
+write-seen-requires-4 : tie.Need-write-seen-requires-4
+write-seen-requires-4 c κs = search needs
+
+same-length : tie.Need-same-length
+same-length c = search needs
+
+returns : tie.Need-returns
+returns c = chain (chain (chain (chain (c .before .before .before .before .before .before .before .before .before .before .before .before .before .before .before .before .before .before .word .ensures) (c .before .before .before .before .before .before .before .before .before .before .before .before .before .before .write-seen .ensures)) (c .before .before .before .before .before .before .before .before .before .before .write-seen2 .ensures)) (c .before .before .before .before .before .before .write-seen3 .ensures)) (c .before .before .write-seen4 .ensures)
+
+pub write-places-spec : {M : Type 1} → statement M
+write-places-spec =
+    tie.close
+    (tie.spec
+    slice-aggregate-word
+    word-requires
+    write-seen-requires
+    write-seen-requires-2
+    write-seen-requires-3
+    write-seen-requires-4
+    same-length
+    returns)
