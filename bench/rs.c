@@ -1,5 +1,5 @@
-/* Measures the block calls and the sender's call of libcard.a beside libfec's Reed-Solomon code on the same packet; bench/run makes
- * and runs it. */
+/* Measures the block calls, the sender's call and the receiver's of libcard.a beside libfec's Reed-Solomon code on the same packet;
+ * bench/run makes and runs it. */
 #include <fec.h>
 #include <stdint.h>
 #include <stdio.h>
@@ -26,6 +26,12 @@ enum {
     H = 16,             /* bytes of a fragment's header */
     SENT = F * (H + S), /* bytes of all fragments */
     SPLIT = 8,          /* bytes that say how they are split */
+    RECORD = 1081,      /* bytes of the receiver's record */
+    LENT = 49152,       /* those of its four places */
+    TOLD = 8,           /* those that it tells */
+    COME = F - M,       /* fragments that come where M are lost */
+    ENOUGH = 13,        /* of which so many suffice: three of F are PARITY bytes of a chunk at most */
+    LATE = 11,          /* what the receiver says of a fragment of a packet that was handed out */
     FULL = 255,         /* bytes of a word of the code before it is shortened */
     DATA = FULL - PARITY,
     JUNK = 0x55,        /* stands in a missing cell */
@@ -52,6 +58,14 @@ static int their_holes[C][PARITY];
 static uint8_t our_sent[SENT];          /* the fragments, one behind the other */
 static uint8_t our_split[SPLIT];
 static size_t our_answer;
+
+static int come[COME];                  /* the indices of the fragments that come, in their order */
+static uint8_t our_record[RECORD];      /* what the receiver is lent */
+static uint8_t our_lent[LENT];
+static uint8_t our_told[TOLD];
+static uint8_t our_packet[PACKET];
+static uint8_t waiting_record[RECORD];  /* the same when the fragment that completes the packet is still to come */
+static uint8_t waiting_lent[LENT];
 
 static void fail(const char *what)
 {
@@ -95,6 +109,18 @@ static void lose(int lost)
     memset(kept, 1, sizeof kept);
     for (int i = 0; i < lost; i++)
         kept[5 * i] = 0;
+}
+
+/* Loses M fragments, and the ones behind the ENOUGH that come first are not held either when the packet is handed out. */
+static void lose_and_wait(void)
+{
+    int n = 0;
+    lose(M);
+    for (int i = 0; i < F; i++)
+        if (kept[i])
+            come[n++] = i;
+    for (int i = ENOUGH; i < COME; i++)
+        kept[come[i]] = 0;
 }
 
 /* Marks byte q of chunk j as missing. */
@@ -183,6 +209,72 @@ static void their_fill(void)
         decode_rs_char(rs, their_words[j], their_holes[j], hole_count[j]);
 }
 
+/* Hands the receiver a datagram. */
+static void receive(const uint8_t *datagram, size_t length)
+{
+    our_answer = bailhammer_receive(0, 0, 0, our_record, RECORD, our_lent, LENT, datagram, length, our_told, TOLD, our_packet, PACKET);
+}
+
+/* The fragment that comes as number i. */
+static void receive_come(int i)
+{
+    receive(our_sent + come[i] * (H + S), H + S);
+}
+
+static void before_our_receiving(void)
+{
+    memset(our_record, 0, sizeof our_record);
+    memset(our_lent, JUNK, sizeof our_lent);
+    memset(our_told, JUNK, sizeof our_told);
+    memset(our_packet, JUNK, sizeof our_packet);
+}
+
+static void our_receive_all(void)
+{
+    for (int i = 0; i < COME; i++)
+        receive_come(i);
+}
+
+static void before_our_waiting(void)
+{
+    before_our_receiving();
+    memcpy(our_record, waiting_record, sizeof our_record);
+    memcpy(our_lent, waiting_lent, sizeof our_lent);
+}
+
+static void our_deliver(void)
+{
+    receive_come(ENOUGH - 1);
+}
+
+static void our_open(void)
+{
+    receive_come(0);
+}
+
+static void before_our_keep(void)
+{
+    before_our_receiving();
+    receive_come(0);
+}
+
+static void our_keep(void)
+{
+    receive_come(1);
+}
+
+/* An empty datagram: the record is unpacked, checked and packed again, and nothing else is done. */
+static void our_refuse(void)
+{
+    receive(our_sent, 0);
+}
+
+/* The copy of a fragment's payload to its place, alone. */
+static void our_copy(void)
+{
+    memcpy(our_lent + S, our_sent + H, S);
+}
+
 /* A call, what is to be done before each of its turns, and its turns in a round. */
 struct side {
     int times;
@@ -195,6 +287,12 @@ static const struct side their_encoding = {THEIRS, before_their_encode, their_en
 static const struct side our_sending = {OURS, before_our_send, our_send};
 static const struct side our_filling = {OURS, before_our_fill, our_fill};
 static const struct side their_filling = {THEIRS, before_their_fill, their_fill};
+static const struct side our_delivering = {OURS, before_our_waiting, our_deliver};
+static const struct side our_receiving = {OURS, before_our_receiving, our_receive_all};
+static const struct side our_opening = {OURS, before_our_receiving, our_open};
+static const struct side our_keeping = {OURS, before_our_keep, our_keep};
+static const struct side our_refusing = {OURS, before_our_keep, our_refuse};
+static const struct side our_copying = {OURS, before_our_keep, our_copy};
 
 /* ---- the comparison of the results */
 
@@ -266,10 +364,44 @@ static void compare_fill(int lost)
         fail("fill: libfec's words are not the original");
 }
 
+/* The receiver's record and places when ENOUGH - 1 fragments came. */
+static void lay_waiting(void)
+{
+    before_our_receiving();
+    for (int i = 0; i < ENOUGH - 1; i++)
+        receive_come(i);
+    memcpy(waiting_record, our_record, sizeof our_record);
+    memcpy(waiting_lent, our_lent, sizeof our_lent);
+}
+
+/* Receives the fragments sent, and fills in by libfec what is not held when the packet is handed out. */
+static void compare_receive(void)
+{
+    static const uint8_t waits[TOLD], hands_out[TOLD] = {1, PACKET >> 8, PACKET & 255, 0, F - ENOUGH};
+    lose_and_wait();
+    make_holes();
+    before_their_fill();
+    their_fill();
+    if (memcmp(their_words, words, sizeof words))
+        fail("receive: libfec's words are not the original");
+    lay_waiting();
+    if (our_answer != 0 || memcmp(our_told, waits, TOLD) || our_packet[0] != JUNK)
+        fail("receive: bailhammer does not wait for the fragment that completes the packet");
+    our_deliver();
+    if (our_answer != 0 || memcmp(our_told, hands_out, TOLD))
+        fail("receive: bailhammer does not hand the packet out");
+    if (memcmp(our_packet, packet, sizeof packet))
+        fail("receive: bailhammer's packet is not the one sent");
+    receive_come(COME - 1);
+    if (our_answer != LATE)
+        fail("receive: bailhammer takes a fragment of a packet that was handed out");
+}
+
 static void compare_all(void)
 {
     compare_encode();
     compare_send();
+    compare_receive();
     compare_fill(3);
     compare_fill(1);
 }
@@ -337,6 +469,19 @@ static void measure_fill(int lost)
     measure(what, our_filling, their_filling);
 }
 
+/* The receiver's call that hands the packet out, and all of its calls for the packet, beside libfec's filling alone. */
+static void measure_receive(void)
+{
+    lose_and_wait();
+    make_holes();
+    lay_waiting();
+    char what[64];
+    snprintf(what, sizeof what, "receive fragment %d of %d (libfec: fill %d)", ENOUGH, F, most_holes());
+    measure(what, our_delivering, their_filling);
+    snprintf(what, sizeof what, "receive %d of %d fragments (libfec: fill %d)", COME, F, most_holes());
+    measure(what, our_receiving, their_filling);
+}
+
 static void print_method(void)
 {
     struct utsname u;
@@ -352,6 +497,7 @@ static void time_all(void)
     measure_send();
     measure_fill(3);
     measure_fill(1);
+    measure_receive();
 }
 
 /* ---- the counted runs: bench/count has an emulator count their instructions */
@@ -387,6 +533,32 @@ static void count_fill(int lost, struct side s, int n)
     call_times(s, n);
 }
 
+static void count_receive(struct side s, int n)
+{
+    lay_block();
+    our_send();
+    lose_and_wait();
+    make_holes();
+    lay_waiting();
+    call_times(s, n);
+}
+
+/* What only the receiver does: a fragment that opens a place, one that is kept, an empty datagram, and beside them the payload's copy. */
+static int count_call(const char *what, int n)
+{
+    if (!strcmp(what, "open"))
+        count_receive(our_opening, n);
+    else if (!strcmp(what, "keep"))
+        count_receive(our_keeping, n);
+    else if (!strcmp(what, "refuse"))
+        count_receive(our_refusing, n);
+    else if (!strcmp(what, "copy"))
+        count_receive(our_copying, n);
+    else
+        return 0;
+    return 1;
+}
+
 /* Does n calls of the work that is named, by libcard.a or by libfec; 0 if there is no such work. */
 static int count(const char *what, int ours, int n)
 {
@@ -399,8 +571,12 @@ static int count(const char *what, int ours, int n)
         count_fill(3, filling, n);
     else if (!strcmp(what, "fill16"))
         count_fill(1, filling, n);
+    else if (!strcmp(what, "deliver"))
+        count_receive(ours ? our_delivering : their_filling, n);
+    else if (!strcmp(what, "receive"))
+        count_receive(ours ? our_receiving : their_filling, n);
     else
-        return 0;
+        return ours && count_call(what, n);
     return 1;
 }
 
@@ -426,7 +602,7 @@ int main(int argc, char **argv)
     else if (argc == 2 && !strcmp(argv[1], "compare"))
         compare_all();
     else if (argc != 5 || strcmp(argv[1], "count") || !count_words(argv + 2))
-        fail("usage: rs [compare | count encode|fragments|fill48|fill16 bailhammer|libfec 0|1|2]");
+        fail("usage: rs [compare | count encode|fragments|fill48|fill16|deliver|receive bailhammer|libfec 0|1|2 | count open|keep|refuse|copy bailhammer 0|1|2]");
     free_rs_char(rs);
     return 0;
 }

@@ -1,8 +1,9 @@
 -- The split of a buffer of fragments as bytes, and where they are told. Assumes nothing.
-use mathlib.Core.Path.{_≡_, refl, ap, ap₂, _∙_}
+use mathlib.Core.Path.{_≡_, refl, sym, ap, ap₂, _∙_}
 use mathlib.Core.Bool.{Bool, true, false, cond}
 use mathlib.Core.List.{List, [], _∷_, _++_}
-use Prim.Native.Nat.{ℕ, _+_, _/_, _%_}
+use Prim.Native.Nat.{ℕ, _+_, _/_, _%_, _<_}
+use native.Mathlib.Nat.{mod-eq-of-lt, zero-add}
 use lib.Dec.{ltb}
 use lib.ListN.{length}
 use Rattle.base.specs.Answer.{Outcome, outcome, settled}
@@ -14,16 +15,22 @@ use Rattle.sender.specs.declared.Split.{Split}
 use Rattle.sender.specs.declared.SentAll.the-variants.{Fragments}
 use Rattle.card.specs.Calls.{splitBytes, splitTold}
 
--- two bytes more in front
+-- one byte more in front, and two
+pub one-byte : (x : ℕ) {rest more : List ℕ} → x < 256 → rest ≡ more → x ∷ rest ≡ bytesOf 1 x ++ more
+unfolding bytesOf
+one-byte x {rest = rest} {more = more} b g = ap₂ (λ (a : ℕ) (l : List ℕ). a ∷ l) (sym (mod-eq-of-lt b)) g
+
 pub two-bytes : (x : ℕ) {high low : ℕ} {rest more : List ℕ} → high ≡ x / 256 % 256 → low ≡ x % 256 → rest ≡ more → high ∷ low ∷ rest ≡ bytesOf 2 x ++ more
 unfolding bytesOf
 two-bytes x {rest = rest} e f g =
     ap₂ (λ (a b : ℕ). a ∷ b ∷ rest) e f ∙ ap (λ (l : List ℕ). (x / 256 % 256) ∷ (x % 256) ∷ l) g
 
-bytesLeft : Outcome → List ℕ
+-- the bytes that a call leaves
+unfoldable pub bytesLeft : Outcome → List ℕ
 bytesLeft (outcome a bytes) = bytes
 
-chosen : (short : Bool) (written before : List ℕ) → bytesLeft (settled (first ((short, 1) ∷ [])) [] written before) ≡ cond short before written
+-- a call that only writes leaves them, where they are too few, as they were
+pub chosen : (short : Bool) (written before : List ℕ) → bytesLeft (settled (first ((short, 1) ∷ [])) [] written before) ≡ cond short before written
 unfolding bytesLeft settled first
 chosen true written before = refl
 chosen false written before = refl
@@ -32,8 +39,17 @@ put-left : (d s : List ℕ) → bytesLeft (putOf d 0 s) ≡ cond (ltb (length d)
 unfolding putOf putFault
 put-left d s = chosen (ltb (length d) (0 + length s)) (splice d 0 s) d
 
+-- bytes that were put where they have place
+pub put-where-room : (before after bytes : List ℕ) (n : ℕ) (w : Written) → length bytes ≡ n → outcome (numberOf w) after ≡ putOf before 0 bytes
+    → after ≡ cond (ltb (length before) n) before (splice before 0 bytes)
+unfolding bytesLeft
+put-where-room before after bytes n w long h =
+    ap bytesLeft h ∙ put-left before bytes
+    ∙ ap (λ (x : ℕ). cond (ltb (length before) x) before (splice before 0 bytes)) (zero-add (length bytes) ∙ long)
+
 -- the split's bytes that were put where they have place are told
 pub told : (p : Split) (before after bytes : List ℕ) (w : Written) → bytes ≡ splitBytes p → outcome (numberOf w) after ≡ putOf before 0 bytes
     → after ≡ splitTold (Fragments p) before
-unfolding bytesLeft splitTold splitBytes bytesOf
-told p before after bytes w e h = ap bytesLeft h ∙ ap (λ (l : List ℕ). bytesLeft (putOf before 0 l)) e ∙ put-left before (splitBytes p)
+unfolding splitTold splitBytes bytesOf
+told p before after bytes w e h =
+    put-where-room before after bytes 8 w (ap length e) h ∙ ap (λ (l : List ℕ). cond (ltb (length before) 8) before (splice before 0 l)) e

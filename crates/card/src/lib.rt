@@ -1,9 +1,12 @@
 // The block calls of crate code and the sender's whole packet for C: bailhammer.h declares them, and says what each number means.
+mod receiving;
+
 use base::MOST_F;
 use base::Written;
 use code::Filled;
 use cut::Address;
 use cut::Settings;
+pub use receiving::bailhammer_receive;
 use sender::SentAll;
 use sender::Split;
 ghost use mathlib.Core.Path.{_≡_};

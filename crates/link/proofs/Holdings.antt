@@ -436,10 +436,11 @@ module _ (e : Call) (es : List Call) (s : State) (good : Good s) (bytes : Bytes 
   at-opened n j a b =
       let low : openAt (s .table) < four = opens-below (s .table) (good .ranged) in
       same-or-not j (new .index)
-      (λ q.
-      (e,
-      stood-new e es s good bytes passes (openedBy new) (openAt (s .table)) low put-new (range-kept (openedBy new) new new-sound (range-opened new new-sound) (belongs-opened new)) new-fits n j
-      new-number (sym q) a))
+      (λ q. (
+        e,
+        stood-new e es s good bytes passes (openedBy new) (openAt (s .table)) low put-new (range-kept (openedBy new) new new-sound (range-opened new new-sound) (belongs-opened new)) new-fits n j
+            new-number (sym q) a,
+      ))
       (λ other. clash (sym (old-here e es s good bytes passes (openedBy new) (openAt (s .table)) low put-new j other) ∙ b) (none-kept new j))
 
 -- ---- in every reached state

@@ -1,0 +1,144 @@
+-- What the receiver's call for C tells, and the record that it leaves. Assumes nothing.
+use mathlib.Core.Path.{_≡_, refl, sym, ap, _∙_, subst}
+use mathlib.Core.Bool.{Bool, not, cond}
+use mathlib.Core.List.{List, [], _∷_, _++_, map, append-nil}
+use Prim.Native.Nat.{ℕ, zero, suc, _+_, _<_, _≤_}
+use native.Mathlib.Nat.{le-of-suc-le-suc}
+use native.Mathlib.Omega.{arith}
+use base.Fml.{Fml}
+use borrow.Author.Tests.{eqb-true, eq-eqb, le-ltb, not-false}
+use denote.Array.{each}
+use denote.Shadow.{shadow}
+use lib.Dec.{ltb, eqb}
+use lib.ListN.{length, getD, drop, drop-of-length-le}
+use mir.Val.{Val}
+use Rattle.base.specs.Answer.{Answer, granted, refused, answered, outcome}
+use Rattle.base.specs.Bytes.{bytesOf, splice}
+use Rattle.base.specs.Written.{numberOf, putOf}
+use Rattle.base.specs.declared.Written.{Written}
+use Rattle.base.specs.declared.Written.the-variants.{Done, Refused}
+use Rattle.base.proofs.Firsts.{clear}
+use Rattle.code.proofs.CallCases.{granted-by, refused-by}
+use Rattle.cut.specs.declared.Address.{Address}
+use Rattle.packed.specs.Packed.{table-bytes, packedOf, packCall, tableFrom, badRecord, unpackFault, unpackCall}
+use Rattle.packed.specs.Claims.{Typed}
+use Rattle.places.specs.declared.Displaced.{Displaced}
+use Rattle.places.specs.declared.Displaced.the-variants.{None, Number}
+use Rattle.places.specs.declared.Table.{Table}
+use Rattle.places.specs.declared.Place.{Place}
+use Rattle.places.specs.Places.{freePlace, freshTable}
+use Rattle.places.proofs.Place as a-place
+use Rattle.places.proofs.Records.{as-long}
+use Rattle.receiver.specs.Promise as promise
+use Rattle.receiver.specs.Promise.{Step}
+use Rattle.receiver.specs.declared.Received.{Received}
+use Rattle.card.specs.Receiving.{displacedBytes, toldBytes, toldIn, toldAfter, Held, CardReceived, received}
+use Rattle.card.proofs.SplitLaws.{bytesLeft, chosen, put-where-room}
+
+-- ---- what is told
+
+eight : (handed n missing : ℕ) (d : Displaced) → length (toldBytes handed n missing d) ≡ 8
+unfolding toldBytes displacedBytes bytesOf
+eight handed n missing None = refl
+eight handed n missing (Number m) = refl
+
+-- what is told of an answer, put where it has place
+pub told-in : (handed n missing : ℕ) (d : Displaced) (before after bytes : List ℕ) (w : Written) → bytes ≡ toldBytes handed n missing d
+    → outcome (numberOf w) after ≡ putOf before 0 bytes → after ≡ toldIn before (toldBytes handed n missing d)
+unfolding toldIn
+told-in handed n missing d before after bytes w e h =
+    put-where-room before after (toldBytes handed n missing d) 8 w (eight handed n missing d)
+    (h ∙ ap (λ (l : List ℕ). putOf before 0 l) e)
+
+-- ---- the record
+
+-- what each element of an array has, for an array that is a value
+pub each-has : {A D : Type 0} (to : A → D) (own : D → List Val → Fml) (P : A → Type 0) → ((x : A) (vs : List Val) → shadow (own (to x) vs) → P x)
+    → (l : List A) (us : List Val) → shadow (each D own (map to l) us) → (i : ℕ) (d : A) → i < length l → P (getD l i d)
+each-has to own P h [] us s i d b = absurd (omega arith)
+each-has to own P h (x ∷ l) [] s i d b = absurd s
+each-has to own P h (x ∷ l) (u ∷ us) s zero d b = h x (u ∷ []) (s .0)
+each-has to own P h (x ∷ l) (u ∷ us) s (suc i) d b = each-has to own P h l us (s .1) i d (le-of-suc-le-suc b)
+
+-- so do the places of a record
+pub typed-place : (l : List Place) (us : List Val)
+    → shadow (each (a-place.the-field .row .Denot) (a-place.the-field .row .own) (map (a-place.the-type .to) l) us) → (i : ℕ) → i < length l
+    → Typed (getD l i freePlace)
+typed-place l us s i b =
+    each-has (a-place.the-type .to) (a-place.the-field .row .own) Typed
+    (λ p vs own.
+    let fields = own .1 .1 in
+    record {
+      condition = omega (arith, fields .0);
+      number = omega (arith, fields .1 .0);
+      count = omega (arith, fields .1 .1 .0);
+      rsk = omega (arith, fields .1 .1 .1 .1 .0);
+      rsz = omega (arith, fields .1 .1 .1 .1 .1 .0);
+      size = omega (arith, fields .1 .1 .1 .1 .1 .1 .0);
+      last = omega (arith, fields .1 .1 .1 .1 .1 .1 .1 .0);
+      kept = as-long (p .kept) _ (fields .1 .1 .1 .1 .1 .1 .1 .1 .0 .1 .0 .1);
+    })
+    l
+    us
+    s
+    i
+    freePlace
+    b
+
+-- bytes that are as many as all
+whole : (d s : List ℕ) → length s ≡ length d → splice d 0 s ≡ s
+unfolding splice
+whole d s e = ap (λ (l : List ℕ). s ++ l) (drop-of-length-le d {i = 0 + length s} (omega arith)) ∙ append-nil s
+
+-- what is unpacked has the length of a record,
+long-record : (s : List ℕ) → unpackFault s ≡ 0 → length s ≡ table-bytes
+unfolding unpackFault
+long-record s none =
+    eqb-true (length s) table-bytes
+    (not-false (eqb (length s) table-bytes) (clear (not (eqb (length s) table-bytes)) 1 ((badRecord s, 14) ∷ []) (λ (e : 1 ≡ 0). omega arith) none))
+
+-- and what is packed there is all of it
+packed-there : (t : Table) (s y : List ℕ) (w : Written) → length (packedOf t) ≡ table-bytes → length s ≡ table-bytes
+    → outcome (numberOf w) y ≡ packCall t s → y ≡ packedOf t
+unfolding packCall bytesLeft
+packed-there t s y w long as-long e =
+    ap bytesLeft e
+    ∙ chosen (ltb (length s) table-bytes) (splice s 0 (packedOf t)) s
+    ∙ ap (λ (b : Bool). cond b s (splice s 0 (packedOf t))) (le-ltb (length s) table-bytes (omega arith))
+    ∙ whole s (packedOf t) (long ∙ sym as-long)
+
+-- ---- the two ends of the call
+
+module _ (s : List ℕ) (w : Written) (t : Table) (e : (numberOf w, t) ≡ unpackCall s) where
+  answer-is : numberOf w ≡ answered (unpackFault s) []
+  unfolding unpackCall
+  answer-is = ap (λ (x : Answer × Table). x .0) e
+
+  pub refused-record : (n : ℕ) → w ≡ Refused n → (n ≡ unpackFault s) × (unpackFault s ≡ 0 → ⊥)
+  unfolding numberOf
+  refused-record n is =
+      let due = refused-by n (unpackFault s) [] (sym (ap numberOf is) ∙ answer-is) in
+      (due .0, λ (z : unpackFault s ≡ 0). omega (arith, due .0, due .1))
+
+  pub good-record : w ≡ Done → (unpackFault s ≡ 0) × (t ≡ tableFrom s)
+  unfolding numberOf unpackCall
+  good-record is =
+      let none : unpackFault s ≡ 0 = sym (granted-by (unpackFault s) [] [] (sym (ap numberOf is) ∙ answer-is) .0) in
+      let there : t ≡ cond (eqb (unpackFault s) 0) (tableFrom s) freshTable = ap (λ (x : Answer × Table). x .1) e in
+      (none, there ∙ ap (λ (b : Bool). cond b (tableFrom s) freshTable) (eq-eqb (unpackFault s) 0 none))
+
+module _ (own o : Address) (datagram : List ℕ) (before after : Held) (r : ℕ) where
+  pub received-there : (w v : Written) (x t : Table) (a : Received) → (numberOf w, x) ≡ unpackCall (before .record-bytes) → w ≡ Done → o ≡ own
+      → Step o (record { table = x; bytes = before .lent }) datagram (before .out) (promise.outcome a t (after .lent) (after .out))
+      → length (packedOf t) ≡ table-bytes → outcome (numberOf v) (after .record-bytes) ≡ packCall t (before .record-bytes)
+      → (r ≡ promise.numberOf a .0) × (after .told ≡ toldAfter a (before .told)) → CardReceived own datagram before after r
+  received-there w v x t a e done is-own step long packed said =
+      let good = good-record (before .record-bytes) w x e done in
+      let y : promise.Outcome = promise.outcome a t (after .lent) (after .out) in
+      let stepped : Step own (record { table = tableFrom (before .record-bytes); bytes = before .lent }) datagram (before .out) y =
+      subst (λ (z : Table). Step own (record { table = z; bytes = before .lent }) datagram (before .out) y) (good .1)
+      (subst (λ (z : Address). Step z (record { table = x; bytes = before .lent }) datagram (before .out) y) is-own step) in
+      received a t (good .0) stepped
+      (packed-there t (before .record-bytes) (after .record-bytes) v long (long-record (before .record-bytes) (good .0)) packed)
+      (said .1)
+      (said .0)

@@ -1,0 +1,107 @@
+-- `bailhammer_receive` meets its contract. Assumes nothing.
+
+use mathlib.Core.Path.{_≡_, refl}
+use Prim.Native.Nat.{_<_}
+use native.Mathlib.Omega.{arith}
+use lib.ListN.{length}
+use Rattle.packed.specs.Claims.{TypedTable}
+use Rattle.packed.proofs.Proved.{packed-length}
+use Rattle.places.specs.Places.{four, placeAt}
+use Rattle.places.proofs.Records.{as-long}
+use Rattle.card.specs.Calls.{addressOf}
+use Rattle.card.specs.Receiving.{CardReceived, no-record}
+use Rattle.card.proofs.ReceiveLaws.{refused-record, received-there, typed-place}
+use borrow.Author.Needs.{needs}
+use Rattle.card.proofs.receiving.bailhammer_receive.Statement.{statement}
+use Rattle.card.proofs.receiving.bailhammer_receive.Tie as tie
+
+unpack-requires : tie.Need-unpack-requires
+unpack-requires c κs = search needs
+
+enum-known-fault : tie.Need-enum-known-fault
+enum-known-fault c = search needs
+
+cast-result : tie.Need-cast-result
+cast-result c = search needs
+
+enum-told : tie.Need-enum-told
+enum-told c = search needs
+
+address-of-requires : tie.Need-address-of-requires
+address-of-requires c κs = search needs
+
+receive-requires : tie.Need-receive-requires
+receive-requires c κs = search needs
+
+pack-requires : tie.Need-pack-requires
+pack-requires c κs = search needs
+
+tell-requires : tie.Need-tell-requires
+tell-requires c κs = search needs
+
+same-length : tie.Need-same-length
+same-length c = search needs
+
+returns : tie.Need-returns
+returns c =
+    let known = c .before .fault .given in
+    let start = c .before .before .before .before .before .before .before .before .before .before in
+    let opened = c .before .before .before in
+    let due = refused-record (start .args .table .now) (opened .unpack .result .answer) (opened .unpack .result .table) (opened .unpack .ensures) _ (known .1) in
+    no-record (due .1) (due .0) refl
+
+same-length-2 : tie.Need-same-length-2
+same-length-2 c = search needs
+
+same-length-3 : tie.Need-same-length-3
+same-length-3 c = search needs
+
+same-length-4 : tie.Need-same-length-4
+same-length-4 c = search needs
+
+same-length-5 : tie.Need-same-length-5
+same-length-5 c = search needs
+
+returns-2 : tie.Need-returns-2
+unfolding placeAt
+returns-2 c =
+    let said = c .before .before in
+    let packed = said .before .before .before .before in
+    let got = packed .before .before .before .before .before .before in
+    let addressed = got .before .before .before in
+    let told = addressed .before in
+    let opened = told .before .before in
+    let start = told .before .before .before .before .before .before .before .before .before in
+    let a = start .args in
+    let t = got .receive .result .table in
+    let ok = got .receive .ok .1 .1 .0 .1 .1 in
+    let size : length (t .places) ≡ four = as-long (t .places) _ (ok .0 .1 .0 .1) in
+    let typed : TypedTable t = record {
+      places = size;
+      each = λ i (b : i < four). typed-place (t .places) _ (ok .0 .1 .1) i (omega arith);
+      oldest = omega (arith, ok .1 .0);
+    } in
+    received-there (addressOf (a .addressed) (a .source) (a .dest)) (addressed .address-of .result) (a .datagram .now) _ _ (said .tell .result)
+    (opened .unpack .result .answer) (packed .pack .result) (opened .unpack .result .table) (got .receive .result .table) (got .receive .result .answer)
+    (opened .unpack .ensures) (told .enum-told .given .1) (addressed .address-of .ensures) (got .receive .ensures)
+    (packed-length (got .receive .result .table) typed) (packed .pack .ensures) (said .tell .ensures)
+
+pub bailhammer-receive-spec : {M : Type 1} → statement M
+bailhammer-receive-spec =
+    tie.close
+    (tie.spec
+    unpack-requires
+    enum-known-fault
+    cast-result
+    enum-told
+    address-of-requires
+    receive-requires
+    pack-requires
+    tell-requires
+    same-length
+    returns
+    same-length-2
+    same-length-3
+    same-length-4
+    same-length-5
+    returns-2)
