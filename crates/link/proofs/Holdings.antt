@@ -5,10 +5,10 @@ use mathlib.Core.List.{List, [], _∷_}
 use Prim.Native.Nat.{ℕ, _+_, _-_, _*_, _≤_, _<_}
 use native.Mathlib.Nat.{mul-le-mul-right}
 use native.Mathlib.Omega.{arith}
-use borrow.Author.Tests.{eqb-true, leb-true, eq-eqb, ltb-true, ltb-false, not-false}
-use lib.Dec.{ltb, leb, eqb}
+use borrow.Author.Tests.{leb-true, eq-eqb, not-false}
+use lib.Dec.{leb, eqb}
 use lib.ListN.{length, getD, take, drop, set, replicate, length-replicate, getD-replicate, List·getD-eq-default}
-use lib.Seq.{getD-set-same, getD-set-other, drop-drop}
+use lib.Seq.{getD-set-other, drop-drop}
 use Rattle.base.specs.Bounds.{most-f, place}
 use Rattle.base.specs.Bytes.{Bytes, splice}
 use Rattle.base.proofs.Firsts.{clear, clear-rest}
@@ -22,19 +22,19 @@ use Rattle.places.specs.declared.Place.{Place}
 use Rattle.places.specs.declared.Table.{Table}
 use Rattle.places.specs.declared.Displaced.{Displaced}
 use Rattle.places.specs.declared.Displaced.the-variants.{None}
-use Rattle.places.specs.Places.{four, free, delivered, spoiled, freshTable, placeAt, withPlace, keyOf, holds, heldAt, openAt, displacedAt, turned, openedBy, isLast, offsetOf, keptIn, inCondition}
-use Rattle.places.specs.Faults.{badPlace, badSizeIn, mismatch, placeFault}
+use Rattle.places.specs.Places.{four, free, delivered, spoiled, placeAt, keyOf, holds, heldAt, openAt, turned, openedBy, isLast, offsetOf, keptIn, inCondition}
+use Rattle.places.specs.Faults.{badSizeIn, mismatch, placeFault}
 use Rattle.places.proofs.Checks as checks
 use Rattle.places.proofs.Ranges.{InRange, Belongs, range-from, belongs, belongs-opened, range-kept, range-opened}
 use Rattle.places.proofs.Records.{offset-last, offset-other}
-use Rattle.receiver.specs.Promise.{Outcome, outcome, State, all-places, payloadOf, bytesAt, keepAt, Settled, SettledAfter}
+use Rattle.receiver.specs.Promise.{Outcome, outcome, State, payloadOf, bytesAt, keepAt, SettledAfter}
 use Rattle.receiver.proofs.Ranges.{place-fine, opens-below, written-place}
 use Rattle.receiver.proofs.Offsets.{offset-fits}
-use Rattle.link.specs.Run.{Call, after, Made, Run, start, next, freshWith, Reached, heard, numberIn, indexIn}
-use Rattle.link.specs.Reached.{partIn, HeldSince, just-now, before, Came, HeldCame, Stays, displaced, stays, StaysKept}
+use Rattle.link.specs.Run.{Call, after, Made, Run, start, next, Reached, heard, numberIn, indexIn}
+use Rattle.link.specs.Reached.{partIn, HeldSince, just-now, before, HeldCame, Stays, displaced, stays, StaysKept}
 use Rattle.link.proofs.Basic.{same-or-not, less-or-not, spared-before, spared-behind, held-found, holds-number, holds-some, holds-yes}
 use Rattle.link.proofs.View.{Good, View, unheard, refuses, keeps, opens}
-use Rattle.link.proofs.Frame.{leftBy, Closed, settled-place, settled-bytes, payload-long, Wrote, wrote-held, wrote-opened, Spared, wrote-spares, see, good-run, good-fresh, good-reached}
+use Rattle.link.proofs.Frame.{settled-place, settled-bytes, payload-long, Wrote, wrote-held, wrote-opened, Spared, wrote-spares, see, good-run, good-fresh, good-reached}
 use Rattle.link.proofs.Ring.{none-held}
 
 -- ---- a fragment that a place keeps has the place's figures
