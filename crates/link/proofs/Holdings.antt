@@ -25,7 +25,7 @@ use Rattle.places.specs.declared.Displaced.the-variants.{None}
 use Rattle.places.specs.Places.{four, free, delivered, spoiled, placeAt, keyOf, holds, heldAt, openAt, turned, openedBy, isLast, offsetOf, keptIn, inCondition}
 use Rattle.places.specs.Faults.{badSizeIn, mismatch, placeFault}
 use Rattle.places.proofs.Checks as checks
-use Rattle.places.proofs.Ranges.{InRange, Belongs, range-from, belongs, belongs-opened, range-kept, range-opened}
+use Rattle.places.proofs.Ranges.{InRange, Belongs, range-from, matched, size-fits, belongs, belongs-opened, range-kept, range-opened}
 use Rattle.places.proofs.Records.{offset-last, offset-other}
 use Rattle.receiver.specs.Promise.{Outcome, outcome, State, payloadOf, bytesAt, keepAt, SettledAfter}
 use Rattle.receiver.proofs.Ranges.{place-fine, opens-below, written-place}
@@ -54,10 +54,6 @@ beq-equal false false e = refl
 
 -- what a place that does not refuse a fragment tells of it
 module _ (p : Place) (h : Header) (passes : placeFault p h ≡ 0) where
-  matched : mismatch p h ≡ false
-  unfolding placeFault
-  matched = clear (mismatch p h) 9 _ (λ z. omega arith) passes
-
   is-new : getD (p .kept) (h .index) false ≡ false
   unfolding placeFault
   is-new =
@@ -67,14 +63,10 @@ module _ (p : Place) (h : Header) (passes : placeFault p h ≡ 0) where
 
   same-fec : p .fec ≡ h .fec
   unfolding mismatch
-  same-fec = beq-equal _ _ (not-false _ (or-left (not (Bool·beq (p .fec) (h .fec))) _ (or-right (not (eqb (p .count) (h .count))) _ matched)))
+  same-fec = beq-equal _ _ (not-false _ (or-left (not (Bool·beq (p .fec) (h .fec))) _ (or-right (not (eqb (p .count) (h .count))) _ (matched p h passes))))
 
   right-size : badSizeIn p h ≡ false
-  unfolding mismatch
-  right-size =
-      or-right (not (eqb (p .rsz) (h .rsz))) _
-      (or-right (not (eqb (p .rsk) (h .rsk))) _
-      (or-right (not (Bool·beq (p .fec) (h .fec))) _ (or-right (not (eqb (p .count) (h .count))) _ matched)))
+  right-size = size-fits p h (matched p h passes)
 
   -- a size that is known is that of each fragment before the last
   same-size : isLast h ≡ false → (p .size ≡ 0 → ⊥) → p .size ≡ h .plen

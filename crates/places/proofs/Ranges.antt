@@ -115,7 +115,7 @@ size-told false false size plen last never e =
     ((λ f some. clash f refl), (λ f. ((λ g. clash g refl), (λ g. ltb-false plen last (or-right (not (eqb size 0) && not (eqb size plen)) _ e)))))
 
 module _ (p : Place) (h : Header) where
-  matched : placeFault p h ≡ 0 → mismatch p h ≡ false
+  pub matched : placeFault p h ≡ 0 → mismatch p h ≡ false
   unfolding placeFault
   matched e = clear (mismatch p h) 9 _ (λ z. omega arith) e
 
@@ -123,7 +123,7 @@ module _ (p : Place) (h : Header) where
   unfolding mismatch
   same-count e = eqb-true (p .count) (h .count) (not-false (eqb (p .count) (h .count)) (or-left (not (eqb (p .count) (h .count))) _ e))
 
-  size-fits : mismatch p h ≡ false → badSizeIn p h ≡ false
+  pub size-fits : mismatch p h ≡ false → badSizeIn p h ≡ false
   unfolding mismatch
   size-fits e =
       or-right (not (eqb (p .rsz) (h .rsz))) _
