@@ -77,7 +77,7 @@ returns-2 c =
     let known = said .before .before .before .before .before .a2 .given in
     let before = said .before .before .before .before .before .before .before .before .args .told .now in (
       sym (ap number (known .1)),
-      told-in 1 _ _ _ before _ _ (said .put2 .result) (said .before .before .told-bytes2 .ensures) (said .put2 .ensures) ∙ sym (ap (λ (x : Received). toldAfter x before) (known .1)),
+      told-in 1 (known .0 .0) (known .0 .1 .0) _ before _ _ (said .put2 .result) (said .before .before .told-bytes2 .ensures) (said .put2 .ensures) ∙ sym (ap (λ (x : Received). toldAfter x before) (known .1)),
     )
 
 same-length-3 : tie.Need-same-length-3
