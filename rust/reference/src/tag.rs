@@ -1,0 +1,149 @@
+//! Clause 5: TAG items, packets of items, and containers.
+
+use std::collections::HashSet;
+
+use crate::{big_endian, number, refuse, Answer};
+
+pub type Name = [u8; 4];
+
+/// Filler; the only name that may occur again on a level (document 01, "TAG layer").
+pub const DUMMY: Name = *b"*dmy";
+/// Protocol type and revision, exactly 64 bits.
+pub const POINTER: Name = *b"*ptr";
+const POINTER_BITS: u32 = 64;
+/// Name and length of an item; what remains below that is padding.
+const HEAD: usize = 8;
+/// The deepest level on which an item may stand.
+const DEEPEST: usize = 4;
+/// The most container names.
+const MOST_CONTAINERS: usize = 8;
+
+/// An item, its value shown as a part of the packet.
+#[derive(Clone, Copy, Debug, PartialEq)]
+pub struct Item<'a> {
+    pub name: Name,
+    pub bits: u32,
+    pub value: &'a [u8],
+}
+
+/// An item of a nested walk, with the level it stands on.
+#[derive(Clone, Copy, Debug, PartialEq)]
+pub struct Walked {
+    pub depth: usize,
+    pub name: Name,
+    pub bits: u32,
+}
+
+/// The bytes of a value of so many bits.
+pub fn bytes_of(bits: u32) -> usize {
+    bits.div_ceil(8) as usize
+}
+
+/// The first item of what is left of a packet, and what is left behind it; nothing where 7 or
+/// fewer bytes remain. An item that passes the end is 30.
+fn next(rest: &[u8]) -> Answer<Option<(Item<'_>, &[u8])>> {
+    if rest.len() < HEAD {
+        return Ok(None);
+    }
+    let (head, behind) = rest.split_at(HEAD);
+    let bits = big_endian(&head[4..]);
+    let length = bytes_of(bits);
+    refuse(length > behind.len(), number::OVERRUN)?;
+    let (value, left) = behind.split_at(length);
+    let name = [head[0], head[1], head[2], head[3]];
+    Ok(Some((Item { name, bits, value }, left)))
+}
+
+/// What an item may be refused for behind 30 on every level: 31, 33. `before` are the names that
+/// have stood on its level.
+fn check_item(item: &Item, before: &mut HashSet<Name>) -> Answer<()> {
+    let new = before.insert(item.name);
+    refuse(!new && item.name != DUMMY, number::TWICE)?;
+    refuse(item.name == POINTER && item.bits != POINTER_BITS, number::PTR)
+}
+
+/// All items of a packet, and the count of its padding bytes; the leftmost item at fault decides.
+pub fn items(packet: &[u8]) -> Answer<(Vec<Item<'_>>, usize)> {
+    let mut items = Vec::new();
+    let mut names = HashSet::new();
+    let mut rest = packet;
+    while let Some((item, left)) = next(rest)? {
+        check_item(&item, &mut names)?;
+        items.push(item);
+        rest = left;
+    }
+    Ok((items, rest.len()))
+}
+
+/// The item of that name in the packet, else in the standing packet. Both are checked whole first,
+/// the packet before the standing one; a name in neither is 34.
+pub fn find<'a>(name: Name, packet: &'a [u8], standing: &'a [u8]) -> Answer<Item<'a>> {
+    let (first, _) = items(packet)?;
+    let (second, _) = items(standing)?;
+    let mut all = first.into_iter().chain(second);
+    all.find(|item| item.name == name).ok_or(number::ABSENT)
+}
+
+/// The names in a list of containers, four bytes a name; over 8 of them or bytes left over are 43.
+fn containers(list: &[u8]) -> Answer<HashSet<Name>> {
+    let names = list.chunks_exact(4);
+    let left_over = !names.remainder().is_empty();
+    refuse(left_over || names.len() > MOST_CONTAINERS, number::BITS)?;
+    Ok(names.map(|name| [name[0], name[1], name[2], name[3]]).collect())
+}
+
+/// All items of a packet and, behind each container, those of its value; and the count of padding
+/// bytes of the outer packet.
+pub fn walk(list: &[u8], packet: &[u8]) -> Answer<(Vec<Walked>, usize)> {
+    let mut walk = Walk { containers: containers(list)?, walked: Vec::new() };
+    let padding = walk.packet(packet, 0)?;
+    Ok((walk.walked, padding))
+}
+
+/// A walk on its way: the container names, and the items handed out so far.
+struct Walk {
+    containers: HashSet<Name>,
+    walked: Vec<Walked>,
+}
+
+impl Walk {
+    /// Walks the items of a packet on one level, and gives the count of its padding bytes.
+    fn packet(&mut self, packet: &[u8], depth: usize) -> Answer<usize> {
+        let mut names = HashSet::new();
+        let mut rest = packet;
+        while let Some((item, left)) = next(rest)? {
+            check_item(&item, &mut names)?;
+            self.item(&item, depth)?;
+            rest = left;
+        }
+        Ok(rest.len())
+    }
+
+    /// Hands out an item and walks the value of a container; refusals behind 33: 35, 32.
+    fn item(&mut self, item: &Item, depth: usize) -> Answer<()> {
+        let contains = self.containers.contains(&item.name);
+        refuse(contains && item.bits % 8 != 0, number::WHOLE)?;
+        refuse(depth > DEEPEST, number::DEPTH)?;
+        self.walked.push(Walked { depth, name: item.name, bits: item.bits });
+        if contains {
+            self.packet(item.value, depth + 1)?;
+        }
+        Ok(())
+    }
+}
+
+/// Writes an item into the first bytes of `out`, unused low bits as zeros, and gives its length.
+/// Refusals: 43, 33, ROOM.
+pub fn write(name: Name, bits: u32, value: &[u8], out: &mut [u8]) -> Answer<usize> {
+    refuse(value.len() != bytes_of(bits), number::BITS)?;
+    refuse(name == POINTER && bits != POINTER_BITS, number::PTR)?;
+    let length = HEAD + value.len();
+    refuse(out.len() < length, number::ROOM)?;
+    out[..4].copy_from_slice(&name);
+    out[4..HEAD].copy_from_slice(&bits.to_be_bytes());
+    out[HEAD..length].copy_from_slice(value);
+    if bits % 8 != 0 {
+        out[length - 1] &= 0xFF << (8 - bits % 8);
+    }
+    Ok(length)
+}
