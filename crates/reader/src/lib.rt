@@ -1,0 +1,54 @@
+// A reader over one TAG packet, as a struct. The borrow checker covers no function over a struct that holds a slice, so each of these is thin: the
+// work is done by calls on the slice and the numbers, and `first` is for callers that hold no such struct.
+use item::Step;
+use tag::Opened;
+ghost use mathlib.Core.Path.{_≡_};
+ghost use Rattle.tag.specs.Find.{checkOf};
+ghost use Rattle.tag.specs.Calls.{readOf};
+ghost use Rattle.reader.specs.Steps.{openedOn, stepOf, movedOf};
+
+// The packet, where the reader stands in it, and the number with which opening refused it, 0 for none.
+pub struct Reader<'a> {
+    pub packet: &'a [u8],
+    pub at: usize,
+    pub refusal: u8,
+}
+
+// What a reader keeps of its opening.
+fn refusal_of(packet: &[u8]) -> u8
+    ensures { λ r. ⌜ r ≡ checkOf (now (packet .entry)) ⌝ }
+{
+    let opened = tag::open_reader(packet);
+    match opened {
+        Opened::At(_) => 0,
+        Opened::Refused(n) => n,
+    }
+}
+
+// Opens a reader: the whole packet is checked before the first item is handed out.
+pub fn open<'a>(packet: &'a [u8]) -> Reader<'a>
+    ensures { λ r. ⌜ r ≡ openedOn (packet .entry) ⌝ }
+{
+    Reader { packet, at: 0, refusal: refusal_of(packet) }
+}
+
+// What the reader hands out where it stands: an item, the end with the count of padding bytes, or the refusal.
+pub fn step<'a>(r: Reader<'a>) -> Step
+    ensures { λ s. ⌜ s ≡ stepOf (r .entry) ⌝ }
+{
+    tag::read_at(r.packet, r.at, r.refusal)
+}
+
+// The reader behind what it handed out; at the end, or refused, it stays.
+pub fn moved<'a>(r: Reader<'a>) -> Reader<'a>
+    ensures { λ q. ⌜ q ≡ movedOf (r .entry) ⌝ }
+{
+    Reader { packet: r.packet, at: tag::read_after(r.packet, r.at, r.refusal), refusal: r.refusal }
+}
+
+// What a reader just opened on the packet hands out.
+pub fn first(packet: &[u8]) -> Step
+    ensures { λ s. ⌜ s ≡ readOf (now (packet .entry)) 0 (checkOf (now (packet .entry))) ⌝ }
+{
+    step(open(packet))
+}
