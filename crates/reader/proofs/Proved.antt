@@ -2,11 +2,10 @@
 use Prim.Native.Nat.{ℕ, zero, suc}
 use mathlib.Core.List.{List, _∷_}
 use mathlib.Core.Path.{_≡_, refl, sym, ap, _∙_}
-use denote.Ref.{RefT, now}
+use denote.Ref.{now}
 use Rattle.item.specs.declared.Step.{Step}
 use Rattle.item.specs.declared.Step.the-variants as step
 use Rattle.tag.specs.Find.{checkOf}
-use Rattle.tag.specs.Calls.{afterOf}
 use Rattle.tag.specs.Reading.{handed}
 use Rattle.tag.proofs.Reading.{after-is}
 use Rattle.tag.proofs.Proved.{in-order as numbers-in-order}

@@ -29,7 +29,11 @@ fn refusal_of(packet: &[u8]) -> u8
 pub fn open<'a>(packet: &'a [u8]) -> Reader<'a>
     ensures { λ r. ⌜ r ≡ openedOn (packet .entry) ⌝ }
 {
-    Reader { packet, at: 0, refusal: refusal_of(packet) }
+    Reader {
+        packet,
+        at: 0,
+        refusal: refusal_of(packet),
+    }
 }
 
 // What the reader hands out where it stands: an item, the end with the count of padding bytes, or the refusal.
@@ -43,7 +47,11 @@ pub fn step<'a>(r: Reader<'a>) -> Step
 pub fn moved<'a>(r: Reader<'a>) -> Reader<'a>
     ensures { λ q. ⌜ q ≡ movedOf (r .entry) ⌝ }
 {
-    Reader { packet: r.packet, at: tag::read_after(r.packet, r.at, r.refusal), refusal: r.refusal }
+    Reader {
+        packet: r.packet,
+        at: tag::read_after(r.packet, r.at, r.refusal),
+        refusal: r.refusal,
+    }
 }
 
 // What a reader just opened on the packet hands out.

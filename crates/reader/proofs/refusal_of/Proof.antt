@@ -5,9 +5,6 @@ use Rattle.tag.specs.Reading.{refusalOf}
 use Rattle.tag.proofs.Proved.{opens}
 use Rattle.reader.proofs.refusal_of.Statement.{statement}
 use Rattle.reader.proofs.refusal_of.Tie as tie
-use Rattle.reader.proofs.refusal_of.Reads as reads
-use Rattle.reader.proofs.refusal_of.Lts as lts
-use Rattle.tag.proofs.open_reader.Reads as open-reader-reads
 
 open-reader-requires : tie.Need-open-reader-requires
 open-reader-requires c κs = search needs
