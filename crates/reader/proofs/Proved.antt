@@ -5,13 +5,13 @@ use mathlib.Core.Path.{_≡_, refl, sym, ap, _∙_}
 use denote.Ref.{now}
 use Rattle.item.specs.declared.Step.{Step}
 use Rattle.item.specs.declared.Step.the-variants as step
-use Rattle.tag.specs.Find.{checkOf}
+use Rattle.tag.specs.Calls.{afterOf}
 use Rattle.tag.specs.Reading.{handed}
-use Rattle.tag.proofs.Reading.{after-is}
+use Rattle.tag.proofs.Reading.{after-is, refused-after}
 use Rattle.tag.proofs.Proved.{in-order as numbers-in-order}
 use Rattle.reader.specs.declared.Reader.{Reader}
-use Rattle.reader.specs.Steps.{stepOf, movedOf, handedBy, movedBy}
-use Rattle.reader.specs.Claims.{InOrder, StaysAtEnd}
+use Rattle.reader.specs.Steps.{openedOn, stepOf, movedOf, handedBy, movedBy}
+use Rattle.reader.specs.Claims.{InOrder, StaysAtEnd, StaysRefused}
 
 -- the struct hands out what its packet and its two numbers do
 as-numbers : (n : ℕ) (r : Reader) → handedBy n r ≡ handed n (now (r .packet)) (r .at) (r .refusal)
@@ -20,15 +20,16 @@ as-numbers zero r = refl
 as-numbers (suc n) r = ap (λ (t : List Step). stepOf r ∷ t) (as-numbers n (movedOf r))
 
 pub in-order : InOrder
-in-order p n = as-numbers n (record { packet = p; at = 0; refusal = checkOf (now p) }) ∙ numbers-in-order (now p) n
+in-order p n = as-numbers n (openedOn p) ∙ numbers-in-order (now p) n
 
--- a reader that does not move stays for ever
-stays : (r : Reader) → movedOf r ≡ r → (n : ℕ) → movedBy n r ≡ r
+-- a reader whose position does not move stays for ever
+stays : (r : Reader) → afterOf (now (r .packet)) (r .at) (r .refusal) ≡ r .at → (n : ℕ) → movedBy n r ≡ r
 unfolding movedBy
 stays r still zero = refl
-stays r still (suc n) = ap (movedBy n) still ∙ stays r still n
+stays r still (suc n) = ap (λ (at : ℕ). movedBy n (record { packet = r .packet; at = at; refusal = r .refusal })) still ∙ stays r still n
 
 pub stays-at-end : StaysAtEnd
-stays-at-end r b e =
-    let same = sym (after-is (now (r .packet)) (r .at) (r .refusal) (step.End b) e) in
-    stays r (ap (λ (at : ℕ). record { packet = r .packet; at = at; refusal = r .refusal }) same)
+stays-at-end r b e = stays r (sym (after-is (now (r .packet)) (r .at) (r .refusal) (step.End b) e))
+
+pub stays-refused : StaysRefused
+stays-refused r refused = stays r (refused-after (now (r .packet)) (r .at) (r .refusal) refused)

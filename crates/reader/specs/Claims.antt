@@ -18,3 +18,7 @@ InOrder = (p : RefT (List ℕ)) (n : ℕ) → handedBy n (openedOn p) ≡ take n
 -- "and the reader stays there": no field of it changes
 abbrev pub StaysAtEnd : Type 0
 StaysAtEnd = (r : Reader) (b : Bytes) → stepOf r ≡ step.End b → (n : ℕ) → movedBy n r ≡ r
+
+-- so it does where its packet is refused
+abbrev pub StaysRefused : Type 0
+StaysRefused = (r : Reader) → (r .refusal ≡ 0 → ⊥) → (n : ℕ) → movedBy n r ≡ r
