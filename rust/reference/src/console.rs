@@ -3,7 +3,7 @@
 use crate::code::{Filling, MOST_DATA, PARITY};
 use crate::plan::{Address, Settings};
 use crate::receiver::{Condition, Kept, Received, Table};
-use crate::tag::Name;
+use crate::tag::{Name, Walked};
 use crate::{af, code, crc, field, listing, number, plan, sender, tag, Answer};
 
 /// The most bytes of a word in hex, and the most room that can be lent.
@@ -148,7 +148,7 @@ fn on_tag(words: &[&str]) -> Option<Answer<String>> {
         ["items", packet] => Some(show_items(&bytes(packet)?)),
         ["find", name, packet, standing] => {
             let (packet, standing) = (bytes(packet)?, bytes(standing)?);
-            let found = tag::find(tag_name(name)?, &packet, &standing);
+            let found = tag::find(tag_name(name)?, &packet, &standing).map(|found| found.item);
             Some(found.map(|item| format!("found {} {}", item.bits, hex(item.value))))
         }
         ["walk", names, packet] => Some(show_walk(&bytes(names)?, &bytes(packet)?)),
@@ -291,8 +291,8 @@ fn show_items(packet: &[u8]) -> Answer<String> {
 fn show_walk(names: &[u8], packet: &[u8]) -> Answer<String> {
     let (items, padding) = tag::walk(names, packet)?;
     let mut text = "walk ".to_string();
-    for item in items {
-        text += &format!("{}:{}:{} ", item.depth, hex(&item.name), item.bits);
+    for Walked { depth, item } in items {
+        text += &format!("{depth}:{}:{} ", hex(&item.name), item.bits);
     }
     Ok(text + &format!("end {padding}"))
 }

@@ -5,6 +5,7 @@
 //! the other side of a comparison, so it shares no code and no table with the card.
 
 pub mod af;
+pub mod block;
 pub mod code;
 pub mod console;
 pub mod crc;

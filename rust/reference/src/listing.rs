@@ -16,9 +16,9 @@ fn lines(input: &[u8]) -> Answer<String> {
     let header = af::check(input)?;
     let (items, padding) = tag::walk(CONTAINER, af::payload(input))?;
     let mut text = format!("af {} 1.{} {}\n", header.seq, header.minor, header.len);
-    for item in items {
-        let name = u32::from_be_bytes(item.name);
-        text += &format!("{} {:08x} {}\n", item.depth, name, item.bits);
+    for walked in items {
+        let name = u32::from_be_bytes(walked.item.name);
+        text += &format!("{} {:08x} {}\n", walked.depth, name, walked.item.bits);
     }
     Ok(text + &format!("pad {padding}\n"))
 }

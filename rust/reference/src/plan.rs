@@ -30,7 +30,8 @@ pub struct Settings {
 pub const HOUSE: Settings = Settings { fec: true, m: 2, mtu: 1_400, address: None };
 
 /// The sizes under their names in document 01; `most` is S and `total` is L. Without FEC c, k, z
-/// and n are 0.
+/// and n are 0. `losses` is how many fragments may be lost whichever they are: what the sender is
+/// set for, and none without FEC.
 #[derive(Clone, Copy, Debug, PartialEq)]
 pub struct Plan {
     pub c: usize,
@@ -42,6 +43,7 @@ pub struct Plan {
     pub f: usize,
     pub s: usize,
     pub h: usize,
+    pub losses: usize,
 }
 
 impl Plan {
@@ -89,7 +91,7 @@ fn sizes(settings: &Settings, l: usize) -> Plan {
     let total = if settings.fec { c * n } else { l };
     let f = total.div_ceil(most);
     let s = total.div_ceil(f);
-    Plan { c, k, z, n, most, total, f, s, h }
+    Plan { c, k, z, n, most, total, f, s, h, losses: settings.m }
 }
 
 /// c, k, z and n of a packet of l bytes.

@@ -28,10 +28,16 @@ pub struct Item<'a> {
 
 /// An item of a nested walk, with the level it stands on.
 #[derive(Clone, Copy, Debug, PartialEq)]
-pub struct Walked {
+pub struct Walked<'a> {
     pub depth: usize,
-    pub name: Name,
-    pub bits: u32,
+    pub item: Item<'a>,
+}
+
+/// An item that was found, and whether the standing packet holds it.
+#[derive(Clone, Copy, Debug, PartialEq)]
+pub struct Found<'a> {
+    pub standing: bool,
+    pub item: Item<'a>,
 }
 
 /// The bytes of a value of so many bits.
@@ -77,11 +83,10 @@ pub fn items(packet: &[u8]) -> Answer<(Vec<Item<'_>>, usize)> {
 
 /// The item of that name in the packet, else in the standing packet. Both are checked whole first,
 /// the packet before the standing one; a name in neither is 34.
-pub fn find<'a>(name: Name, packet: &'a [u8], standing: &'a [u8]) -> Answer<Item<'a>> {
-    let (first, _) = items(packet)?;
-    let (second, _) = items(standing)?;
-    let mut all = first.into_iter().chain(second);
-    all.find(|item| item.name == name).ok_or(number::ABSENT)
+pub fn find<'a>(name: Name, packet: &'a [u8], standing: &'a [u8]) -> Answer<Found<'a>> {
+    let first = items(packet)?.0.into_iter().map(|item| Found { standing: false, item });
+    let second = items(standing)?.0.into_iter().map(|item| Found { standing: true, item });
+    first.chain(second).find(|found| found.item.name == name).ok_or(number::ABSENT)
 }
 
 /// The names in a list of containers, four bytes a name; over 8 of them or bytes left over are 43.
@@ -94,21 +99,21 @@ fn containers(list: &[u8]) -> Answer<HashSet<Name>> {
 
 /// All items of a packet and, behind each container, those of its value; and the count of padding
 /// bytes of the outer packet.
-pub fn walk(list: &[u8], packet: &[u8]) -> Answer<(Vec<Walked>, usize)> {
+pub fn walk<'a>(list: &[u8], packet: &'a [u8]) -> Answer<(Vec<Walked<'a>>, usize)> {
     let mut walk = Walk { containers: containers(list)?, walked: Vec::new() };
     let padding = walk.packet(packet, 0)?;
     Ok((walk.walked, padding))
 }
 
 /// A walk on its way: the container names, and the items handed out so far.
-struct Walk {
+struct Walk<'a> {
     containers: HashSet<Name>,
-    walked: Vec<Walked>,
+    walked: Vec<Walked<'a>>,
 }
 
-impl Walk {
+impl<'a> Walk<'a> {
     /// Walks the items of a packet on one level, and gives the count of its padding bytes.
-    fn packet(&mut self, packet: &[u8], depth: usize) -> Answer<usize> {
+    fn packet(&mut self, packet: &'a [u8], depth: usize) -> Answer<usize> {
         let mut names = HashSet::new();
         let mut rest = packet;
         while let Some((item, left)) = next(rest)? {
@@ -120,11 +125,11 @@ impl Walk {
     }
 
     /// Hands out an item and walks the value of a container; refusals behind 33: 35, 32.
-    fn item(&mut self, item: &Item, depth: usize) -> Answer<()> {
+    fn item(&mut self, item: &Item<'a>, depth: usize) -> Answer<()> {
         let contains = self.containers.contains(&item.name);
         refuse(contains && item.bits % 8 != 0, number::WHOLE)?;
         refuse(depth > DEEPEST, number::DEPTH)?;
-        self.walked.push(Walked { depth, name: item.name, bits: item.bits });
+        self.walked.push(Walked { depth, item: *item });
         if contains {
             self.packet(item.value, depth + 1)?;
         }

@@ -1,0 +1,211 @@
+//! The calls with slices in place of pointers and lengths; all else is as in crates/card/card.h.
+//!
+//! A slice's pointer is never null and its bytes are alive, and `&mut` rules out that bytes which
+//! are written overlap any others: that is all that the library asks of its callers.
+#![allow(clippy::too_many_arguments)] // as many as the library's calls take
+
+use crate::ffi;
+
+pub fn wrap(seq: u16, cf: usize, payload: &[u8], out: &mut [u8]) -> usize {
+    let (bytes, room) = (payload.len(), out.len());
+    // Safety: pointers and lengths are those of live slices, which do not overlap.
+    unsafe { ffi::bailhammer_wrap(seq, cf, payload.as_ptr(), bytes, out.as_mut_ptr(), room) }
+}
+
+pub fn check(packet: &[u8], told: &mut [u8]) -> usize {
+    let (bytes, room) = (packet.len(), told.len());
+    // Safety: pointers and lengths are those of live slices, which do not overlap.
+    unsafe { ffi::bailhammer_check(packet.as_ptr(), bytes, told.as_mut_ptr(), room) }
+}
+
+pub fn item(name: u32, bits: u32, value: &[u8], out: &mut [u8]) -> usize {
+    let (bytes, room) = (value.len(), out.len());
+    // Safety: pointers and lengths are those of live slices, which do not overlap.
+    unsafe { ffi::bailhammer_item(name, bits, value.as_ptr(), bytes, out.as_mut_ptr(), room) }
+}
+
+pub fn find(packet: &[u8], standing: &[u8], name: u32, told: &mut [u8]) -> usize {
+    // Safety: pointers and lengths are those of live slices, and those read may be the same.
+    unsafe {
+        ffi::bailhammer_find(
+            packet.as_ptr(),
+            packet.len(),
+            standing.as_ptr(),
+            standing.len(),
+            name,
+            told.as_mut_ptr(),
+            told.len(),
+        )
+    }
+}
+
+pub fn walk_open(packet: &[u8], names: &[u8], walker: &mut [u8]) -> usize {
+    // Safety: pointers and lengths are those of live slices, and those read may be the same.
+    unsafe {
+        ffi::bailhammer_walk_open(
+            packet.as_ptr(),
+            packet.len(),
+            names.as_ptr(),
+            names.len(),
+            walker.as_mut_ptr(),
+            walker.len(),
+        )
+    }
+}
+
+pub fn walk_step(packet: &[u8], names: &[u8], walker: &mut [u8], told: &mut [u8]) -> usize {
+    // Safety: pointers and lengths are those of live slices, and those read may be the same.
+    unsafe {
+        ffi::bailhammer_walk_step(
+            packet.as_ptr(),
+            packet.len(),
+            names.as_ptr(),
+            names.len(),
+            walker.as_mut_ptr(),
+            walker.len(),
+            told.as_mut_ptr(),
+            told.len(),
+        )
+    }
+}
+
+pub fn plan(
+    fec: usize,
+    m: usize,
+    mtu: usize,
+    addressed: usize,
+    l: usize,
+    told: &mut [u8],
+) -> usize {
+    let room = told.len();
+    // Safety: pointer and length are those of a live slice.
+    unsafe { ffi::bailhammer_plan(fec, m, mtu, addressed, l, told.as_mut_ptr(), room) }
+}
+
+pub fn fragment(
+    fec: usize,
+    m: usize,
+    mtu: usize,
+    addressed: usize,
+    source: u16,
+    dest: u16,
+    number: u16,
+    packet: &[u8],
+    index: usize,
+    told: &mut [u8],
+    out: &mut [u8],
+) -> usize {
+    // Safety: pointers and lengths are those of live slices, which do not overlap.
+    unsafe {
+        ffi::bailhammer_fragment(
+            fec,
+            m,
+            mtu,
+            addressed,
+            source,
+            dest,
+            number,
+            packet.as_ptr(),
+            packet.len(),
+            index,
+            told.as_mut_ptr(),
+            told.len(),
+            out.as_mut_ptr(),
+            out.len(),
+        )
+    }
+}
+
+pub fn fragments(
+    fec: usize,
+    m: usize,
+    mtu: usize,
+    addressed: usize,
+    source: u16,
+    dest: u16,
+    number: u16,
+    packet: &[u8],
+    told: &mut [u8],
+    out: &mut [u8],
+) -> usize {
+    // Safety: pointers and lengths are those of live slices, which do not overlap.
+    unsafe {
+        ffi::bailhammer_fragments(
+            fec,
+            m,
+            mtu,
+            addressed,
+            source,
+            dest,
+            number,
+            packet.as_ptr(),
+            packet.len(),
+            told.as_mut_ptr(),
+            told.len(),
+            out.as_mut_ptr(),
+            out.len(),
+        )
+    }
+}
+
+pub fn receive(
+    addressed: usize,
+    source: u16,
+    dest: u16,
+    table: &mut [u8],
+    lent: &mut [u8],
+    datagram: &[u8],
+    told: &mut [u8],
+    out: &mut [u8],
+) -> usize {
+    // Safety: pointers and lengths are those of live slices, which do not overlap.
+    unsafe {
+        ffi::bailhammer_receive(
+            addressed,
+            source,
+            dest,
+            table.as_mut_ptr(),
+            table.len(),
+            lent.as_mut_ptr(),
+            lent.len(),
+            datagram.as_ptr(),
+            datagram.len(),
+            told.as_mut_ptr(),
+            told.len(),
+            out.as_mut_ptr(),
+            out.len(),
+        )
+    }
+}
+
+pub fn query(table: &[u8], lent: &[u8], told: &mut [u8]) -> usize {
+    // Safety: pointers and lengths are those of live slices, and those read may be the same.
+    unsafe {
+        ffi::bailhammer_query(
+            table.as_ptr(),
+            table.len(),
+            lent.as_ptr(),
+            lent.len(),
+            told.as_mut_ptr(),
+            told.len(),
+        )
+    }
+}
+
+pub fn clear(table: &mut [u8], lent: &[u8]) -> usize {
+    let (record, bytes) = (table.len(), lent.len());
+    // Safety: pointers and lengths are those of live slices, which do not overlap.
+    unsafe { ffi::bailhammer_clear(table.as_mut_ptr(), record, lent.as_ptr(), bytes) }
+}
+
+pub fn encode(packet: &[u8], k: usize, c: usize, out: &mut [u8]) -> usize {
+    let (bytes, room) = (packet.len(), out.len());
+    // Safety: pointers and lengths are those of live slices, which do not overlap.
+    unsafe { ffi::bailhammer_encode(packet.as_ptr(), bytes, k, c, out.as_mut_ptr(), room) }
+}
+
+pub fn fill(kept: &[u8], f: usize, s: usize, k: usize, block: &mut [u8]) -> usize {
+    let (flags, room) = (kept.len(), block.len());
+    // Safety: pointers and lengths are those of live slices, which do not overlap.
+    unsafe { ffi::bailhammer_fill(kept.as_ptr(), flags, f, s, k, block.as_mut_ptr(), room) }
+}

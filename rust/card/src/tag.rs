@@ -1,0 +1,84 @@
+//! The TAG layer: writing an item, finding one by its name, walking through containers.
+
+use crate::{done, long, place, raw, Refused};
+
+/// Any four bytes.
+pub type Name = [u8; 4];
+
+/// The bytes of an item before its value.
+pub const HEAD: usize = 8;
+/// The bytes that say where a walk stands.
+const WALKER: usize = 56;
+
+/// An item that was found; its value is a part of the packet that holds it.
+#[derive(Clone, Copy, Debug, PartialEq, Eq)]
+pub struct Found<'a> {
+    /// Whether the standing packet holds it.
+    pub standing: bool,
+    pub bits: u32,
+    pub value: &'a [u8],
+}
+
+/// What a step of a walk hands out.
+#[derive(Clone, Copy, Debug, PartialEq, Eq)]
+pub enum Step<'a> {
+    /// An item; its value is a part of the packet, and items of the outer packet have depth 0.
+    Item { depth: u8, name: Name, bits: u32, value: &'a [u8] },
+    /// There is no further item; so many bytes of padding end the packet.
+    End { padding: usize },
+}
+
+/// A walk through a packet and the containers in it. It borrows both, since a step is only right
+/// over the packet and the names that were checked when it was opened.
+#[derive(Clone, Debug)]
+pub struct Walk<'a> {
+    packet: &'a [u8],
+    names: &'a [u8],
+    walker: [u8; WALKER],
+}
+
+/// Writes an item at the front of `out`, unused bits as zeros, and gives its length. Refused: 43,
+/// 33, 1.
+pub fn item(name: Name, bits: u32, value: &[u8], out: &mut [u8]) -> Result<usize, Refused> {
+    let number = raw::item(u32::from_be_bytes(name), bits, value, out);
+    done(number).map(|()| value.len() + HEAD)
+}
+
+/// Finds an item in a packet, else in the standing packet, which may be empty. Refused: 30, 31 or
+/// 33 of the packet, then of the standing packet; 34.
+pub fn find<'a>(packet: &'a [u8], standing: &'a [u8], name: Name) -> Result<Found<'a>, Refused> {
+    let mut told = [0; 17];
+    done(raw::find(packet, standing, u32::from_be_bytes(name), &mut told))?;
+    let in_standing = told[0] != 0;
+    let holder = if in_standing { standing } else { packet };
+    Ok(Found { standing: in_standing, bits: long(&told, 1), value: part(holder, &told[5..]) })
+}
+
+/// The part of a packet that is told by its place (8 bytes) and its length (4).
+fn part<'a>(packet: &'a [u8], told: &[u8]) -> &'a [u8] {
+    let from = place(told, 0);
+    &packet[from..from + long(told, 8) as usize]
+}
+
+impl<'a> Walk<'a> {
+    /// Opens a walk; the packet and all that its containers hold are checked. Refused: 43; then 30,
+    /// 31, 33, 35 or 32 of the leftmost item at fault.
+    pub fn open(packet: &'a [u8], containers: &'a [Name]) -> Result<Walk<'a>, Refused> {
+        let names = containers.as_flattened();
+        let mut walker = [0; WALKER];
+        done(raw::walk_open(packet, names, &mut walker))?;
+        Ok(Walk { packet, names, walker })
+    }
+
+    /// Hands out the next item. Behind the last one it answers `End`, each time. No walk that
+    /// `open` gave is refused.
+    pub fn step(&mut self) -> Result<Step<'a>, Refused> {
+        let mut told = [0; 22];
+        done(raw::walk_step(self.packet, self.names, &mut self.walker, &mut told))?;
+        if told[0] == 0 {
+            return Ok(Step::End { padding: long(&told, 18) as usize });
+        }
+        let (name, value) = (long(&told, 2).to_be_bytes(), part(self.packet, &told[10..]));
+        Ok(Step::Item { depth: told[1], name, bits: long(&told, 6), value })
+    }
+}

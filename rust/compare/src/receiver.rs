@@ -1,0 +1,343 @@
+//! The receiver: receive, query, clear over one state that goes on from call to call.
+
+use card::raw;
+use card::receiver::{Place, Received as Typed, Receiver};
+use reference::pft::read;
+use reference::plan::Address;
+use reference::receiver::{Kept, Received, Table, LENT};
+use reference::{af, number};
+
+use crate::record;
+use crate::rng::Rng;
+use crate::sender::{pair, typed_address};
+use crate::tally::{hex, number_of, told, Judge, Tally};
+use crate::traffic::{damage, Traffic};
+
+/// What is lent for a call of receive, and what it is about.
+#[derive(Clone, Debug, PartialEq)]
+struct Call {
+    own: Option<Address>,
+    table: Vec<u8>,
+    lent: Vec<u8>,
+    datagram: Vec<u8>,
+    told: Vec<u8>,
+    out: Vec<u8>,
+}
+
+/// What the reference comes to: its answer, its table and all that was lent, afterwards.
+struct Known {
+    answer: Result<Received, u8>,
+    table: Table,
+    after: Call,
+}
+
+/// How a call of receive can be judged.
+enum Due {
+    /// The reference has this record.
+    Known(Box<Known>),
+    /// It is refused before the record's places are looked at.
+    Refused(usize),
+    /// The record is in range, but no calls of the reference leave such a one.
+    Stray,
+}
+
+/// The state that both sides have, the packets on their way, and the calls that were judged.
+pub struct Desk {
+    table: Table,
+    lent: Vec<u8>,
+    traffic: Traffic,
+    pub received: Tally,
+    pub queried: Tally,
+    pub cleared: Tally,
+    /// Calls from a stray record that were not refused for anything before its places.
+    pub strays: usize,
+    /// Packets handed out, and the bytes of the longest.
+    pub delivered: usize,
+    pub longest: usize,
+}
+
+impl Desk {
+    pub fn new(rng: &mut Rng) -> Desk {
+        let numbers = &[0, 1, 2, 3, 4, 5, 6, 7, 8, 9, 10, 11, 12, 13, 14];
+        Desk {
+            table: Table::fresh(),
+            lent: rng.bytes(LENT),
+            traffic: Traffic::default(),
+            received: Tally::new("receive", numbers),
+            queried: Tally::new("query", &[0, 1, 14]),
+            cleared: Tally::new("clear", &[0, 1, 14]),
+            strays: 0,
+            delivered: 0,
+            longest: 0,
+        }
+    }
+
+    /// A call of each kind. What receive leaves goes on, unless its record was changed for it.
+    pub fn turn(&mut self, rng: &mut Rng) {
+        let (mut call, changed) = self.call(rng);
+        if rng.chance(3) {
+            misfit(rng, &mut call);
+        }
+        if let Some(known) = self.receive(rng, &call) {
+            self.note(rng, &known.answer, &call);
+            if !changed && call.lent.len() == LENT {
+                self.table = known.table;
+                self.lent = known.after.lent;
+            }
+        }
+        self.look(rng, &call);
+        if rng.below(700) == 0 {
+            self.table = Table::fresh();
+        }
+    }
+
+    /// The next call, and whether its record was changed.
+    fn call(&mut self, rng: &mut Rng) -> (Call, bool) {
+        let (mut datagram, address) = self.traffic.next(rng);
+        if rng.chance(12) {
+            damage(rng, &mut datagram, address);
+        }
+        let other = Some(Address { source: rng.short(), dest: rng.short() });
+        let own = if rng.chance(95) { address } else { rng.pick(&[None, other]) };
+        let mut table = record::bytes_of(&self.table);
+        let changed = rng.chance(10);
+        if changed {
+            for _ in 0..rng.within(1, 2) {
+                record::change(rng, &mut table);
+            }
+        }
+        let (told, room) = (rng.room(8), af::MOST + rng.pick(&[0, 0, 1, 300]));
+        let (lent, out) = (self.lent.clone(), rng.bytes(room));
+        (Call { own, table, lent, datagram, told, out }, changed)
+    }
+
+    /// Compares a call of receive; gives what the reference came to, where it is known.
+    fn receive(&mut self, rng: &mut Rng, call: &Call) -> Option<Box<Known>> {
+        let (addressed, source, dest) = pair(rng, call.own);
+        let mut after = call.clone();
+        let Call { table, lent, datagram, told, out, .. } = &mut after;
+        let number = raw::receive(addressed, source, dest, table, lent, datagram, told, out);
+        let mut judge = Judge::default();
+        let due = self.due(call);
+        match &due {
+            Due::Known(known) => {
+                judge.same("number", number, number_due(&known.answer));
+                compare(&mut judge, "", &after, &known.after);
+                typed(&mut judge, call, known);
+            }
+            Due::Refused(due) => {
+                judge.same("number", number, *due);
+                compare(&mut judge, "", &after, call);
+            }
+            Due::Stray => {
+                self.strays += 1;
+                stray(&mut judge, number, call, &after);
+            }
+        }
+        self.received.count(number, judge, || {
+            let pair = format!("addressed={addressed} source={source} dest={dest}");
+            format!("{pair} {}", inputs(call))
+        });
+        match due {
+            Due::Known(known) => Some(known),
+            _ => None,
+        }
+    }
+
+    /// What is due: the record first, then what the reference says, if it has the record.
+    fn due(&self, call: &Call) -> Due {
+        let fault = record::fault(&call.table);
+        if fault != 0 {
+            return Due::Refused(fault);
+        }
+        let own_record = call.table == record::bytes_of(&self.table);
+        let model =
+            if own_record { Some(self.table.clone()) } else { record::table_of(&call.table) };
+        if let Some(mut table) = model {
+            let mut after = call.clone();
+            let answer = table.receive(call.own, &mut after.lent, &call.datagram, &mut after.out);
+            after.table = record::bytes_of(&table);
+            if let Ok(received) = &answer {
+                after.told = told(&call.told, &bytes(received));
+            }
+            return Due::Known(Box::new(Known { answer, table, after }));
+        }
+        if call.lent.len() != LENT || call.out.len() < af::MOST {
+            return Due::Refused(number::ROOM.into());
+        }
+        match read(&call.datagram, call.own) {
+            Err(number) => Due::Refused(number.into()),
+            Ok(_) => Due::Stray,
+        }
+    }
+
+    /// Counts packets handed out, and mostly stops sending what has come.
+    fn note(&mut self, rng: &mut Rng, answer: &Result<Received, u8>, call: &Call) {
+        let Ok(Received { kept: Kept::Delivered { length, .. }, .. }) = answer else {
+            return;
+        };
+        self.delivered += 1;
+        self.longest = self.longest.max(*length);
+        if rng.chance(70) {
+            self.traffic.forget(u16::from_be_bytes([call.datagram[2], call.datagram[3]]));
+        }
+    }
+
+    /// Compares query and clear on what was lent for a call.
+    fn look(&mut self, rng: &mut Rng, call: &Call) {
+        let fault = record::fault(&call.table);
+        let short = call.lent.len() != LENT;
+        let due = if fault == 0 && short { number::ROOM.into() } else { fault };
+
+        let before = rng.room(12);
+        let mut after = before.clone();
+        let number = raw::query(&call.table, &call.lent, &mut after);
+        let mut judge = Judge::default();
+        judge.same("number", number, due);
+        let shown = if due == 0 { record::shown(&call.table) } else { Vec::new() };
+        judge.bytes("told", &after, &told(&before, &shown));
+        if let Some(places) = typed_query(call) {
+            judge.same("typed", places, if due == 0 { Ok(shown) } else { Err(due as u8) });
+        }
+        if let Some(table) = record::table_of(&call.table) {
+            judge.same("reference", number, number_of(&table.query(&call.lent)));
+        }
+        self.queried.count(number, judge, || inputs(call) + " told=" + &hex(&before));
+
+        let mut cleared = call.table.clone();
+        let number = raw::clear(&mut cleared, &call.lent);
+        let mut judge = Judge::default();
+        judge.same("number", number, due);
+        let fresh = record::bytes_of(&Table::fresh());
+        judge.bytes("table", &cleared, if due == 0 { &fresh } else { &call.table });
+        typed_clear(&mut judge, call, due);
+        self.cleared.count(number, judge, || inputs(call));
+    }
+}
+
+/// Lends too few bytes or too many, in one place or another.
+fn misfit(rng: &mut Rng, call: &mut Call) {
+    match rng.below(3) {
+        0 => call.out.truncate(rng.pick(&[0, 100, af::MOST - 1])),
+        1 => call.lent.resize(rng.pick(&[0, LENT - 1, LENT + 1, 2 * LENT]), 0),
+        _ => call.table.resize(rng.pick(&[0, record::RECORD - 1, record::RECORD + 1]), 0),
+    }
+}
+
+/// The number of an answer: a damaged packet is told as 13.
+fn number_due(answer: &Result<Received, u8>) -> usize {
+    match answer {
+        Ok(Received { kept: Kept::Damaged, .. }) => number::DAMAGED.into(),
+        _ => number_of(answer),
+    }
+}
+
+/// Whether a packet was handed out, its length, the fragments not held; the displaced number.
+fn bytes(received: &Received) -> Vec<u8> {
+    let (handed, length, missing) = match received.kept {
+        Kept::Delivered { length, missing } => (1, length as u16, missing as u16),
+        _ => (0, 0, 0),
+    };
+    let mut bytes = vec![handed];
+    bytes.extend(length.to_be_bytes());
+    bytes.extend(missing.to_be_bytes());
+    bytes.push(received.displaced.is_some().into());
+    bytes.extend(received.displaced.unwrap_or(0).to_be_bytes());
+    bytes
+}
+
+/// Compares all that was lent.
+fn compare(judge: &mut Judge, side: &str, card: &Call, expected: &Call) {
+    judge.bytes(&format!("{side}table"), &card.table, &expected.table);
+    judge.bytes(&format!("{side}lent"), &card.lent, &expected.lent);
+    judge.bytes(&format!("{side}told"), &card.told, &expected.told);
+    judge.bytes(&format!("{side}out"), &card.out, &expected.out);
+}
+
+/// From a stray record only this is compared: the number is 0 or 9 to 13; what is refused changes
+/// nothing; and else the record stays in range.
+fn stray(judge: &mut Judge, number: usize, call: &Call, after: &Call) {
+    judge.same(
+        "number of a stray is 0 or 9 to 13",
+        number == 0 || (9..=13).contains(&number),
+        true,
+    );
+    if number == 0 || number == 13 {
+        judge.same("fault of a stray's record after", record::fault(&after.table), 0);
+    } else {
+        compare(judge, "stray ", after, call);
+    }
+}
+
+/// A receiver over what was lent, if the lengths are those of its types.
+fn with_typed<T>(
+    call: &mut Call,
+    act: impl FnOnce(&mut Receiver, &[u8], &mut [u8]) -> T,
+) -> Option<T> {
+    let (record, lent) = (call.table[..].try_into().ok()?, (&mut call.lent[..]).try_into().ok()?);
+    let mut receiver = Receiver::resume(record, lent);
+    let answer = act(&mut receiver, &call.datagram, &mut call.out);
+    call.table = receiver.record().to_vec();
+    Some(answer)
+}
+
+/// The same by the typed call.
+fn typed(judge: &mut Judge, call: &Call, known: &Known) {
+    let (mut after, own) = (call.clone(), typed_address(call.own));
+    let typed =
+        with_typed(&mut after, |receiver, datagram, out| receiver.receive(own, datagram, out));
+    let Some(typed) = typed else {
+        return;
+    };
+    let as_reference = |typed: Typed| match typed {
+        Typed::Waits { displaced } => Received { kept: Kept::Waits, displaced },
+        Typed::Damaged { displaced } => Received { kept: Kept::Damaged, displaced },
+        Typed::Delivered { length, missing, displaced } => {
+            Received { kept: Kept::Delivered { length, missing }, displaced }
+        }
+    };
+    let typed = typed.map(as_reference).map_err(|refused| refused.0);
+    judge.same("typed", &typed, &known.answer);
+    after.told.clone_from(&known.after.told);
+    compare(judge, "typed ", &after, &known.after);
+}
+
+/// What the typed query shows, as the bytes that the call tells.
+fn typed_query(call: &Call) -> Option<Result<Vec<u8>, u8>> {
+    let shown = |place: Place| {
+        let (condition, number) = match place {
+            Place::Free => (0, 0),
+            Place::Open(number) => (1, number),
+            Place::Delivered(number) => (2, number),
+            Place::Spoiled(number) => (3, number),
+        };
+        [&[condition][..], &number.to_be_bytes()].concat()
+    };
+    let places = with_typed(&mut call.clone(), |receiver, _, _| receiver.query())?;
+    Some(places.map(|places| places.map(shown).concat()).map_err(|refused| refused.0))
+}
+
+fn typed_clear(judge: &mut Judge, call: &Call, due: usize) {
+    let mut after = call.clone();
+    let Some(typed) = with_typed(&mut after, |receiver, _, _| receiver.clear()) else {
+        return;
+    };
+    judge.same(
+        "typed",
+        typed.map_err(|refused| refused.0.into()),
+        if due == 0 { Ok(()) } else { Err(due) },
+    );
+    judge.bytes("typed lent", &after.lent, &call.lent);
+    let fresh = record::bytes_of(&Table::fresh());
+    judge.bytes("typed table", &after.table, if due == 0 { &fresh } else { &call.table });
+}
+
+fn inputs(call: &Call) -> String {
+    let Call { own, table, lent, datagram, told, out } = call;
+    let (table, lent, datagram) = (hex(table), hex(lent), hex(datagram));
+    format!(
+        "own={own:?} datagram={datagram} told={} out={} table={table} lent={lent}",
+        hex(told),
+        hex(out)
+    )
+}

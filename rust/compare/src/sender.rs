@@ -1,0 +1,179 @@
+//! The sender: plan, fragment, fragments.
+
+use card::{raw, sender};
+use reference::plan::{header_length, plan as expected_plan, Plan, Settings, MOST_MTU};
+use reference::sender::{fragment as expected_fragment, fragments as expected_fragments, Sent};
+
+use crate::af::{packet, wrong_packet};
+use crate::rng::Rng;
+use crate::tally::{hex, number_of, told, Judge, Tally};
+
+/// Settings in their bounds for packets of about l bytes, and at times any.
+pub fn settings(rng: &mut Rng, l: usize) -> Settings {
+    let fec = rng.chance(65);
+    let address = rng.chance(40).then(|| address(rng));
+    let h = header_length(fec, address.is_some());
+    let m = if fec { rng.below(6) } else { 0 };
+    let mtu = match rng.below(10) {
+        0..3 => 1_400,
+        3..6 => h + rng.within(2, 300),
+        6..9 => h + 1 + l / rng.within(1, 40),
+        _ => rng.within(h + 1, MOST_MTU),
+    };
+    Settings { fec, m, mtu, address }
+}
+
+/// Settings that cannot be, for the most part.
+fn wrong_settings(rng: &mut Rng, l: usize) -> Settings {
+    let mut settings = settings(rng, l);
+    let h = header_length(settings.fec, settings.address.is_some());
+    match rng.below(4) {
+        0 => settings.m = rng.pick(&[6, 7, 255, 256, usize::MAX]),
+        1 => settings = Settings { fec: false, m: rng.within(1, 5), ..settings },
+        2 => settings.mtu = rng.within(0, h),
+        _ => settings.mtu = rng.pick(&[MOST_MTU + 1, 65_536 + 1_400, usize::MAX]),
+    }
+    settings
+}
+
+fn any_settings(rng: &mut Rng, l: usize) -> Settings {
+    if rng.chance(93) {
+        settings(rng, l)
+    } else {
+        wrong_settings(rng, l)
+    }
+}
+
+pub fn address(rng: &mut Rng) -> reference::plan::Address {
+    let end = |rng: &mut Rng| rng.pick(&[0, 1, 2, 0x1234, 0xFFFF]);
+    reference::plan::Address { source: end(rng), dest: end(rng) }
+}
+
+/// An address for the typed calls.
+pub fn typed_address(address: Option<reference::plan::Address>) -> Option<sender::Address> {
+    address.map(|pair| sender::Address { source: pair.source, dest: pair.dest })
+}
+
+/// Settings for the typed calls.
+pub fn typed_settings(settings: &Settings) -> sender::Settings {
+    let Settings { fec, m, mtu, address } = *settings;
+    sender::Settings { fec, m, mtu, address: typed_address(address) }
+}
+
+/// An address as the calls take it; without one, source and dest may be any.
+pub fn pair(rng: &mut Rng, address: Option<reference::plan::Address>) -> (usize, u16, u16) {
+    let any = (rng.flag(false), rng.short(), rng.short());
+    address.map_or(any, |pair| (rng.flag(true), pair.source, pair.dest))
+}
+
+/// Numbers of two bytes each.
+fn shorts(figures: &[usize]) -> Vec<u8> {
+    figures.iter().flat_map(|figure| (*figure as u16).to_be_bytes()).collect()
+}
+
+pub fn plan(rng: &mut Rng, tally: &mut Tally) {
+    let l = match rng.below(100) {
+        0..5 => rng.within(0, 11),
+        5..10 => rng.pick(&[8_193, 8_194, 65_536, usize::MAX]),
+        10..60 => rng.within(12, 8_192),
+        _ => 12 + rng.length(8_180),
+    };
+    let (settings, before) = (any_settings(rng, l.min(8_192)), rng.room(20));
+    let (fec, addressed) = (rng.flag(settings.fec), rng.flag(settings.address.is_some()));
+    let mut after = before.clone();
+    let number = raw::plan(fec, settings.m, settings.mtu, addressed, l, &mut after);
+    let typed = sender::plan(&typed_settings(&settings), l).map_err(|refused| refused.0);
+    let expected = expected_plan(&settings, l);
+
+    let mut judge = Judge::default();
+    judge.same("number", number, number_of(&expected));
+    let shown = |p: &Plan| [p.c, p.k, p.z, p.n, p.h, p.most, p.total, p.f, p.s, p.losses];
+    let expected = expected.as_ref().map(shown);
+    let lines = expected.map_or(before.clone(), |figures| told(&before, &shorts(&figures)));
+    judge.bytes("told", &after, &lines);
+    let typed = typed.map(|p| [p.c, p.k, p.z, p.n, p.h, p.most, p.total, p.f, p.s, p.losses]);
+    judge.same("typed", typed.map(|p| p.map(usize::from)), expected.map_err(|number| *number));
+    tally.count(number, judge, || {
+        format!("fec={fec} {settings:?} addressed={addressed} l={l} told={}", hex(&before))
+    });
+}
+
+/// A packet to be cut: short for the most part, and at times not one.
+fn some_packet(rng: &mut Rng) -> Vec<u8> {
+    let l = match rng.below(1_000) {
+        0..600 => rng.within(12, 207),
+        600..850 => rng.within(208, 1_000),
+        850..950 => rng.within(1_001, 3_000),
+        _ => rng.within(3_001, 8_192),
+    };
+    if rng.chance(80) {
+        packet(rng, l)
+    } else {
+        wrong_packet(rng, l)
+    }
+}
+
+pub fn fragment(rng: &mut Rng, tally: &mut Tally) {
+    let packet = some_packet(rng);
+    let (settings, pseq) = (any_settings(rng, packet.len()), rng.short());
+    let plan = expected_plan(&settings, packet.len());
+    let f = plan.map_or(1, |plan| plan.f);
+    let index = if rng.chance(92) { rng.below(f) } else { rng.pick(&[f, f + 1, 256, usize::MAX]) };
+    let needed = plan.map_or(0, |plan| plan.h + if index < f { plan.payload(index) } else { 0 });
+    let (before, told_before) = (rng.room(needed), rng.room(2));
+    let (mut out, mut typed_out, mut expected_out) =
+        (before.clone(), before.clone(), before.clone());
+    let (fec, (addressed, source, dest)) = (rng.flag(settings.fec), pair(rng, settings.address));
+    let (m, mtu, mut after) = (settings.m, settings.mtu, told_before.clone());
+    let number = raw::fragment(
+        fec, m, mtu, addressed, source, dest, pseq, &packet, index, &mut after, &mut out,
+    );
+    let typed = sender::fragment(&typed_settings(&settings), pseq, &packet, index, &mut typed_out);
+    let expected = expected_fragment(&settings, pseq, &packet, index, &mut expected_out);
+
+    let mut judge = Judge::default();
+    judge.same("number", number, number_of(&expected));
+    let line =
+        expected.map_or(told_before.clone(), |length| told(&told_before, &shorts(&[length])));
+    judge.bytes("told", &after, &line);
+    judge.bytes("out", &out, &expected_out);
+    judge.same("typed", typed.map_err(|refused| refused.0), expected);
+    judge.bytes("typed out", &typed_out, &expected_out);
+    tally.count(number, judge, || {
+        let (packet, told, out) = (hex(&packet), hex(&told_before), hex(&before));
+        let pair = format!("addressed={addressed} source={source} dest={dest}");
+        format!("fec={fec} {settings:?} {pair} number={pseq} packet={packet} index={index} told={told} out={out}")
+    });
+}
+
+pub fn fragments(rng: &mut Rng, tally: &mut Tally) {
+    let packet = some_packet(rng);
+    let (settings, pseq) = (any_settings(rng, packet.len()), rng.short());
+    let needed = expected_plan(&settings, packet.len())
+        .map_or(0, |plan| plan.f * plan.h + (plan.f - 1) * plan.s + plan.payload(plan.f - 1));
+    let (before, told_before) = (rng.room(needed), rng.room(8));
+    let (mut out, mut typed_out, mut expected_out) =
+        (before.clone(), before.clone(), before.clone());
+    let (fec, (addressed, source, dest)) = (rng.flag(settings.fec), pair(rng, settings.address));
+    let (m, mtu, mut after) = (settings.m, settings.mtu, told_before.clone());
+    let number =
+        raw::fragments(fec, m, mtu, addressed, source, dest, pseq, &packet, &mut after, &mut out);
+    let typed = sender::fragments(&typed_settings(&settings), pseq, &packet, &mut typed_out);
+    let expected = expected_fragments(&settings, pseq, &packet, &mut expected_out);
+
+    let mut judge = Judge::default();
+    judge.same("number", number, number_of(&expected));
+    let shown = |sent: &Sent| shorts(&[sent.f, sent.h, sent.s, sent.last]);
+    let line =
+        expected.as_ref().map_or(told_before.clone(), |sent| told(&told_before, &shown(sent)));
+    judge.bytes("told", &after, &line);
+    judge.bytes("out", &out, &expected_out);
+    let typed = typed.map(|t| Sent { f: t.f, h: t.h, s: t.s, last: t.last });
+    judge.same("typed", typed.map_err(|refused| refused.0), expected);
+    judge.bytes("typed out", &typed_out, &expected_out);
+    tally.count(number, judge, || {
+        let (packet, told, out) = (hex(&packet), hex(&told_before), hex(&before));
+        let pair = format!("addressed={addressed} source={source} dest={dest}");
+        format!("fec={fec} {settings:?} {pair} number={pseq} packet={packet} told={told} out={out}")
+    });
+}
