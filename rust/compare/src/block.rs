@@ -8,21 +8,19 @@ use reference::pft::PLACE;
 use crate::rng::Rng;
 use crate::tally::{hex, number_of, Judge, Tally};
 
-/// k and c of a block that fits a place; few chunks are more frequent than many.
-pub fn chunks(rng: &mut Rng) -> (usize, usize) {
+/// k and c of a block that fits a place; `long` of a thousand may have many chunks.
+pub fn chunks(rng: &mut Rng, long: usize) -> (usize, usize) {
     let k = rng.within(1, MOST_DATA);
-    let most = PLACE / (k + PARITY);
-    let c = match rng.below(1_000) {
-        0..800 => rng.within(1, 2),
-        800..980 => rng.within(2, 4),
-        980..998 => rng.within(1, 12),
-        _ => rng.within(1, most),
+    let most = match rng.below(1_000) {
+        draw if draw < long => PLACE / (k + PARITY),
+        draw if draw < 200 => 6,
+        _ => 2,
     };
-    (k, c)
+    (k, rng.within(1, most))
 }
 
 pub fn encode(rng: &mut Rng, tally: &mut Tally) {
-    let (mut k, mut c) = chunks(rng);
+    let (mut k, mut c) = chunks(rng, 50);
     let mut length = c * k - rng.below(k);
     match rng.below(30) {
         0 => k = rng.pick(&[0, 208, 255, 256, usize::MAX]),
@@ -81,7 +79,7 @@ fn kept(rng: &mut Rng, f: usize, n: usize) -> Vec<u8> {
 }
 
 pub fn fill(rng: &mut Rng, tally: &mut Tally) {
-    let (mut k, c) = chunks(rng);
+    let (mut k, c) = chunks(rng, 3);
     let n = k + PARITY;
     let (mut f, mut s) = fragments(rng, c * n);
     let mut cells = vec![0; f * s / n * n];

@@ -13,6 +13,7 @@ mod sender;
 mod tag;
 mod tally;
 mod traffic;
+mod walker;
 
 use std::process::ExitCode;
 use std::time::{Instant, SystemTime, UNIX_EPOCH};
@@ -23,6 +24,8 @@ use tally::Tally;
 
 /// The calls of each kind, at least.
 const CALLS: usize = 100_000;
+/// The calls of the receiver, which have many fragments to a packet.
+const RECEIVED: usize = 2 * CALLS;
 
 /// Every number of document 01 but 44, which is the field's and no call of the card gives.
 const NUMBERS: [std::ops::RangeInclusive<usize>; 4] = [1..=14, 20..=25, 30..=35, 40..=43];
@@ -88,7 +91,7 @@ fn timed(kind: &str, work: impl FnOnce()) {
 fn walks(seed: u64) -> [Tally; 2] {
     let mut rng = Rng::new(seed, WALK);
     let mut opened = Tally::new(WALK, &[0, 1, 30, 31, 32, 33, 35, 43]);
-    let mut stepped = Tally::new("walk_step", &[0, 1]);
+    let mut stepped = Tally::new("walk_step", &[0, 1, 30]);
     timed(WALK, || (0..CALLS).for_each(|_| tag::walk(&mut rng, &mut opened, &mut stepped)));
     [opened, stepped]
 }
@@ -96,7 +99,7 @@ fn walks(seed: u64) -> [Tally; 2] {
 fn receptions(seed: u64) -> [Tally; 3] {
     let mut rng = Rng::new(seed, RECEIVE);
     let mut desk = Desk::new(&mut rng);
-    timed(RECEIVE, || (0..CALLS).for_each(|_| desk.turn(&mut rng)));
+    timed(RECEIVE, || (0..RECEIVED).for_each(|_| desk.turn(&mut rng)));
     let (delivered, longest, strays) = (desk.delivered, desk.longest, desk.strays);
     println!("receive: {delivered} packets handed out, the longest of {longest} bytes");
     println!("receive: {strays} calls from records that no calls leave, compared in part");

@@ -63,9 +63,9 @@ impl Rng {
     /// A length up to `most`; short ones are more frequent than long ones.
     pub fn length(&mut self, most: usize) -> usize {
         let most = match self.below(100) {
-            0..70 => most.min(64),
-            70..92 => most.min(400),
-            92..98 => most.min(2_000),
+            0..50 => most.min(64),
+            50..75 => most.min(400),
+            75..90 => most.min(2_000),
             _ => most,
         };
         self.within(0, most)

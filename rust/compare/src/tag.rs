@@ -1,14 +1,16 @@
 //! The TAG layer: item, find, walk_open with walk_step.
 
 use card::{raw, tag, Step, Walk};
+use reference::number;
 use reference::tag as expected;
 use reference::tag::{Found, Name, Walked, DUMMY, POINTER};
 
 use crate::rng::Rng;
 use crate::tally::{hex, number_of, told, Judge, Tally};
+use crate::walker::{self, Walker};
 
-/// The bytes that say where a walk stands.
-const WALKER: usize = 56;
+/// Lengths that a walker has not.
+const OTHER_LENGTHS: [usize; 5] = [0, 8, 55, 57, 112];
 /// The depth at which an item is refused.
 const TOO_DEEP: usize = 5;
 /// Names that come again and again, so that they are found, stand twice and are containers.
@@ -86,15 +88,24 @@ impl Style {
         let (mut packet, mut names) = (Vec::new(), Vec::new());
         let most = if depth == 0 { self.most } else { self.most.min(4) };
         for _ in 0..rng.within(0, most) {
-            let name = name(rng);
+            let name = self.name(rng);
             let again = name != DUMMY && names.contains(&name);
-            if !again || rng.chance(self.slips) {
+            if !again || rng.chance(2 * self.slips) {
                 names.push(name);
                 packet.extend(self.item(rng, depth, name));
             }
         }
         packet.extend(padding(rng));
         packet
+    }
+
+    /// Any name, and often a container's.
+    fn name(&self, rng: &mut Rng) -> Name {
+        if !self.containers.is_empty() && rng.chance(35) {
+            rng.pick(&self.containers)
+        } else {
+            name(rng)
+        }
     }
 
     fn item(&self, rng: &mut Rng, depth: usize, name: Name) -> Vec<u8> {
@@ -119,7 +130,7 @@ impl Style {
             let length = rng.length(300);
             return rng.bytes(length);
         }
-        let deep = depth + 1 < TOO_DEEP || rng.chance(self.slips) && depth < TOO_DEEP;
+        let deep = depth + 1 < TOO_DEEP || rng.chance(4 * self.slips) && depth < TOO_DEEP;
         if deep {
             self.packet(rng, depth + 1)
         } else {
@@ -216,25 +227,31 @@ pub fn walk(rng: &mut Rng, opened: &mut Tally, stepped: &mut Tally) {
     let list = container_list(rng);
     let style = Style::new(rng, names_of(&list));
     let packet = some_packet(rng, &style);
-    let length = if rng.chance(96) { WALKER } else { rng.pick(&[0, 8, 55, 57, 112]) };
+    let length = if rng.chance(96) { walker::BYTES } else { rng.pick(&OTHER_LENGTHS) };
     let before = rng.bytes(length);
     let mut walker = before.clone();
     let number = raw::walk_open(&packet, &list, &mut walker);
     let expected = expected::walk(&list, &packet);
 
     let mut judge = Judge::default();
-    let room = if length == WALKER { 0 } else { 1 };
     let due = number_of(&expected);
+    let room = if length == walker::BYTES { 0 } else { number::ROOM.into() };
     judge.same("number", number, if due == 0 { room } else { due });
-    if number != 0 {
-        judge.bytes("walker", &walker, &before);
-    }
+    let opened_at = Walker::opened(&packet).bytes();
+    judge.bytes("walker", &walker, if due == 0 && room == 0 { &opened_at } else { &before });
     if list.len() % 4 == 0 {
         judge.same("typed", typed_walk(&list, &packet), expected.clone().map(handed));
     }
     opened.count(number, judge, || inputs(&packet, &list, &before));
     if let (0, Ok((items, padding))) = (number, expected) {
-        steps(rng, stepped, &packet, &list, walker, &items, padding);
+        steps(rng, stepped, &packet, &list, &items, padding);
+    }
+    if rng.chance(60) {
+        let stands = Walker::stray(rng, &packet);
+        one_step(rng, stepped, &packet, &list, stands, None);
+    }
+    if rng.chance(10) {
+        misfit_step(rng, stepped, &packet, &list);
     }
 }
 
@@ -272,39 +289,53 @@ fn steps(
     tally: &mut Tally,
     packet: &[u8],
     list: &[u8],
-    mut walker: Vec<u8>,
     items: &[Walked],
     padding: usize,
 ) {
+    let mut stands = Walker::opened(packet);
     for at in 0..items.len() + 2 {
-        let (before, stood) = (rng.room(22), walker.clone());
-        if rng.chance(10) {
-            short_step(rng, tally, packet, list, &walker);
-        }
-        let mut after = before.clone();
-        let number = raw::walk_step(packet, list, &mut walker, &mut after);
-        let mut judge = Judge::default();
-        judge.same("number", number, 0);
         let shown = items.get(at).map_or(end(padding), |walked| step(packet, walked));
-        judge.bytes("told", &after, &told(&before, &shown));
-        if at > items.len() {
-            judge.bytes("walker behind the end", &walker, &stood);
-        }
-        tally.count(number, judge, || inputs(packet, list, &stood) + " told=" + &hex(&before));
+        stands = one_step(rng, tally, packet, list, stands, Some(shown));
     }
 }
 
-/// A step with other than 56 bytes is refused, and changes nothing.
-fn short_step(rng: &mut Rng, tally: &mut Tally, packet: &[u8], list: &[u8], walker: &[u8]) {
-    let mut stands = walker.to_vec();
-    stands.resize(rng.pick(&[0, 8, 55, 57, 112]), 0);
-    let (before, stood) = (rng.room(22), stands.clone());
+/// A step from where a walk stands, and what it tells where that is known from the whole walk.
+fn one_step(
+    rng: &mut Rng,
+    tally: &mut Tally,
+    packet: &[u8],
+    list: &[u8],
+    stands: Walker,
+    whole: Option<Vec<u8>>,
+) -> Walker {
+    let (before, mut walker, mut expected_walker) = (rng.room(22), stands.bytes(), stands);
     let mut after = before.clone();
-    let number = raw::walk_step(packet, list, &mut stands, &mut after);
+    let number = raw::walk_step(packet, list, &mut walker, &mut after);
+    let expected = expected_walker.step(packet, &names_of(list));
+
     let mut judge = Judge::default();
-    judge.same("number", number, 1);
+    judge.same("number", number, number_of(&expected));
+    let shown = expected.as_ref().map_or(before.clone(), |shown| told(&before, shown));
+    judge.bytes("told", &after, &shown);
+    judge.bytes("walker", &walker, &expected_walker.bytes());
+    if let Some(whole) = whole {
+        judge.bytes("told by the whole walk", &after, &told(&before, &whole));
+    }
+    tally.count(number, judge, || inputs(packet, list, &stands.bytes()) + " told=" + &hex(&before));
+    expected_walker
+}
+
+/// A step with other than 56 bytes is refused, and changes nothing.
+fn misfit_step(rng: &mut Rng, tally: &mut Tally, packet: &[u8], list: &[u8]) {
+    let length = rng.pick(&OTHER_LENGTHS);
+    let (before, stood) = (rng.room(22), rng.bytes(length));
+    let (mut after, mut walker) = (before.clone(), stood.clone());
+    let number = raw::walk_step(packet, list, &mut walker, &mut after);
+
+    let mut judge = Judge::default();
+    judge.same("number", number, number::ROOM.into());
     judge.bytes("told", &after, &before);
-    judge.bytes("walker", &stands, &stood);
+    judge.bytes("walker", &walker, &stood);
     tally.count(number, judge, || inputs(packet, list, &stood) + " told=" + &hex(&before));
 }
 

@@ -2,6 +2,7 @@
 //! losses, repeats and damage.
 
 use card::{block as typed_block, sender as typed_sender};
+use reference::af;
 use reference::code::PARITY;
 use reference::pft::{read, Chunks, Header};
 use reference::plan::{Address, MOST_FRAGMENTS};
@@ -80,7 +81,7 @@ fn source(rng: &mut Rng, number: u16) -> Source {
     if rng.chance(60) {
         rng.shuffle(&mut fragments);
     }
-    if rng.chance(50) {
+    if rng.chance(40) {
         let lost = rng.within(0, f.div_ceil(4));
         fragments.truncate(f - lost.min(f - 1));
     }
@@ -106,7 +107,7 @@ fn planned(rng: &mut Rng, number: u16) -> (Option<Address>, Vec<Vec<u8>>) {
         let (packet, settings) = (packet(rng, l), sender::settings(rng, l));
         let typed = sender::typed_settings(&settings);
         let sent = typed_sender::fragments(&typed, number, &packet, &mut out).ok();
-        if let Some(split) = sent.filter(|split| split.f <= FEW || rng.chance(10)) {
+        if let Some(split) = sent.filter(|split| split.f <= FEW || rng.chance(4)) {
             return (settings.address, split.parts(&out).map(<[u8]>::to_vec).collect());
         }
     }
@@ -114,7 +115,7 @@ fn planned(rng: &mut Rng, number: u16) -> (Option<Address>, Vec<Vec<u8>>) {
 
 /// A packet, or bytes that are none.
 fn content(rng: &mut Rng, l: usize) -> Vec<u8> {
-    if l >= 12 && rng.chance(85) {
+    if (af::LEAST..=af::MOST).contains(&l) && rng.chance(85) {
         packet(rng, l)
     } else {
         rng.bytes(l)
@@ -123,11 +124,10 @@ fn content(rng: &mut Rng, l: usize) -> Vec<u8> {
 
 /// A packet with FEC under other sizes than a sender's: any chunks, any count of fragments.
 fn woven(rng: &mut Rng, number: u16) -> (Option<Address>, Vec<Vec<u8>>) {
-    let (k, c) = block::chunks(rng);
+    let (k, c) = block::chunks(rng, 20);
     let (l, n) = (c * k - rng.below(k), k + PARITY);
-    let l = l.min(8_192).max(c * k - k + 1);
     let (mut f, mut s) = block::fragments(rng, c * n);
-    while f > FEW && rng.chance(90) {
+    while f > FEW && rng.chance(96) {
         (f, s) = block::fragments(rng, c * n);
     }
     let (packet, mut cells) = (content(rng, l), vec![0; f * s]);
