@@ -6,6 +6,8 @@
 
 mod af;
 mod block;
+mod call;
+mod places;
 mod receiver;
 mod record;
 mod rng;
@@ -13,6 +15,7 @@ mod sender;
 mod tag;
 mod tally;
 mod traffic;
+mod walk;
 mod walker;
 
 use std::process::ExitCode;
@@ -92,7 +95,7 @@ fn walks(seed: u64) -> [Tally; 2] {
     let mut rng = Rng::new(seed, WALK);
     let mut opened = Tally::new(WALK, &[0, 1, 30, 31, 32, 33, 35, 43]);
     let mut stepped = Tally::new("walk_step", &[0, 1, 30]);
-    timed(WALK, || (0..CALLS).for_each(|_| tag::walk(&mut rng, &mut opened, &mut stepped)));
+    timed(WALK, || (0..CALLS).for_each(|_| walk::walk(&mut rng, &mut opened, &mut stepped)));
     [opened, stepped]
 }
 

@@ -1,28 +1,18 @@
 //! The receiver: receive, query, clear over one state that goes on from call to call.
 
-use card::raw;
-use card::receiver::{Place, Received as Typed, Receiver};
+use card::{raw, Received as Typed};
 use reference::pft::read;
 use reference::plan::Address;
 use reference::receiver::{Kept, Received, Table, LENT};
 use reference::{af, number};
 
+use crate::call::Call;
+use crate::places;
 use crate::record;
 use crate::rng::Rng;
 use crate::sender::{pair, typed_address};
-use crate::tally::{hex, number_of, told, Judge, Tally};
+use crate::tally::{number_of, told, Judge, Tally};
 use crate::traffic::{damage, Traffic};
-
-/// What is lent for a call of receive, and what it is about.
-#[derive(Clone, Debug, PartialEq)]
-struct Call {
-    own: Option<Address>,
-    table: Vec<u8>,
-    lent: Vec<u8>,
-    datagram: Vec<u8>,
-    told: Vec<u8>,
-    out: Vec<u8>,
-}
 
 /// What the reference comes to: its answer, its table and all that was lent, afterwards.
 struct Known {
@@ -76,7 +66,7 @@ impl Desk {
     pub fn turn(&mut self, rng: &mut Rng) {
         let (mut call, changed) = self.call(rng);
         if rng.chance(3) {
-            misfit(rng, &mut call);
+            call.misfit(rng);
         }
         if let Some(known) = self.receive(rng, &call) {
             self.note(rng, &known.answer, &call);
@@ -85,7 +75,8 @@ impl Desk {
                 self.lent = known.after.lent;
             }
         }
-        self.look(rng, &call);
+        places::query(rng, &mut self.queried, &call);
+        places::clear(&mut self.cleared, &call);
         if rng.below(700) == 0 {
             self.table = Table::fresh();
         }
@@ -122,12 +113,13 @@ impl Desk {
         match &due {
             Due::Known(known) => {
                 judge.same("number", number, number_due(&known.answer));
-                compare(&mut judge, "", &after, &known.after);
-                typed(&mut judge, call, known);
+                after.compare(&mut judge, "", &known.after);
+                typed(&mut judge, call, &known.answer, &known.after);
             }
             Due::Refused(due) => {
                 judge.same("number", number, *due);
-                compare(&mut judge, "", &after, call);
+                after.compare(&mut judge, "", call);
+                typed(&mut judge, call, &Err(*due as u8), call);
             }
             Due::Stray => {
                 self.strays += 1;
@@ -136,7 +128,7 @@ impl Desk {
         }
         self.received.count(number, judge, || {
             let pair = format!("addressed={addressed} source={source} dest={dest}");
-            format!("{pair} {}", inputs(call))
+            format!("{pair} {}", call.inputs())
         });
         match due {
             Due::Known(known) => Some(known),
@@ -182,46 +174,6 @@ impl Desk {
             self.traffic.forget(u16::from_be_bytes([call.datagram[2], call.datagram[3]]));
         }
     }
-
-    /// Compares query and clear on what was lent for a call.
-    fn look(&mut self, rng: &mut Rng, call: &Call) {
-        let fault = record::fault(&call.table);
-        let short = call.lent.len() != LENT;
-        let due = if fault == 0 && short { number::ROOM.into() } else { fault };
-
-        let before = rng.room(12);
-        let mut after = before.clone();
-        let number = raw::query(&call.table, &call.lent, &mut after);
-        let mut judge = Judge::default();
-        judge.same("number", number, due);
-        let shown = if due == 0 { record::shown(&call.table) } else { Vec::new() };
-        judge.bytes("told", &after, &told(&before, &shown));
-        if let Some(places) = typed_query(call) {
-            judge.same("typed", places, if due == 0 { Ok(shown) } else { Err(due as u8) });
-        }
-        if let Some(table) = record::table_of(&call.table) {
-            judge.same("reference", number, number_of(&table.query(&call.lent)));
-        }
-        self.queried.count(number, judge, || inputs(call) + " told=" + &hex(&before));
-
-        let mut cleared = call.table.clone();
-        let number = raw::clear(&mut cleared, &call.lent);
-        let mut judge = Judge::default();
-        judge.same("number", number, due);
-        let fresh = record::bytes_of(&Table::fresh());
-        judge.bytes("table", &cleared, if due == 0 { &fresh } else { &call.table });
-        typed_clear(&mut judge, call, due);
-        self.cleared.count(number, judge, || inputs(call));
-    }
-}
-
-/// Lends too few bytes or too many, in one place or another.
-fn misfit(rng: &mut Rng, call: &mut Call) {
-    match rng.below(3) {
-        0 => call.out.truncate(rng.pick(&[0, 100, af::MOST - 1])),
-        1 => call.lent.resize(rng.pick(&[0, LENT - 1, LENT + 1, 2 * LENT]), 0),
-        _ => call.table.resize(rng.pick(&[0, record::RECORD - 1, record::RECORD + 1]), 0),
-    }
 }
 
 /// The number of an answer: a damaged packet is told as 13.
@@ -246,14 +198,6 @@ fn bytes(received: &Received) -> Vec<u8> {
     bytes
 }
 
-/// Compares all that was lent.
-fn compare(judge: &mut Judge, side: &str, card: &Call, expected: &Call) {
-    judge.bytes(&format!("{side}table"), &card.table, &expected.table);
-    judge.bytes(&format!("{side}lent"), &card.lent, &expected.lent);
-    judge.bytes(&format!("{side}told"), &card.told, &expected.told);
-    judge.bytes(&format!("{side}out"), &card.out, &expected.out);
-}
-
 /// From a stray record only this is compared: the number is 0 or 9 to 13; what is refused changes
 /// nothing; and else the record stays in range.
 fn stray(judge: &mut Judge, number: usize, call: &Call, after: &Call) {
@@ -265,27 +209,14 @@ fn stray(judge: &mut Judge, number: usize, call: &Call, after: &Call) {
     if number == 0 || number == 13 {
         judge.same("fault of a stray's record after", record::fault(&after.table), 0);
     } else {
-        compare(judge, "stray ", after, call);
+        after.compare(judge, "stray ", call);
     }
 }
 
-/// A receiver over what was lent, if the lengths are those of its types.
-fn with_typed<T>(
-    call: &mut Call,
-    act: impl FnOnce(&mut Receiver, &[u8], &mut [u8]) -> T,
-) -> Option<T> {
-    let (record, lent) = (call.table[..].try_into().ok()?, (&mut call.lent[..]).try_into().ok()?);
-    let mut receiver = Receiver::resume(record, lent);
-    let answer = act(&mut receiver, &call.datagram, &mut call.out);
-    call.table = receiver.record().to_vec();
-    Some(answer)
-}
-
 /// The same by the typed call.
-fn typed(judge: &mut Judge, call: &Call, known: &Known) {
+fn typed(judge: &mut Judge, call: &Call, answer: &Result<Received, u8>, expected: &Call) {
     let (mut after, own) = (call.clone(), typed_address(call.own));
-    let typed =
-        with_typed(&mut after, |receiver, datagram, out| receiver.receive(own, datagram, out));
+    let typed = after.with_typed(|receiver, datagram, out| receiver.receive(own, datagram, out));
     let Some(typed) = typed else {
         return;
     };
@@ -297,47 +228,7 @@ fn typed(judge: &mut Judge, call: &Call, known: &Known) {
         }
     };
     let typed = typed.map(as_reference).map_err(|refused| refused.0);
-    judge.same("typed", &typed, &known.answer);
-    after.told.clone_from(&known.after.told);
-    compare(judge, "typed ", &after, &known.after);
-}
-
-/// What the typed query shows, as the bytes that the call tells.
-fn typed_query(call: &Call) -> Option<Result<Vec<u8>, u8>> {
-    let shown = |place: Place| {
-        let (condition, number) = match place {
-            Place::Free => (0, 0),
-            Place::Open(number) => (1, number),
-            Place::Delivered(number) => (2, number),
-            Place::Spoiled(number) => (3, number),
-        };
-        [&[condition][..], &number.to_be_bytes()].concat()
-    };
-    let places = with_typed(&mut call.clone(), |receiver, _, _| receiver.query())?;
-    Some(places.map(|places| places.map(shown).concat()).map_err(|refused| refused.0))
-}
-
-fn typed_clear(judge: &mut Judge, call: &Call, due: usize) {
-    let mut after = call.clone();
-    let Some(typed) = with_typed(&mut after, |receiver, _, _| receiver.clear()) else {
-        return;
-    };
-    judge.same(
-        "typed",
-        typed.map_err(|refused| refused.0.into()),
-        if due == 0 { Ok(()) } else { Err(due) },
-    );
-    judge.bytes("typed lent", &after.lent, &call.lent);
-    let fresh = record::bytes_of(&Table::fresh());
-    judge.bytes("typed table", &after.table, if due == 0 { &fresh } else { &call.table });
-}
-
-fn inputs(call: &Call) -> String {
-    let Call { own, table, lent, datagram, told, out } = call;
-    let (table, lent, datagram) = (hex(table), hex(lent), hex(datagram));
-    format!(
-        "own={own:?} datagram={datagram} told={} out={} table={table} lent={lent}",
-        hex(told),
-        hex(out)
-    )
+    judge.same("typed", &typed, answer);
+    after.told.clone_from(&expected.told);
+    after.compare(judge, "typed ", expected);
 }

@@ -1,20 +1,16 @@
-//! The TAG layer: item, find, walk_open with walk_step.
+//! The TAG layer: item, find, and packets of items.
 
-use card::{raw, tag, Step, Walk};
-use reference::number;
+use card::{raw, tag};
 use reference::tag as expected;
-use reference::tag::{Found, Name, Walked, DUMMY, POINTER};
+use reference::tag::{Found, Name, DUMMY, POINTER};
 
 use crate::rng::Rng;
 use crate::tally::{hex, number_of, told, Judge, Tally};
-use crate::walker::{self, Walker};
 
-/// Lengths that a walker has not.
-const OTHER_LENGTHS: [usize; 5] = [0, 8, 55, 57, 112];
 /// The depth at which an item is refused.
 const TOO_DEEP: usize = 5;
 /// Names that come again and again, so that they are found, stand twice and are containers.
-const POOL: [Name; 10] = [
+pub const POOL: [Name; 10] = [
     POINTER,
     DUMMY,
     *b"fio_",
@@ -70,14 +66,14 @@ pub fn item(rng: &mut Rng, tally: &mut Tally) {
 
 /// How packets are made up: which names are containers, how often an item has something wrong, and
 /// how many items stand on a level.
-struct Style {
+pub struct Style {
     containers: Vec<Name>,
     slips: usize,
     most: usize,
 }
 
 impl Style {
-    fn new(rng: &mut Rng, containers: Vec<Name>) -> Style {
+    pub fn new(rng: &mut Rng, containers: Vec<Name>) -> Style {
         let slips = if rng.chance(45) { 12 } else { 0 };
         let most = if rng.chance(2) { 120 } else { 5 };
         Style { containers, slips, most }
@@ -156,7 +152,7 @@ fn slipped(rng: &mut Rng, bits: u32) -> u32 {
 }
 
 /// A packet made up in that style, and at times damaged or cut.
-fn some_packet(rng: &mut Rng, style: &Style) -> Vec<u8> {
+pub fn some_packet(rng: &mut Rng, style: &Style) -> Vec<u8> {
     let mut packet = style.packet(rng, 0);
     if style.slips > 0 && rng.chance(20) {
         rng.damage(&mut packet);
@@ -168,7 +164,7 @@ fn some_packet(rng: &mut Rng, style: &Style) -> Vec<u8> {
 }
 
 /// Where a part of a packet begins in it.
-fn place(packet: &[u8], part: &[u8]) -> usize {
+pub fn place(packet: &[u8], part: &[u8]) -> usize {
     part.as_ptr() as usize - packet.as_ptr() as usize
 }
 
@@ -207,151 +203,4 @@ pub fn find(rng: &mut Rng, tally: &mut Tally) {
         let (packet, standing) = (hex(&packet), hex(&standing));
         format!("packet={packet} standing={standing} name={} told={}", hex(&wanted), hex(&before))
     });
-}
-
-/// The names of containers: eight at most, and at times more or not four bytes each.
-fn container_list(rng: &mut Rng) -> Vec<u8> {
-    let count = if rng.chance(95) { rng.within(0, 8) } else { rng.within(9, 12) };
-    let mut list: Vec<u8> = (0..count).flat_map(|_| rng.pick(&POOL)).collect();
-    if rng.chance(3) {
-        list.truncate(list.len().saturating_sub(rng.within(1, 3)));
-    }
-    list
-}
-
-fn names_of(list: &[u8]) -> Vec<Name> {
-    list.chunks_exact(4).map(|name| [name[0], name[1], name[2], name[3]]).collect()
-}
-
-pub fn walk(rng: &mut Rng, opened: &mut Tally, stepped: &mut Tally) {
-    let list = container_list(rng);
-    let style = Style::new(rng, names_of(&list));
-    let packet = some_packet(rng, &style);
-    let length = if rng.chance(96) { walker::BYTES } else { rng.pick(&OTHER_LENGTHS) };
-    let before = rng.bytes(length);
-    let mut walker = before.clone();
-    let number = raw::walk_open(&packet, &list, &mut walker);
-    let expected = expected::walk(&list, &packet);
-
-    let mut judge = Judge::default();
-    let due = number_of(&expected);
-    let room = if length == walker::BYTES { 0 } else { number::ROOM.into() };
-    judge.same("number", number, if due == 0 { room } else { due });
-    let opened_at = Walker::opened(&packet).bytes();
-    judge.bytes("walker", &walker, if due == 0 && room == 0 { &opened_at } else { &before });
-    if list.len() % 4 == 0 {
-        judge.same("typed", typed_walk(&list, &packet), expected.clone().map(handed));
-    }
-    opened.count(number, judge, || inputs(&packet, &list, &before));
-    if let (0, Ok((items, padding))) = (number, expected) {
-        steps(rng, stepped, &packet, &list, &items, padding);
-    }
-    if rng.chance(60) {
-        let stands = Walker::stray(rng, &packet);
-        one_step(rng, stepped, &packet, &list, stands, None);
-    }
-    if rng.chance(10) {
-        misfit_step(rng, stepped, &packet, &list);
-    }
-}
-
-fn inputs(packet: &[u8], list: &[u8], walker: &[u8]) -> String {
-    format!("packet={} names={} walker={}", hex(packet), hex(list), hex(walker))
-}
-
-/// What a walk hands out by steps: depth, name, bits and value of each item, then the padding.
-type HandedOut<'a> = (Vec<(usize, Name, u32, *const u8, usize)>, usize);
-
-fn handed<'a>((items, padding): (Vec<Walked<'a>>, usize)) -> HandedOut<'a> {
-    let shown =
-        |w: &Walked| (w.depth, w.item.name, w.item.bits, w.item.value.as_ptr(), w.item.value.len());
-    (items.iter().map(shown).collect(), padding)
-}
-
-/// The same by the typed calls.
-fn typed_walk<'a>(list: &[u8], packet: &'a [u8]) -> Result<HandedOut<'a>, u8> {
-    let names = names_of(list);
-    let mut walk = Walk::open(packet, &names).map_err(|refused| refused.0)?;
-    let mut items = Vec::new();
-    loop {
-        match walk.step().map_err(|refused| refused.0)? {
-            Step::Item { depth, name, bits, value } => {
-                items.push((depth.into(), name, bits, value.as_ptr(), value.len()));
-            }
-            Step::End { padding } => return Ok((items, padding)),
-        }
-    }
-}
-
-/// The steps of a walk that was opened, and two behind its last item.
-fn steps(
-    rng: &mut Rng,
-    tally: &mut Tally,
-    packet: &[u8],
-    list: &[u8],
-    items: &[Walked],
-    padding: usize,
-) {
-    let mut stands = Walker::opened(packet);
-    for at in 0..items.len() + 2 {
-        let shown = items.get(at).map_or(end(padding), |walked| step(packet, walked));
-        stands = one_step(rng, tally, packet, list, stands, Some(shown));
-    }
-}
-
-/// A step from where a walk stands, and what it tells where that is known from the whole walk.
-fn one_step(
-    rng: &mut Rng,
-    tally: &mut Tally,
-    packet: &[u8],
-    list: &[u8],
-    stands: Walker,
-    whole: Option<Vec<u8>>,
-) -> Walker {
-    let (before, mut walker, mut expected_walker) = (rng.room(22), stands.bytes(), stands);
-    let mut after = before.clone();
-    let number = raw::walk_step(packet, list, &mut walker, &mut after);
-    let expected = expected_walker.step(packet, &names_of(list));
-
-    let mut judge = Judge::default();
-    judge.same("number", number, number_of(&expected));
-    let shown = expected.as_ref().map_or(before.clone(), |shown| told(&before, shown));
-    judge.bytes("told", &after, &shown);
-    judge.bytes("walker", &walker, &expected_walker.bytes());
-    if let Some(whole) = whole {
-        judge.bytes("told by the whole walk", &after, &told(&before, &whole));
-    }
-    tally.count(number, judge, || inputs(packet, list, &stands.bytes()) + " told=" + &hex(&before));
-    expected_walker
-}
-
-/// A step with other than 56 bytes is refused, and changes nothing.
-fn misfit_step(rng: &mut Rng, tally: &mut Tally, packet: &[u8], list: &[u8]) {
-    let length = rng.pick(&OTHER_LENGTHS);
-    let (before, stood) = (rng.room(22), rng.bytes(length));
-    let (mut after, mut walker) = (before.clone(), stood.clone());
-    let number = raw::walk_step(packet, list, &mut walker, &mut after);
-
-    let mut judge = Judge::default();
-    judge.same("number", number, number::ROOM.into());
-    judge.bytes("told", &after, &before);
-    judge.bytes("walker", &walker, &stood);
-    tally.count(number, judge, || inputs(packet, list, &stood) + " told=" + &hex(&before));
-}
-
-/// 1, depth, name, bits, where the value begins, its bytes.
-fn step(packet: &[u8], walked: &Walked) -> Vec<u8> {
-    let mut bytes = vec![1, walked.depth as u8];
-    bytes.extend(walked.item.name);
-    bytes.extend(walked.item.bits.to_be_bytes());
-    bytes.extend((place(packet, walked.item.value) as u64).to_be_bytes());
-    bytes.extend((walked.item.value.len() as u32).to_be_bytes());
-    bytes
-}
-
-/// Zeros, and the bytes of padding.
-fn end(padding: usize) -> Vec<u8> {
-    let mut bytes = vec![0; 18];
-    bytes.extend((padding as u32).to_be_bytes());
-    bytes
 }

@@ -1,0 +1,88 @@
+//! The receiver's places: query, clear.
+
+use card::{raw, Place};
+use reference::number;
+use reference::receiver::{Condition, Table, LENT};
+
+use crate::call::Call;
+use crate::record;
+use crate::rng::Rng;
+use crate::tally::{hex, number_of, told, Judge, Tally};
+
+/// The number that is due for query and clear: the record's, then 1 for bytes that are not 49,152.
+fn due(call: &Call) -> usize {
+    match record::fault(&call.table) {
+        0 if call.lent.len() != LENT => number::ROOM.into(),
+        fault => fault,
+    }
+}
+
+pub fn query(rng: &mut Rng, tally: &mut Tally, call: &Call) {
+    let (before, due) = (rng.room(12), due(call));
+    let mut after = before.clone();
+    let number = raw::query(&call.table, &call.lent, &mut after);
+
+    let mut judge = Judge::default();
+    judge.same("number", number, due);
+    let shown = if due == 0 { record::shown(&call.table) } else { Vec::new() };
+    judge.bytes("told", &after, &told(&before, &shown));
+    if let Some(places) = typed_query(call) {
+        judge.same("typed", places, if due == 0 { Ok(shown) } else { Err(due as u8) });
+    }
+    if let Some(table) = record::table_of(&call.table) {
+        let expected = table.query(&call.lent);
+        judge.same("number by the reference", number, number_of(&expected));
+        let places: Vec<u8> = expected.into_iter().flatten().flat_map(bytes).collect();
+        judge.bytes("told by the reference", &after, &told(&before, &places));
+    }
+    tally.count(number, judge, || call.inputs() + " told=" + &hex(&before));
+}
+
+/// A place as the reference shows it.
+fn bytes(place: Option<(u16, Condition)>) -> Vec<u8> {
+    let (number, condition) =
+        place.map_or((0, 0), |(number, condition)| (number, record::condition_byte(condition)));
+    [&[condition][..], &number.to_be_bytes()].concat()
+}
+
+pub fn clear(tally: &mut Tally, call: &Call) {
+    let (mut cleared, due) = (call.table.clone(), due(call));
+    let number = raw::clear(&mut cleared, &call.lent);
+
+    let mut judge = Judge::default();
+    judge.same("number", number, due);
+    let fresh = record::bytes_of(&Table::fresh());
+    judge.bytes("table", &cleared, if due == 0 { &fresh } else { &call.table });
+    typed_clear(&mut judge, call, due);
+    tally.count(number, judge, || call.inputs());
+}
+
+/// What the typed query shows, as the bytes that the call tells.
+fn typed_query(call: &Call) -> Option<Result<Vec<u8>, u8>> {
+    let shown = |place: Place| {
+        let (condition, number) = match place {
+            Place::Free => (0, 0),
+            Place::Open(number) => (1, number),
+            Place::Delivered(number) => (2, number),
+            Place::Spoiled(number) => (3, number),
+        };
+        [&[condition][..], &number.to_be_bytes()].concat()
+    };
+    let places = call.clone().with_typed(|receiver, _, _| receiver.query())?;
+    Some(places.map(|places| places.map(shown).concat()).map_err(|refused| refused.0))
+}
+
+fn typed_clear(judge: &mut Judge, call: &Call, due: usize) {
+    let mut after = call.clone();
+    let Some(typed) = after.with_typed(|receiver, _, _| receiver.clear()) else {
+        return;
+    };
+    judge.same(
+        "typed",
+        typed.map_err(|refused| refused.0.into()),
+        if due == 0 { Ok(()) } else { Err(due) },
+    );
+    judge.bytes("typed lent", &after.lent, &call.lent);
+    let fresh = record::bytes_of(&Table::fresh());
+    judge.bytes("typed table", &after.table, if due == 0 { &fresh } else { &call.table });
+}
