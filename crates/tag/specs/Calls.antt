@@ -45,5 +45,6 @@ searchAnswer (located.Packet i) = granted (i .bits .0 ∷ [])
 searchAnswer (located.Standing i) = granted (i .bits .0 ∷ [])
 searchAnswer (located.Refused n) = refused n
 
+-- what a search is answered: the packet first, then the standing packet
 unfoldable pub searchCall : List ℕ → List ℕ → ℕ → Answer
 searchCall s t name = searchAnswer (locateOf s t name)

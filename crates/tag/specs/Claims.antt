@@ -19,6 +19,7 @@ use Rattle.tag.specs.Reading.{startOf, refusalOf, handed, standsAfter, c
 abbrev pub OneOpened : Type 0
 OneOpened = (a b : Opened) → openedNumber a ≡ openedNumber b → a ≡ b
 
+-- so it is of a search
 abbrev pub OneSought : Type 0
 OneSought = (a b : Sought) → soughtNumber a ≡ soughtNumber b → a ≡ b
 
@@ -37,6 +38,7 @@ pub record Padded (r : Run) : Type 0 where
   pub last : lastOf r ≡ step.End bytes
   pub few : bytes .0 < head
 
+-- every packet that is not refused does
 abbrev pub Ends : Type 0
 Ends = (s : List ℕ) → checkOf s ≡ 0 → Padded (wholeRun s)
 
