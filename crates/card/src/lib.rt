@@ -12,6 +12,7 @@ use sender::Split;
 ghost use mathlib.Core.Path.{_≡_};
 ghost use Prim.Native.Nat.{_%_};
 ghost use Rattle.card.specs.Calls.{isKept, keptOf, writtenNumber, filledNumber, CardEncoded, CardFilled};
+ghost use Rattle.card.specs.Told.{toldIn};
 ghost use Rattle.card.specs.Calls.{addressOf, settingsOf, splitBytes, allRefusal, splitTold, CardSent};
 
 // The number of a writing's answer.
@@ -115,6 +116,13 @@ fn low(x: usize) -> u8
     ensures { λ r. ⌜ r ≡ x % 256 ⌝ }
 {
     (x % 256) as u8
+}
+
+// Tells bytes at the front of what is lent for them, where they have place.
+fn tell_bytes(told: &mut [u8], bytes: &[u8])
+    ensures { λ _. ⌜ now (told .exit) ≡ toldIn (now (told .entry)) (now (bytes .entry)) ⌝ }
+{
+    base::put(told, 0, bytes);
 }
 
 // The split as bytes.
