@@ -1,4 +1,4 @@
-// The block calls of crate code and the sender's whole packet for C: bailhammer.h declares them, and says what each number means.
+// The block calls of crate code and the sender's whole packet for C: card.h declares them, and says what each number means.
 mod receiving;
 
 use base::MOST_F;
