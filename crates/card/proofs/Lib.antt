@@ -1,3 +1,5 @@
 pub mod FlagLaws
 pub mod SplitLaws
+pub mod SendLaws
 pub mod ReceiveLaws
+pub mod Proved

@@ -2,9 +2,10 @@
 use mathlib.Core.Path.{sym, ap}
 use borrow.Author.Needs.{needs}
 use Rattle.code.specs.Calls.{numberOf, valuesOf}
-use Rattle.card.specs.Calls.{oneNumber, filledNumber}
-use Rattle.card.proofs.filled_number.Statement.{statement}
-use Rattle.card.proofs.filled_number.Tie as tie
+use Rattle.card.specs.Calls.{oneNumber}
+use Rattle.card.specs.Blocks.{filledNumber}
+use Rattle.card.proofs.blocks.filled_number.Statement.{statement}
+use Rattle.card.proofs.blocks.filled_number.Tie as tie
 
 enum-told : tie.Need-enum-told
 enum-told c = search needs

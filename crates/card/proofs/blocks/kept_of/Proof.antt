@@ -7,10 +7,10 @@ use native.Mathlib.Omega.{arith}
 use borrow.Author.Needs.{needs}
 use lib.ListN.{length, length-set, length-replicate, replicate}
 use Rattle.base.specs.Bounds.{most-f}
-use Rattle.card.specs.Calls.{isKept, keptOf}
+use Rattle.card.specs.Blocks.{isKept, keptOf}
 use Rattle.card.proofs.FlagLaws.{Flags, flags-none, flags-more, flags-all}
-use Rattle.card.proofs.kept_of.Statement.{statement}
-use Rattle.card.proofs.kept_of.Tie as tie
+use Rattle.card.proofs.blocks.kept_of.Statement.{statement}
+use Rattle.card.proofs.blocks.kept_of.Tie as tie
 
 abbrev Inv-loop : tie.InvT-loop
 Inv-loop bytes kept₀ i₀ kept i = (i ≤ most-f) × (length kept ≡ most-f) × Flags (isKept bytes) kept i

@@ -4,8 +4,8 @@ use mathlib.Core.Bool.{not}
 use Prim.Native.Nat.{ℕ}
 use lib.Dec.{eqb}
 use borrow.Author.Needs.{needs}
-use Rattle.card.proofs.is_kept.Statement.{statement}
-use Rattle.card.proofs.is_kept.Tie as tie
+use Rattle.card.proofs.blocks.is_kept.Statement.{statement}
+use Rattle.card.proofs.blocks.is_kept.Tie as tie
 
 byte-at-requires : tie.Need-byte-at-requires
 byte-at-requires c κs = search needs

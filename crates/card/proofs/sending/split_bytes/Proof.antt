@@ -1,11 +1,11 @@
 -- `split_bytes` meets its contract, two bytes at a time. Assumes nothing.
 use mathlib.Core.Path.{refl}
-use Rattle.card.specs.Calls.{splitBytes}
+use Rattle.card.specs.Told.{inWidths}
 use Rattle.base.specs.Bytes.{bytesOf}
 use Rattle.card.proofs.SplitLaws.{two-bytes}
 use borrow.Author.Needs.{needs}
-use Rattle.card.proofs.split_bytes.Statement.{statement}
-use Rattle.card.proofs.split_bytes.Tie as tie
+use Rattle.card.proofs.sending.split_bytes.Statement.{statement}
+use Rattle.card.proofs.sending.split_bytes.Tie as tie
 
 low-requires : tie.Need-low-requires
 low-requires c κs = search needs
@@ -32,7 +32,7 @@ low-requires-8 : tie.Need-low-requires-8
 low-requires-8 c κs = search needs
 
 returns : tie.Need-returns
-unfolding splitBytes bytesOf
+unfolding inWidths bytesOf
 returns c =
     let p = c .before .before .before .before .before .before .before .before .before .before .before .before .args .p in
     two-bytes (p .f) (c .before .before .before .before .before .before .before .before .before .before .low .ensures) (c .before .before .before .before .before .before .before .before .before .low2 .ensures)

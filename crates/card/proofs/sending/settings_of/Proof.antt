@@ -6,9 +6,9 @@ use lib.Dec.{eqb}
 use borrow.Author.Needs.{needs}
 use Rattle.cut.specs.declared.Address.{Address}
 use Rattle.cut.specs.declared.Settings.{Settings}
-use Rattle.card.specs.Calls.{settingsOf}
-use Rattle.card.proofs.settings_of.Statement.{statement}
-use Rattle.card.proofs.settings_of.Tie as tie
+use Rattle.card.specs.Sending.{settingsOf}
+use Rattle.card.proofs.sending.settings_of.Statement.{statement}
+use Rattle.card.proofs.sending.settings_of.Tie as tie
 
 abbrev withAddress : ℕ → ℕ → ℕ → Address → Settings
 withAddress fec m mtu a = record { fec = not (eqb fec 0); m = m; mtu = mtu; address = a }

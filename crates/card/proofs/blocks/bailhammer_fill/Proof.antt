@@ -5,10 +5,10 @@ use mathlib.Core.List.{List}
 use Prim.Native.Nat.{ℕ}
 use Rattle.code.specs.Calls.{BlockFilled}
 use Rattle.code.specs.declared.Filled.{Filled}
-use Rattle.card.specs.Calls.{keptOf, filledNumber, CardFilled}
+use Rattle.card.specs.Blocks.{keptOf, filledNumber, CardFilled}
 use borrow.Author.Needs.{needs}
-use Rattle.card.proofs.bailhammer_fill.Statement.{statement}
-use Rattle.card.proofs.bailhammer_fill.Tie as tie
+use Rattle.card.proofs.blocks.bailhammer_fill.Statement.{statement}
+use Rattle.card.proofs.blocks.bailhammer_fill.Tie as tie
 
 told : (kept : List ℕ) (f s k : ℕ) (block after : List ℕ) (r : ℕ) (x : List Bool) (a : Filled) → x ≡ keptOf kept → BlockFilled x f s k block after a
     → r ≡ filledNumber a → CardFilled kept f s k block after r
