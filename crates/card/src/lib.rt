@@ -1,4 +1,5 @@
 // The block calls of crate code and the sender's whole packet for C: bailhammer.h declares them, and says what each number means.
+mod packets;
 mod receiving;
 
 use base::MOST_F;
@@ -6,6 +7,9 @@ use base::Written;
 use code::Filled;
 use cut::Address;
 use cut::Settings;
+pub use packets::bailhammer_check;
+pub use packets::bailhammer_item;
+pub use packets::bailhammer_wrap;
 pub use receiving::bailhammer_receive;
 use sender::SentAll;
 use sender::Split;
