@@ -1,5 +1,6 @@
 // The card for C: card.h declares the calls, and says what each number means. Here stands what several of them share.
 mod blocks;
+mod packets;
 mod receiving;
 mod sending;
 
@@ -7,6 +8,9 @@ use base::Written;
 pub use blocks::bailhammer_encode;
 pub use blocks::bailhammer_fill;
 use cut::Address;
+pub use packets::bailhammer_check;
+pub use packets::bailhammer_item;
+pub use packets::bailhammer_wrap;
 pub use receiving::bailhammer_receive;
 pub use sending::bailhammer_fragment;
 pub use sending::bailhammer_fragments;
