@@ -6,6 +6,8 @@ use base::Written;
 use code::Filled;
 use cut::Address;
 use cut::Settings;
+pub use receiving::bailhammer_clear;
+pub use receiving::bailhammer_query;
 pub use receiving::bailhammer_receive;
 use sender::SentAll;
 use sender::Split;
