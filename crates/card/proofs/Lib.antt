@@ -5,3 +5,5 @@ pub mod ToldLaws
 pub mod PacketLaws
 pub mod ReceiveLaws
 pub mod Proved
+pub mod QueryLaws
+pub mod ReceiveProved

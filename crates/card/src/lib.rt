@@ -11,6 +11,8 @@ use cut::Address;
 pub use packets::bailhammer_check;
 pub use packets::bailhammer_item;
 pub use packets::bailhammer_wrap;
+pub use receiving::bailhammer_clear;
+pub use receiving::bailhammer_query;
 pub use receiving::bailhammer_receive;
 pub use sending::bailhammer_fragment;
 pub use sending::bailhammer_fragments;
