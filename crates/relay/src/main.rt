@@ -1,7 +1,7 @@
 // The main job at a glance: one AF packet of standard input goes over a bad line. It is cut at the house default, the line treats the
 // fragments by a fixed rule, the receiver is handed what is left, and what becomes of each fragment is a line of output. The rule:
-// neighbours are exchanged (1 0 3 2 ..); every third fragment (2, 5, 8, ..) comes twice; every fifth (4, 9, ..) is lost, as many as the
-// plan assures.
+// neighbours are exchanged (1 0 3 2 ..); every third fragment (2, 5, 8, ..) comes twice; every fifth (4, 9, ..) is lost, until as many
+// are lost as the plan assures.
 mod telling;
 
 use base::MOST_L;
@@ -66,16 +66,24 @@ fn send(packet: &[u8], i: usize, end: End, lent: &mut [u8], out: &mut [u8]) -> E
     end
 }
 
+// Whether fragment i never comes.
+fn is_lost(i: usize, assured: usize) -> bool {
+    if i % 5 == 4 { i / 5 < assured } else { false }
+}
+
+// Whether fragment i comes a second time.
+fn is_repeated(i: usize) -> bool {
+    i % 3 == 2
+}
+
 // What the line does with fragment i.
 fn carry(packet: &[u8], p: Figures, i: usize, end: End, lent: &mut [u8], out: &mut [u8]) -> End {
-    if i % 5 == 4 {
-        if i / 5 < p.assured {
-            telling::lost(i);
-            return end;
-        }
+    if is_lost(i, p.assured) {
+        telling::lost(i);
+        return end;
     }
     let once = send(packet, i, end, lent, out);
-    if i % 3 == 2 {
+    if is_repeated(i) {
         return send(packet, i, once, lent, out);
     }
     once
@@ -101,11 +109,8 @@ fn carry_all(packet: &[u8], p: Figures, lent: &mut [u8], out: &mut [u8]) -> usiz
     end.length
 }
 
-// A packet that the sender takes, in fragments of `size` bytes.
-fn relay(packet: &[u8], size: usize) {
-    let Planned::Cut(p) = cut::plan(cut::house(), packet.len()) else {
-        return;
-    };
+// A packet that is cut by p, in fragments of `size` bytes.
+fn relay(packet: &[u8], p: Figures, size: usize) {
     telling::cut(packet.len(), p.f, size, p.assured);
     let mut lent = [0u8; FOUR * PLACE];
     let mut out = [0u8; MOST_L];
@@ -113,12 +118,20 @@ fn relay(packet: &[u8], size: usize) {
     telling::end(packet, &out, length);
 }
 
+// A packet that the sender takes.
+fn plan(packet: &[u8], size: usize) {
+    match cut::plan(cut::house(), packet.len()) {
+        Planned::Refused(n) => telling::refused(n),
+        Planned::Cut(p) => relay(packet, p, size),
+    }
+}
+
 // Asks the sender for the first fragment: it refuses the packet, or tells how long each fragment is.
 fn begin(packet: &[u8]) {
     let mut datagram = [0u8; MOST_MTU];
     match sender::fragment(cut::house(), NUMBER, packet, 0, &mut datagram) {
         Sent::Refused(n) => telling::refused(n),
-        Sent::Fragment(size) => relay(packet, size),
+        Sent::Fragment(size) => plan(packet, size),
     }
 }
 
