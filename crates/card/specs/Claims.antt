@@ -9,9 +9,9 @@ use Rattle.sender.specs.Calls.{fragmentCall, fragmentsCall}
 use Rattle.card.specs.Told.{answerIn}
 
 -- each number fits two bytes
-abbrev pub InTwo : List ℕ → Type 0
-InTwo [] = Unit {0}
-InTwo (x ∷ values) = (x < 65536) × InTwo values
+pub data InTwo : List ℕ → Type 0 where
+  none : InTwo []
+  more : {x : ℕ} {values : List ℕ} → x < 65536 → InTwo values → InTwo (x ∷ values)
 
 -- clause 7.2: no figure of a plan that is not refused is cut off where it is told in two bytes,
 abbrev pub PlanWhole : Type 0

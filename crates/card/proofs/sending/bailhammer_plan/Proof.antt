@@ -21,8 +21,12 @@ same-length : tie.Need-same-length
 same-length c = search needs
 
 returns : tie.Need-returns
-returns c = let a = c .before .before .before .before .before .before .before .args in
-    told-as (twos 10) (a .told .now) _ _ _ _ (c .before .before .before .before .plan .ensures ∙ ap (λ (x : Settings). planOf x (a .l)) (c .before .before .before .before .before .settings-of .ensures)) (c .before .before .tell-plan .ensures)
+returns c =
+    let said = c .before .before in
+    let planned = said .before .before in
+    let set = planned .before in
+    let a = set .before .before .args in
+    told-as (twos 10) (a .told .now) _ _ _ _ (planned .plan .ensures ∙ ap (λ (x : Settings). planOf x (a .l)) (set .settings-of .ensures)) (said .tell-plan .ensures)
 
 pub bailhammer-plan-spec : {M : Type 1} → statement M
 bailhammer-plan-spec =

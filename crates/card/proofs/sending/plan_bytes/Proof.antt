@@ -70,16 +70,26 @@ low-requires-20 c κs = search needs
 
 returns : tie.Need-returns
 unfolding inWidths bytesOf valuesOf
-returns c = let p = c .before .before .before .before .before .before .before .before .before .before .before .before .before .before .before .before .before .before .before .before .before .before .before .before .before .before .before .before .before .before .args .plan in
-    two-bytes (p .c) (c .before .before .before .before .before .before .before .before .before .before .before .before .before .before .before .before .before .before .before .before .before .before .before .before .before .before .before .before .low .ensures) (c .before .before .before .before .before .before .before .before .before .before .before .before .before .before .before .before .before .before .before .before .before .before .before .before .before .before .before .low2 .ensures)
-    (two-bytes (p .k) (c .before .before .before .before .before .before .before .before .before .before .before .before .before .before .before .before .before .before .before .before .before .before .before .before .before .low3 .ensures) (c .before .before .before .before .before .before .before .before .before .before .before .before .before .before .before .before .before .before .before .before .before .before .before .before .low4 .ensures)
-    (two-bytes (p .z) (c .before .before .before .before .before .before .before .before .before .before .before .before .before .before .before .before .before .before .before .before .before .before .low5 .ensures) (c .before .before .before .before .before .before .before .before .before .before .before .before .before .before .before .before .before .before .before .before .before .low6 .ensures)
-    (two-bytes (p .n) (c .before .before .before .before .before .before .before .before .before .before .before .before .before .before .before .before .before .before .before .low7 .ensures) (c .before .before .before .before .before .before .before .before .before .before .before .before .before .before .before .before .before .before .low8 .ensures)
-    (two-bytes (p .h) (c .before .before .before .before .before .before .before .before .before .before .before .before .before .before .before .before .low9 .ensures) (c .before .before .before .before .before .before .before .before .before .before .before .before .before .before .before .low10 .ensures)
-    (two-bytes (p .room) (c .before .before .before .before .before .before .before .before .before .before .before .before .before .low11 .ensures) (c .before .before .before .before .before .before .before .before .before .before .before .before .low12 .ensures)
-    (two-bytes (p .total) (c .before .before .before .before .before .before .before .before .before .before .low13 .ensures) (c .before .before .before .before .before .before .before .before .before .low14 .ensures)
-    (two-bytes (p .f) (c .before .before .before .before .before .before .before .low15 .ensures) (c .before .before .before .before .before .before .low16 .ensures)
-    (two-bytes (p .s) (c .before .before .before .before .low17 .ensures) (c .before .before .before .low18 .ensures)
+returns c =
+    let c9 = c .before .before .before in
+    let c8 = c9 .before .before .before in
+    let c7 = c8 .before .before .before in
+    let c6 = c7 .before .before .before in
+    let c5 = c6 .before .before .before in
+    let c4 = c5 .before .before .before in
+    let c3 = c4 .before .before .before in
+    let c2 = c3 .before .before .before in
+    let c1 = c2 .before .before .before in
+    let p = c1 .before .before .before .args .plan in
+    two-bytes (p .c) (c1 .before .low .ensures) (c1 .low2 .ensures)
+    (two-bytes (p .k) (c2 .before .low3 .ensures) (c2 .low4 .ensures)
+    (two-bytes (p .z) (c3 .before .low5 .ensures) (c3 .low6 .ensures)
+    (two-bytes (p .n) (c4 .before .low7 .ensures) (c4 .low8 .ensures)
+    (two-bytes (p .h) (c5 .before .low9 .ensures) (c5 .low10 .ensures)
+    (two-bytes (p .room) (c6 .before .low11 .ensures) (c6 .low12 .ensures)
+    (two-bytes (p .total) (c7 .before .low13 .ensures) (c7 .low14 .ensures)
+    (two-bytes (p .f) (c8 .before .low15 .ensures) (c8 .low16 .ensures)
+    (two-bytes (p .s) (c9 .before .low17 .ensures) (c9 .low18 .ensures)
     (two-bytes (p .assured) (c .before .low19 .ensures) (c .low20 .ensures)
     refl)))))))))
 

@@ -30,7 +30,11 @@ same-length c = search needs
 
 returns : tie.Need-returns
 unfolding allNumber
-returns c = values-told (twos 4) (c .before .before .before .before .before .before .before .before .before .before .args .told .now) _ _ _ _ (ap allNumber (c .before .before .before .before .before .before .before .a .given .1)) (c .before .before .before .before .split-bytes .ensures) (c .before .before .tell-bytes .ensures)
+returns c =
+    let said = c .before .before in
+    let made = said .before .before in
+    let known = made .before .before .before in
+    values-told (twos 4) (known .before .before .before .args .told .now) _ _ _ _ (ap allNumber (known .a .given .1)) (made .split-bytes .ensures) (said .tell-bytes .ensures)
 
 returns-2 : tie.Need-returns-2
 unfolding allNumber
