@@ -6,8 +6,8 @@ use Prim.Native.Nat.{ℕ, zero, suc}
 use native.Mathlib.Omega.{arith}
 use borrow.Author.Tests.{eq-eqb, ne-eqb}
 use lib.Dec.{eqb}
-use lib.ListN.{length, getD, replicate, length-replicate}
-use Rattle.base.specs.Answer.{Answer, granted, refused, answered, Outcome, outcome, settled}
+use lib.ListN.{length, getD, length-replicate}
+use Rattle.base.specs.Answer.{Answer, granted, refused, answered, Outcome, outcome}
 use Rattle.base.specs.Bounds.{most-l}
 use Rattle.base.specs.Bytes.{bytesOf}
 use Rattle.base.specs.Written.{numberOf}
@@ -15,7 +15,7 @@ use Rattle.base.specs.declared.Written.{Written}
 use Rattle.base.specs.declared.Written.the-variants.{Done, Refused}
 use Rattle.base.proofs.Answers.{grants, refuses, writes, leaves}
 use Rattle.code.proofs.CallCases.{granted-by, refused-by}
-use Rattle.packed.specs.Packed.{table-bytes, packedOf, packCall, unpackFault, unpackCall}
+use Rattle.packed.specs.Packed.{table-bytes, packedOf, packCall, unpackCall}
 use Rattle.packed.proofs.Proved.{fresh-zeros}
 use Rattle.places.specs.declared.Place.{Place}
 use Rattle.places.specs.declared.Table.{Table}

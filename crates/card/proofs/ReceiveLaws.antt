@@ -1,8 +1,8 @@
--- What the receiver's call for C tells, and the record that it leaves. Assumes nothing.
+-- The record that crosses to C as bytes: what is none is refused, and what is packed again is all of it. Assumes nothing.
 use mathlib.Core.Path.{_≡_, refl, sym, ap, _∙_, subst}
 use mathlib.Core.Bool.{Bool, not, cond}
 use mathlib.Core.List.{List, [], _∷_, _++_, map, append-nil}
-use Prim.Native.Nat.{ℕ, zero, suc, _+_, _<_, _≤_}
+use Prim.Native.Nat.{ℕ, zero, suc, _+_, _<_}
 use native.Mathlib.Nat.{le-of-suc-le-suc}
 use native.Mathlib.Omega.{arith}
 use base.Fml.{Fml}
@@ -10,11 +10,11 @@ use borrow.Author.Tests.{eqb-true, eq-eqb, ne-eqb, le-ltb, not-false}
 use denote.Array.{each}
 use denote.Shadow.{shadow}
 use lib.Dec.{ltb, eqb}
-use lib.ListN.{length, getD, drop, drop-of-length-le}
+use lib.ListN.{length, getD, drop-of-length-le}
 use mir.Val.{Val}
-use Rattle.base.specs.Answer.{Answer, granted, refused, answered, outcome}
+use Rattle.base.specs.Answer.{Answer, answered, outcome}
 use Rattle.base.specs.Bytes.{splice}
-use Rattle.base.specs.Written.{numberOf, putOf}
+use Rattle.base.specs.Written.{numberOf}
 use Rattle.base.specs.declared.Written.{Written}
 use Rattle.base.specs.declared.Written.the-variants.{Done, Refused}
 use Rattle.base.proofs.Firsts.{clear}

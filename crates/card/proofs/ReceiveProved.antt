@@ -6,7 +6,7 @@ use Prim.Native.Nat.{ℕ, zero, suc}
 use native.Mathlib.Omega.{arith}
 use borrow.Author.Tests.{eqb-true, eqb-false, eq-eqb, ne-eqb}
 use lib.Dec.{eqb, lit<}
-use lib.ListN.{length, length-replicate, getD-replicate}
+use lib.ListN.{length-replicate, getD-replicate}
 use Rattle.base.specs.Answer.{refused, Outcome, outcome, settled}
 use Rattle.base.specs.Bounds.{most-f, most-l}
 use Rattle.base.specs.Bytes.{Bytes}
@@ -26,7 +26,7 @@ use Rattle.receiver.specs.declared.Received.the-variants.{Refused}
 use Rattle.receiver.proofs.Proved.{one-outcome, one-received}
 use Rattle.receiver.proofs.Unique.{step-settled, step-refused}
 use Rattle.card.specs.Told.{refusalIn, answerIn, bytesIn}
-use Rattle.card.specs.Receiving.{onRecord, toldAfter, Held, ReceivedWith, CardReceived, clearFor, CardCleared}
+use Rattle.card.specs.Receiving.{onRecord, toldAfter, Held, ReceivedWith, CardReceived, clearFor}
 use Rattle.card.specs.ReceiveClaims.{ZerosFresh, ClearedZeros, OneReceipt, RefusedUnchanged}
 
 -- ---- a fresh record

@@ -18,13 +18,13 @@ ZerosFresh = unpackCall (replicate table-bytes 0) ≡ (granted [], freshTable)
 abbrev pub ClearedZeros : Type 0
 ClearedZeros = (before after : List ℕ) (lent : ℕ) → CardCleared before lent after 0 → after ≡ replicate table-bytes 0
 
--- document 01, "What a promise has to say here": no second outcome fits the promise of a receiving, the bytes told and the number neither
+-- document 01, "What a promise has to say here": no second outcome fits the promise of a receiving, neither what is lent after it nor its number
 abbrev pub OneReceipt : Type 0
 OneReceipt =
     (own : Address) (datagram : List ℕ) (before after after′ : Held) (r r′ : ℕ)
     → CardReceived own datagram before after r → CardReceived own datagram before after′ r′ → (after ≡ after′) × (r ≡ r′)
 
--- card.h, "Where the number is neither 0, 13 nor 256, no byte lent is changed": nor one of the record's, which are bytes
+-- card.h, "Where the number is neither 0, 13 nor 256, no byte lent is changed": the record too, which is packed again, is the bytes it was
 abbrev pub RefusedUnchanged : Type 0
 RefusedUnchanged =
     (own : Address) (datagram : List ℕ) (before after : Held) (r : ℕ) → Bytes (before .record-bytes)

@@ -27,7 +27,8 @@ use Rattle.card.specs.Told.{refusalIn, toldIn, inWidths, toldOf, answerI
 
 -- ---- the record in its bytes
 
--- what is no record is refused, with 1 or 14 of crate packed, before anything else is looked at; what is one, the call goes on with
+-- what is no record is refused, before anything else is looked at, with the number that unpacking gives it, 1 or 14; else the call goes on
+-- with the record
 unfoldable pub onRecord {ℓ} : {A : Type ℓ} → List ℕ → (ℕ → A) → (Table → A) → A
 onRecord bytes refusal call = cond (eqb (unpackFault bytes) 0) (call (tableFrom bytes)) (refusal (unpackFault bytes))
 

@@ -21,8 +21,7 @@ ghost use Rattle.card.specs.Told.{refusalIn, inWidths, toldOf};
 ghost use Rattle.card.specs.Calls.{addressOf};
 ghost use Rattle.card.specs.Receiving.{toldBytes, toldAfter, CardReceived};
 ghost use Rattle.card.specs.Receiving.{placesWidths, seenBytes, shownTold, queriedIn, CardQueried, CardCleared};
-ghost use Rattle.packed.specs.Packed.{table-bytes, packedOf};
-ghost use Rattle.receiver.specs.Promise.{numberOf, outcome, Step};
+ghost use Rattle.receiver.specs.Promise.{numberOf};
 
 // What is told of an answer, as bytes.
 fn told_bytes(handed: u8, length: usize, missing: usize, d: Displaced) -> [u8; 8]
