@@ -1,3 +1,4 @@
 pub mod FlagLaws
 pub mod SplitLaws
 pub mod ReceiveLaws
+pub mod ItemLaws

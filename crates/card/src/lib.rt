@@ -1,4 +1,6 @@
 // The block calls of crate code and the sender's whole packet for C: bailhammer.h declares them, and says what each number means.
+mod eights;
+mod items;
 mod receiving;
 
 use base::MOST_F;
@@ -6,6 +8,7 @@ use base::Written;
 use code::Filled;
 use cut::Address;
 use cut::Settings;
+pub use items::bailhammer_find;
 pub use receiving::bailhammer_receive;
 use sender::SentAll;
 use sender::Split;
