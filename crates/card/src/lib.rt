@@ -9,6 +9,8 @@ use code::Filled;
 use cut::Address;
 use cut::Settings;
 pub use items::bailhammer_find;
+pub use items::bailhammer_walk_open;
+pub use items::bailhammer_walk_step;
 pub use receiving::bailhammer_receive;
 use sender::SentAll;
 use sender::Split;

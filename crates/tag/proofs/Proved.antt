@@ -1,17 +1,18 @@
 -- The claims of specs/Claims.antt, each by citation. Assumes nothing.
 use Prim.Native.Nat.{ℕ, zero, suc}
 use mathlib.Core.Path.{_≡_, refl, sym, ap, _∙_}
-use mathlib.Core.List.{List, [], _∷_}
+use mathlib.Core.List.{[], _∷_}
 use native.Mathlib.Nat.{le-refl}
 use lib.Dec.{eqb}
-use lib.ListN.{getD, take, replicate}
+use lib.ListN.{take, replicate}
 use borrow.Author.Tests.{eqb-true, eqb-false}
-use Rattle.base.specs.Answer.{answered}
+use Rattle.base.specs.Answer.{granted, answered}
 use Rattle.base.proofs.Logic.{either}
 use Rattle.item.specs.declared.Item.{Item}
 use Rattle.item.specs.declared.Step.{Step}
-use Rattle.item.specs.Item.{valuesOf}
 use Rattle.item.specs.declared.Step.the-variants as step
+use Rattle.item.specs.Item.{valuesOf, numberOf}
+use Rattle.item.proofs.Proved.{one-step}
 use Rattle.tag.specs.declared.Located.the-variants as located
 use Rattle.tag.specs.declared.Opened.{Opened}
 use Rattle.tag.specs.declared.Opened.the-variants as opened
@@ -40,17 +41,9 @@ one-sought (sought.Refused n) (sought.Found b) e = cc
 one-sought (sought.Refused n) (sought.Refused m) e = cc
 
 -- an item is what it tells
-itemFrom : List ℕ → Item
-itemFrom values = record {
-  name = getD values 0 0;
-  bits = record { 0 = getD values 1 0 };
-  from = getD values 2 0;
-  len = record { 0 = getD values 3 0 };
-}
-
 one-item : (i j : Item) → valuesOf i ≡ valuesOf j → i ≡ j
-unfolding itemFrom
-one-item i j e = ap itemFrom e
+unfolding numberOf
+one-item i j e = let steps : step.Item i ≡ step.Item j = one-step (step.Item i) (step.Item j) (ap granted e) in cc
 
 pub one-located : OneLocated
 unfolding locatedNumber

@@ -20,10 +20,11 @@ same-length c = search needs
 returns : tie.Need-returns
 unfolding locateCall
 returns c =
-    let same = ap locatedNumber (c .before .before .before .before .locate .ensures) in (
-      c .before .before .tell-found .ensures .0 ∙ ap refusalIn same,
-      c .before .before .tell-found .ensures .1 ∙ ap (λ (a : Answer). toldOf found-widths a (c .before .before .before .before .before .before .before .before .args .told .now)) same,
-    )
+    let told = c .before .before in
+    let found = told .before .before in
+    let before = found .before .before .before .before .args .told .now in
+    let same = ap locatedNumber (found .locate .ensures) in
+    (told .tell-found .ensures .0 ∙ ap refusalIn same, told .tell-found .ensures .1 ∙ ap (λ (a : Answer). toldOf found-widths a before) same)
 
 pub bailhammer-find-spec : {M : Type 1} → statement M
 bailhammer-find-spec = tie.close (tie.spec locate-requires tell-found-requires same-length returns)

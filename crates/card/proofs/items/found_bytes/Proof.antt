@@ -63,7 +63,11 @@ array-read-t55 : tie.Need-array-read-t55
 array-read-t55 c = search needs
 
 returns : tie.Need-returns
-returns c = found-are (c .before .before .before .args .which) (c .before .before .before .args .i) (omega (arith, c .before .before .before .fits .which)) (c .before .before .bytes4 .ensures) (c .before .bytes8 .ensures) (c .bytes42 .ensures)
+returns c =
+    let bits = c .before .before in
+    let start = bits .before in
+    let a = start .args in
+    found-are (a .which) (a .i) (omega (arith, start .fits .which)) (bits .bytes4 .ensures) (c .before .bytes8 .ensures) (c .bytes42 .ensures)
 
 pub found-bytes-spec : {M : Type 1} → statement M
 found-bytes-spec =

@@ -42,18 +42,28 @@ same-length c = search needs
 
 returns : tie.Need-returns
 unfolding locatedNumber
-returns c = told-by found-widths _ (c .before .before .before .before .before .before .before .before .before .before .args .told .now) (ap locatedNumber (c .before .before .before .before .before .before .before .l .given .1)) (c .before .before .before .before .found-bytes .ensures) (c .before .before .tell-bytes .ensures)
+returns c =
+    let said = c .before .before in
+    let written = said .before .before in
+    let known = written .before .before .before in
+    told-by found-widths _ (known .before .before .before .args .told .now) (ap locatedNumber (known .l .given .1)) (written .found-bytes .ensures) (said .tell-bytes .ensures)
 
 same-length-2 : tie.Need-same-length-2
 same-length-2 c = search needs
 
 returns-2 : tie.Need-returns-2
 unfolding locatedNumber
-returns-2 c = told-by found-widths _ (c .before .before .before .before .before .before .before .before .before .before .args .told .now) (ap locatedNumber (c .before .before .before .before .before .before .before .l2 .given .1)) (c .before .before .before .before .found-bytes2 .ensures) (c .before .before .tell-bytes2 .ensures)
+returns-2 c =
+    let said = c .before .before in
+    let written = said .before .before in
+    let known = written .before .before .before in
+    told-by found-widths _ (known .before .before .before .args .told .now) (ap locatedNumber (known .l2 .given .1)) (written .found-bytes2 .ensures) (said .tell-bytes2 .ensures)
 
 returns-3 : tie.Need-returns-3
 unfolding locatedNumber
-returns-3 c = untold-by found-widths (c .before .before .before .before .args .told .now) (ap locatedNumber (c .before .l3 .given .1))
+returns-3 c =
+    let known = c .before in
+    untold-by found-widths (known .before .before .before .args .told .now) (ap locatedNumber (known .l3 .given .1))
 
 pub tell-found-spec : {M : Type 1} → statement M
 tell-found-spec =
