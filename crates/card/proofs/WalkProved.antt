@@ -1,11 +1,11 @@
 -- The claims of specs/WalkClaims.antt. Assumes nothing.
 use mathlib.Core.Path.{_≡_, refl, sym, ap, _∙_, subst}
 use mathlib.Core.Bool.{Bool, true, false, cond}
-use mathlib.Core.List.{List, [], _∷_, _++_}
+use mathlib.Core.List.{List, [], _∷_}
 use mathlib.Core.Logic.{_⊎_, inl, inr}
 use Prim.Native.Nat.{ℕ, zero, suc, _+_, _-_, _^_, _<_, min}
 use lib.Dec.{ltb, leb}
-use lib.ListN.{length, getD}
+use lib.ListN.{getD}
 use Rattle.base.specs.Answer.{Answer}
 use Rattle.base.specs.Bytes.{numberAt, bytesOf}
 use Rattle.base.proofs.Numbers.{back-at}
@@ -20,8 +20,8 @@ use Rattle.walk.specs.Names.{deepest, namesOf}
 use Rattle.walk.specs.Step.{endOf, stepFrom, walkStep}
 use Rattle.walk.proofs.StepCases.{step-item, step-end, step-refused}
 use Rattle.card.specs.Told.{refusalIn, inWidths}
-use Rattle.card.specs.Items.{walker-widths, walker-bytes, walkerBytes, walkerFrom, steppedNumber, stepped, walkStepCall}
-use Rattle.card.specs.WalkClaims.{TypedWalk, ReadBack, StepNumbers}
+use Rattle.card.specs.Items.{walker-widths, walkerBytes, walkerFrom, steppedNumber, stepped}
+use Rattle.card.specs.WalkClaims.{ReadBack, StepNumbers}
 use Rattle.card.proofs.ItemLaws.{five, walker-read, answers}
 
 -- ---- reading back

@@ -22,10 +22,11 @@ found-widths = 1 ∷ 0 ∷ 4 ∷ 8 ∷ 4 ∷ []
 
 -- ---- a walk as bytes
 
--- its seven numbers have eight bytes each
+-- its seven numbers have eight bytes each,
 abbrev pub walker-widths : List ℕ
 walker-widths = 8 ∷ 8 ∷ 8 ∷ 8 ∷ 8 ∷ 8 ∷ 8 ∷ []
 
+-- so it takes 56
 abbrev pub walker-bytes : ℕ
 walker-bytes = 56
 

@@ -18,8 +18,11 @@ same-length c = search needs
 
 returns : tie.Need-returns
 returns c =
-    let a = c .before .before .before .before .before .before .before .args in
-    eight-put (a .d .now) (a .at) (a .x) (c .before .before .put .result) (c .before .before .before .before .before .before .before .pre) (c .before .before .before .before .bytes8 .ensures) (c .before .before .put .ensures)
+    let done = c .before .before in
+    let written = done .before .before in
+    let start = written .before .before .before in
+    let a = start .args in
+    eight-put (a .d .now) (a .at) (a .x) (done .put .result) (start .pre) (written .bytes8 .ensures) (done .put .ensures)
 
 pub put8-spec : {M : Type 1} → statement M
 put8-spec =

@@ -27,7 +27,9 @@ add-result : tie.Need-add-result
 add-result c = search needs
 
 returns : tie.Need-returns
-returns c = eight-read (c .before .before .before .before .args .s .now) (c .before .before .before .before .args .i) (c .before .read4 .ensures) (c .read42 .ensures)
+returns c =
+    let a = c .before .before .before .before .args in
+    eight-read (a .s .now) (a .i) (c .before .read4 .ensures) (c .read42 .ensures)
 
 returns-2 : tie.Need-returns-2
 returns-2 c = number-past 8 (c .before .before .args .s .now) (c .before .before .args .i) (c .if1 .left)
