@@ -7,3 +7,5 @@ pub mod ReceiveLaws
 pub mod Proved
 pub mod QueryLaws
 pub mod ReceiveProved
+pub mod ItemLaws
+pub mod WalkProved

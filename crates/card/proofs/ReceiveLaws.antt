@@ -69,7 +69,7 @@ typed-place l us s i b =
     b
 
 -- bytes that are as many as all
-whole : (d s : List ℕ) → length s ≡ length d → splice d 0 s ≡ s
+pub whole : (d s : List ℕ) → length s ≡ length d → splice d 0 s ≡ s
 unfolding splice
 whole d s e = ap (λ (l : List ℕ). s ++ l) (drop-of-length-le d {i = 0 + length s} (omega arith)) ∙ append-nil s
 

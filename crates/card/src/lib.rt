@@ -1,6 +1,8 @@
 // The card for C: card.h declares the calls, and says what each number means. Here stands what several of them share.
 mod blocks;
 mod packets;
+mod eights;
+mod items;
 mod receiving;
 mod sending;
 
@@ -13,6 +15,9 @@ pub use packets::bailhammer_item;
 pub use packets::bailhammer_wrap;
 pub use receiving::bailhammer_clear;
 pub use receiving::bailhammer_query;
+pub use items::bailhammer_find;
+pub use items::bailhammer_walk_open;
+pub use items::bailhammer_walk_step;
 pub use receiving::bailhammer_receive;
 pub use sending::bailhammer_fragment;
 pub use sending::bailhammer_fragments;
