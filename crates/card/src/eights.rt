@@ -6,14 +6,14 @@ ghost use lib.ListN.{length};
 ghost use Rattle.base.specs.Bytes.{splice, numberAt, bytesOf};
 
 // The four low bytes of a number.
-pub fn bytes4(x: usize) -> [u8; 4]
+pub(crate) fn bytes4(x: usize) -> [u8; 4]
     ensures { λ r. ⌜ r ≡ bytesOf 4 x ⌝ }
 {
     [low(x / 16777216), low(x / 65536), low(x / 256), low(x)]
 }
 
 // The eight bytes of a number.
-pub fn bytes8(x: usize) -> [u8; 8]
+pub(crate) fn bytes8(x: usize) -> [u8; 8]
     ensures { λ r. ⌜ r ≡ bytesOf 8 x ⌝ }
 {
     let h = bytes4(x / 4294967296);
@@ -22,7 +22,7 @@ pub fn bytes8(x: usize) -> [u8; 8]
 }
 
 // Writes the eight bytes of a number from `at` on.
-pub fn put8(d: &mut [u8], at: usize, x: usize)
+pub(crate) fn put8(d: &mut [u8], at: usize, x: usize)
     requires { ⌜ at + 8 ≤ length (now d) ⌝ }
     ensures { λ _. ⌜ now (d .exit) ≡ splice (now (d .entry)) at (bytesOf 8 x) ⌝ }
 {
@@ -30,7 +30,7 @@ pub fn put8(d: &mut [u8], at: usize, x: usize)
 }
 
 // The number in the eight bytes from i on; a byte past the end counts as 0.
-pub fn read8(s: &[u8], i: usize) -> usize
+pub(crate) fn read8(s: &[u8], i: usize) -> usize
     ensures { λ r. ⌜ r ≡ numberAt 8 (now (s .entry)) i ⌝ }
 {
     if i < s.len() {

@@ -1,8 +1,8 @@
 // The card for C: card.h declares the calls, and says what each number means. Here stands what several of them share.
 mod blocks;
-mod packets;
 mod eights;
 mod items;
+mod packets;
 mod receiving;
 mod sending;
 
@@ -10,14 +10,14 @@ use base::Written;
 pub use blocks::bailhammer_encode;
 pub use blocks::bailhammer_fill;
 use cut::Address;
+pub use items::bailhammer_find;
+pub use items::bailhammer_walk_open;
+pub use items::bailhammer_walk_step;
 pub use packets::bailhammer_check;
 pub use packets::bailhammer_item;
 pub use packets::bailhammer_wrap;
 pub use receiving::bailhammer_clear;
 pub use receiving::bailhammer_query;
-pub use items::bailhammer_find;
-pub use items::bailhammer_walk_open;
-pub use items::bailhammer_walk_step;
 pub use receiving::bailhammer_receive;
 pub use sending::bailhammer_fragment;
 pub use sending::bailhammer_fragments;
