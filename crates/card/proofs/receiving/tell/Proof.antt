@@ -1,16 +1,23 @@
 -- `tell` meets its contract: a refusal tells nothing. Assumes nothing.
-use mathlib.Core.Path.{sym, ap, _∙_}
+use mathlib.Core.Path.{_≡_, sym, ap, _∙_}
+use mathlib.Core.List.{List}
 use Prim.Native.Nat.{ℕ}
+use Rattle.places.specs.declared.Displaced.{Displaced}
 use Rattle.receiver.specs.Promise.{numberOf}
 use Rattle.receiver.specs.declared.Received.{Received}
 use Rattle.card.specs.Told.{toldIn}
-use Rattle.card.specs.Receiving.{toldAfter}
+use Rattle.card.specs.Receiving.{toldBytes, toldAfter}
 use borrow.Author.Needs.{needs}
 use Rattle.card.proofs.receiving.tell.Statement.{statement}
 use Rattle.card.proofs.receiving.tell.Tie as tie
 
 abbrev number : Received → ℕ
 number a = numberOf a .0
+
+-- what is told, with its figures by name
+told-in : (handed n missing : ℕ) (d : Displaced) (before after bytes : List ℕ) → bytes ≡ toldBytes handed n missing d
+    → after ≡ toldIn before bytes → after ≡ toldIn before (toldBytes handed n missing d)
+told-in handed n missing d before after bytes e h = h ∙ ap (toldIn before) e
 
 enum-known-a : tie.Need-enum-known-a
 enum-known-a c = search needs
@@ -64,7 +71,7 @@ returns c =
     let known = said .before .before .before .before .before .a .given in
     let before = said .before .before .before .before .before .before .before .before .args .told .now in (
       sym (ap number (known .1)),
-      said .tell-bytes .ensures ∙ ap (toldIn before) (said .before .before .told-bytes .ensures) ∙ sym (ap (λ (x : Received). toldAfter x before) (known .1)),
+      told-in 0 0 0 _ before _ _ (said .before .before .told-bytes .ensures) (said .tell-bytes .ensures) ∙ sym (ap (λ (x : Received). toldAfter x before) (known .1)),
     )
 
 same-length-2 : tie.Need-same-length-2
@@ -77,7 +84,7 @@ returns-2 c =
     let known = said .before .before .before .before .before .a2 .given in
     let before = said .before .before .before .before .before .before .before .before .args .told .now in (
       sym (ap number (known .1)),
-      said .tell-bytes2 .ensures ∙ ap (toldIn before) (said .before .before .told-bytes2 .ensures) ∙ sym (ap (λ (x : Received). toldAfter x before) (known .1)),
+      told-in 1 (known .0 .0) (known .0 .1 .0) _ before _ _ (said .before .before .told-bytes2 .ensures) (said .tell-bytes2 .ensures) ∙ sym (ap (λ (x : Received). toldAfter x before) (known .1)),
     )
 
 same-length-3 : tie.Need-same-length-3
@@ -90,7 +97,7 @@ returns-3 c =
     let known = said .before .before .before .before .before .a3 .given in
     let before = said .before .before .before .before .before .before .before .before .args .told .now in (
       sym (ap number (known .1)),
-      said .tell-bytes3 .ensures ∙ ap (toldIn before) (said .before .before .told-bytes3 .ensures) ∙ sym (ap (λ (x : Received). toldAfter x before) (known .1)),
+      told-in 0 0 0 _ before _ _ (said .before .before .told-bytes3 .ensures) (said .tell-bytes3 .ensures) ∙ sym (ap (λ (x : Received). toldAfter x before) (known .1)),
     )
 
 returns-4 : tie.Need-returns-4
