@@ -8,7 +8,7 @@
 #include <sys/utsname.h>
 #include <time.h>
 
-#include "bailhammer.h"
+#include "card.h"
 
 enum {
     PACKET = 8192,      /* bytes of the packet */

@@ -20,6 +20,7 @@ pub record Back (seq : ℕ) (cf : Bool) (payload : List ℕ) : Type 0 where
   pub checked : checkCall (packetOf seq cf payload) ≡ granted (seq ∷ bit cf ∷ minor ∷ length payload ∷ [])
   pub same : payloadOf (packetOf seq cf payload) ≡ payload
 
+-- so it is of every SEQ, CF and payload that can be wrapped
 abbrev pub A1 : Type 0
 A1 = (seq : ℕ) (cf : Bool) (payload : List ℕ) → seq < 65536 → Bytes payload → length payload ≤ most-payload → Back seq cf payload
 

@@ -16,17 +16,19 @@ sync = 16710
 abbrev pub packetType : ℕ
 packetType = 84
 
--- clause 6.2: the revision that is written; the major one is the only one that is read
+-- clause 6.2: the major revision that is written, the only one that is read
 abbrev pub major : ℕ
 major = 1
 
+-- and the minor revision that is written; any is read
 abbrev pub minor : ℕ
 minor = 0
 
--- clause 6.1: the bytes before the payload, and those of the CRC behind it: together as many as the shortest packet has
+-- clause 6.1: the bytes before the payload; with those of the CRC as many as the shortest packet has
 abbrev pub headerBytes : ℕ
 headerBytes = 10
 
+-- clause 6.1: the bytes of the CRC behind the payload
 abbrev pub crcBytes : ℕ
 crcBytes = 2
 
@@ -36,19 +38,23 @@ most-payload = most-l - least-l
 
 -- ---- what stands in a packet
 
--- clause 6.1: the fields of the header
+-- clause 6.1, the fields of the header: the two bytes "AF"
 abbrev pub syncOf : List ℕ → ℕ
 syncOf s = numberAt 2 s 0
 
+-- LEN: the bytes of the payload
 abbrev pub lenOf : List ℕ → ℕ
 lenOf s = numberAt 4 s 2
 
+-- SEQ
 abbrev pub seqOf : List ℕ → ℕ
 seqOf s = numberAt 2 s 6
 
+-- AR: CF and the revision
 abbrev pub arOf : List ℕ → ℕ
 arOf s = numberAt 1 s 8
 
+-- PT: the packet type
 abbrev pub ptOf : List ℕ → ℕ
 ptOf s = numberAt 1 s 9
 
@@ -56,9 +62,11 @@ ptOf s = numberAt 1 s 9
 abbrev pub cfOf : List ℕ → Bool
 cfOf s = eqb (arOf s / 128) 1
 
+-- the 3 bits of the major revision
 abbrev pub majorOf : List ℕ → ℕ
 majorOf s = arOf s / 16 % 8
 
+-- the 4 bits of the minor revision
 abbrev pub minorOf : List ℕ → ℕ
 minorOf s = arOf s % 16
 
@@ -70,6 +78,7 @@ payloadOf s = take (length s - least-l) (drop headerBytes s)
 unfoldable pub coveredOf : List ℕ → List ℕ
 coveredOf s = take (length s - crcBytes) s
 
+-- clause 6.1: the CRC, behind what it covers
 abbrev pub crcOf : List ℕ → ℕ
 crcOf s = numberAt crcBytes s (length s - crcBytes)
 

@@ -1,10 +1,11 @@
 -- Document 01, "Bounds": the figures that several layers share. Each stands here and nowhere else.
 use Prim.Native.Nat.{ℕ}
 
--- bytes of an AF packet
+-- bytes of an AF packet: the least
 abbrev pub least-l : ℕ
 least-l = 12
 
+-- "AF packet 12 to 8,192 bytes": the most
 abbrev pub most-l : ℕ
 most-l = 8192
 
@@ -16,16 +17,18 @@ most-f = 256
 abbrev pub place : ℕ
 place = 12288
 
--- data bytes of a chunk, and its parity bytes (clause 7.3.1: p = 48)
+-- data bytes of a chunk
 abbrev pub most-k : ℕ
 most-k = 207
 
+-- parity bytes of a chunk (clause 7.3.1: p = 48)
 abbrev pub parity : ℕ
 parity = 48
 
--- losses that may be asked for, and bytes of a datagram
+-- losses that may be asked for
 abbrev pub most-m : ℕ
 most-m = 5
 
+-- bytes of a datagram
 abbrev pub most-mtu : ℕ
 most-mtu = 16384

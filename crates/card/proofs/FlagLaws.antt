@@ -8,7 +8,7 @@ use native.Mathlib.Nat.{add-zero, eq-or-lt-of-le}
 use native.Mathlib.Omega.{arith}
 use lib.ListN.{length, getD, set}
 use lib.Seq.{getD-set-same, getD-set-other}
-use Rattle.card.specs.Calls.{flags}
+use Rattle.card.specs.Blocks.{flags}
 
 -- the first i elements are the test's values
 pub record Flags (test : ℕ → Bool) (xs : List Bool) (i : ℕ) : Type 0 where

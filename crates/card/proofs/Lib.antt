@@ -1,3 +1,11 @@
 pub mod FlagLaws
 pub mod SplitLaws
+pub mod SendLaws
+pub mod ToldLaws
+pub mod PacketLaws
 pub mod ReceiveLaws
+pub mod Proved
+pub mod QueryLaws
+pub mod ReceiveProved
+pub mod ItemLaws
+pub mod WalkProved

@@ -1,20 +1,20 @@
--- What the receiver's call for C tells, and the record that it leaves. Assumes nothing.
+-- The record that crosses to C as bytes: what is none is refused, and what is packed again is all of it. Assumes nothing.
 use mathlib.Core.Path.{_≡_, refl, sym, ap, _∙_, subst}
 use mathlib.Core.Bool.{Bool, not, cond}
 use mathlib.Core.List.{List, [], _∷_, _++_, map, append-nil}
-use Prim.Native.Nat.{ℕ, zero, suc, _+_, _<_, _≤_}
+use Prim.Native.Nat.{ℕ, zero, suc, _+_, _<_}
 use native.Mathlib.Nat.{le-of-suc-le-suc}
 use native.Mathlib.Omega.{arith}
 use base.Fml.{Fml}
-use borrow.Author.Tests.{eqb-true, eq-eqb, le-ltb, not-false}
+use borrow.Author.Tests.{eqb-true, eq-eqb, ne-eqb, le-ltb, not-false}
 use denote.Array.{each}
 use denote.Shadow.{shadow}
 use lib.Dec.{ltb, eqb}
-use lib.ListN.{length, getD, drop, drop-of-length-le}
+use lib.ListN.{length, getD, drop-of-length-le}
 use mir.Val.{Val}
-use Rattle.base.specs.Answer.{Answer, granted, refused, answered, outcome}
-use Rattle.base.specs.Bytes.{bytesOf, splice}
-use Rattle.base.specs.Written.{numberOf, putOf}
+use Rattle.base.specs.Answer.{Answer, answered, outcome}
+use Rattle.base.specs.Bytes.{splice}
+use Rattle.base.specs.Written.{numberOf}
 use Rattle.base.specs.declared.Written.{Written}
 use Rattle.base.specs.declared.Written.the-variants.{Done, Refused}
 use Rattle.base.proofs.Firsts.{clear}
@@ -22,8 +22,6 @@ use Rattle.code.proofs.CallCases.{granted-by, refused-by}
 use Rattle.cut.specs.declared.Address.{Address}
 use Rattle.packed.specs.Packed.{table-bytes, packedOf, packCall, tableFrom, badRecord, unpackFault, unpackCall}
 use Rattle.packed.specs.Claims.{Typed}
-use Rattle.places.specs.declared.Displaced.{Displaced}
-use Rattle.places.specs.declared.Displaced.the-variants.{None, Number}
 use Rattle.places.specs.declared.Table.{Table}
 use Rattle.places.specs.declared.Place.{Place}
 use Rattle.places.specs.Places.{freePlace, freshTable}
@@ -32,23 +30,8 @@ use Rattle.places.proofs.Records.{as-long}
 use Rattle.receiver.specs.Promise as promise
 use Rattle.receiver.specs.Promise.{Step}
 use Rattle.receiver.specs.declared.Received.{Received}
-use Rattle.card.specs.Receiving.{displacedBytes, toldBytes, toldIn, toldAfter, Held, CardReceived, received}
-use Rattle.card.proofs.SplitLaws.{bytesLeft, chosen, put-where-room}
-
--- ---- what is told
-
-eight : (handed n missing : ℕ) (d : Displaced) → length (toldBytes handed n missing d) ≡ 8
-unfolding toldBytes displacedBytes bytesOf
-eight handed n missing None = refl
-eight handed n missing (Number m) = refl
-
--- what is told of an answer, put where it has place
-pub told-in : (handed n missing : ℕ) (d : Displaced) (before after bytes : List ℕ) (w : Written) → bytes ≡ toldBytes handed n missing d
-    → outcome (numberOf w) after ≡ putOf before 0 bytes → after ≡ toldIn before (toldBytes handed n missing d)
-unfolding toldIn
-told-in handed n missing d before after bytes w e h =
-    put-where-room before after (toldBytes handed n missing d) 8 w (eight handed n missing d)
-    (h ∙ ap (λ (l : List ℕ). putOf before 0 l) e)
+use Rattle.card.specs.Receiving.{onRecord, toldAfter, Held, ReceivedWith, CardReceived}
+use Rattle.card.proofs.SplitLaws.{bytesLeft, chosen}
 
 -- ---- the record
 
@@ -86,19 +69,19 @@ typed-place l us s i b =
     b
 
 -- bytes that are as many as all
-whole : (d s : List ℕ) → length s ≡ length d → splice d 0 s ≡ s
+pub whole : (d s : List ℕ) → length s ≡ length d → splice d 0 s ≡ s
 unfolding splice
 whole d s e = ap (λ (l : List ℕ). s ++ l) (drop-of-length-le d {i = 0 + length s} (omega arith)) ∙ append-nil s
 
 -- what is unpacked has the length of a record,
-long-record : (s : List ℕ) → unpackFault s ≡ 0 → length s ≡ table-bytes
+pub long-record : (s : List ℕ) → unpackFault s ≡ 0 → length s ≡ table-bytes
 unfolding unpackFault
 long-record s none =
     eqb-true (length s) table-bytes
     (not-false (eqb (length s) table-bytes) (clear (not (eqb (length s) table-bytes)) 1 ((badRecord s, 14) ∷ []) (λ (e : 1 ≡ 0). omega arith) none))
 
 -- and what is packed there is all of it
-packed-there : (t : Table) (s y : List ℕ) (w : Written) → length (packedOf t) ≡ table-bytes → length s ≡ table-bytes
+pub packed-there : (t : Table) (s y : List ℕ) (w : Written) → length (packedOf t) ≡ table-bytes → length s ≡ table-bytes
     → outcome (numberOf w) y ≡ packCall t s → y ≡ packedOf t
 unfolding packCall bytesLeft
 packed-there t s y w long as-long e =
@@ -107,18 +90,19 @@ packed-there t s y w long as-long e =
     ∙ ap (λ (b : Bool). cond b s (splice s 0 (packedOf t))) (le-ltb (length s) table-bytes (omega arith))
     ∙ whole s (packedOf t) (long ∙ sym as-long)
 
--- ---- the two ends of the call
+-- ---- the ends of the calls
 
 module _ (s : List ℕ) (w : Written) (t : Table) (e : (numberOf w, t) ≡ unpackCall s) where
   answer-is : numberOf w ≡ answered (unpackFault s) []
   unfolding unpackCall
   answer-is = ap (λ (x : Answer × Table). x .0) e
 
-  pub refused-record : (n : ℕ) → w ≡ Refused n → (n ≡ unpackFault s) × (unpackFault s ≡ 0 → ⊥)
-  unfolding numberOf
-  refused-record n is =
+  pub refused-record {ℓ} : {A : Type ℓ} (refusal : ℕ → A) (call : Table → A) (n : ℕ) → w ≡ Refused n → onRecord s refusal call ≡ refusal n
+  unfolding numberOf onRecord
+  refused-record refusal call n is =
       let due = refused-by n (unpackFault s) [] (sym (ap numberOf is) ∙ answer-is) in
-      (due .0, λ (z : unpackFault s ≡ 0). omega (arith, due .0, due .1))
+      let some : unpackFault s ≡ 0 → ⊥ = λ z. omega (arith, due .0, due .1) in
+      ap (λ (b : Bool). cond b (call (tableFrom s)) (refusal (unpackFault s))) (ne-eqb (unpackFault s) 0 some) ∙ ap refusal (sym (due .0))
 
   pub good-record : w ≡ Done → (unpackFault s ≡ 0) × (t ≡ tableFrom s)
   unfolding numberOf unpackCall
@@ -127,18 +111,32 @@ module _ (s : List ℕ) (w : Written) (t : Table) (e : (numberOf w, t) ≡ unpac
       let there : t ≡ cond (eqb (unpackFault s) 0) (tableFrom s) freshTable = ap (λ (x : Answer × Table). x .1) e in
       (none, there ∙ ap (λ (b : Bool). cond b (tableFrom s) freshTable) (eq-eqb (unpackFault s) 0 none))
 
-module _ (own o : Address) (datagram : List ℕ) (before after : Held) (r : ℕ) where
-  pub received-there : (w v : Written) (x t : Table) (a : Received) → (numberOf w, x) ≡ unpackCall (before .record-bytes) → w ≡ Done → o ≡ own
+  pub taken-record {ℓ} : {A : Type ℓ} (refusal : ℕ → A) (call : Table → A) → w ≡ Done → onRecord s refusal call ≡ call t
+  unfolding onRecord
+  taken-record refusal call is =
+      let good = good-record is in
+      ap (λ (b : Bool). cond b (call (tableFrom s)) (refusal (unpackFault s))) (eq-eqb (unpackFault s) 0 (good .0)) ∙ ap call (sym (good .1))
+
+module _ (own : Address) (datagram : List ℕ) (before after : Held) (r : ℕ) (w : Written) (x : Table)
+    (e : (numberOf w, x) ≡ unpackCall (before .record-bytes)) where
+  pub receive-refused : w ≡ Refused r → after ≡ before → CardReceived own datagram before after r
+  unfolding CardReceived
+  receive-refused is same = subst (λ (X : Type 0). X) (sym (refused-record (before .record-bytes) w x e _ _ r is)) (refl, same)
+
+  pub received-there : (o : Address) (v : Written) (t : Table) (a : Received) → w ≡ Done → o ≡ own
       → Step o (record { table = x; bytes = before .lent }) datagram (before .out) (promise.outcome a t (after .lent) (after .out))
       → length (packedOf t) ≡ table-bytes → outcome (numberOf v) (after .record-bytes) ≡ packCall t (before .record-bytes)
       → (r ≡ promise.numberOf a .0) × (after .told ≡ toldAfter a (before .told)) → CardReceived own datagram before after r
-  received-there w v x t a e done is-own step long packed said =
-      let good = good-record (before .record-bytes) w x e done in
+  unfolding CardReceived
+  received-there o v t a done is-own step long packed said =
+      let s : List ℕ = before .record-bytes in
       let y : promise.Outcome = promise.outcome a t (after .lent) (after .out) in
-      let stepped : Step own (record { table = tableFrom (before .record-bytes); bytes = before .lent }) datagram (before .out) y =
-      subst (λ (z : Table). Step own (record { table = z; bytes = before .lent }) datagram (before .out) y) (good .1)
-      (subst (λ (z : Address). Step z (record { table = x; bytes = before .lent }) datagram (before .out) y) is-own step) in
-      received a t (good .0) stepped
-      (packed-there t (before .record-bytes) (after .record-bytes) v long (long-record (before .record-bytes) (good .0)) packed)
-      (said .1)
-      (said .0)
+      let with-record : ReceivedWith own datagram before after r x = record {
+        answer = a;
+        table = t;
+        step = subst (λ (z : Address). Step z (record { table = x; bytes = before .lent }) datagram (before .out) y) is-own step;
+        packed = packed-there t s (after .record-bytes) v long (long-record s (good-record s w x e done .0)) packed;
+        told = said .1;
+        number = said .0;
+      } in
+      subst (λ (X : Type 0). X) (sym (taken-record s w x e _ _ done)) with-record

@@ -1,4 +1,4 @@
--- The split of a buffer of fragments as bytes, and where they are told. Assumes nothing.
+-- Numbers as bytes, and bytes that are put where they have place. Assumes nothing.
 use mathlib.Core.Path.{_≡_, refl, sym, ap, ap₂, _∙_}
 use mathlib.Core.Bool.{Bool, true, false, cond}
 use mathlib.Core.List.{List, [], _∷_, _++_}
@@ -11,9 +11,6 @@ use Rattle.base.specs.Bytes.{splice, bytesOf}
 use Rattle.base.specs.Tests.{first}
 use Rattle.base.specs.Written.{numberOf, putFault, putOf}
 use Rattle.base.specs.declared.Written.{Written}
-use Rattle.sender.specs.declared.Split.{Split}
-use Rattle.sender.specs.declared.SentAll.the-variants.{Fragments}
-use Rattle.card.specs.Calls.{splitBytes, splitTold}
 
 -- one byte more in front, and two
 pub one-byte : (x : ℕ) {rest more : List ℕ} → x < 256 → rest ≡ more → x ∷ rest ≡ bytesOf 1 x ++ more
@@ -46,10 +43,3 @@ unfolding bytesLeft
 put-where-room before after bytes n w long h =
     ap bytesLeft h ∙ put-left before bytes
     ∙ ap (λ (x : ℕ). cond (ltb (length before) x) before (splice before 0 bytes)) (zero-add (length bytes) ∙ long)
-
--- the split's bytes that were put where they have place are told
-pub told : (p : Split) (before after bytes : List ℕ) (w : Written) → bytes ≡ splitBytes p → outcome (numberOf w) after ≡ putOf before 0 bytes
-    → after ≡ splitTold (Fragments p) before
-unfolding splitTold splitBytes bytesOf
-told p before after bytes w e h =
-    put-where-room before after bytes 8 w (ap length e) h ∙ ap (λ (l : List ℕ). cond (ltb (length before) 8) before (splice before 0 l)) e

@@ -1,19 +1,92 @@
--- What the receiver's call for C answers: its answer as one number, and what C holds for it as bytes (document 01, "The four places").
+-- What the receiver's calls for C answer: their answers as numbers, and what C holds for them as bytes (document 01, "The four places").
 use mathlib.Core.Path.{_≡_}
 use mathlib.Core.Bool.{cond}
 use mathlib.Core.List.{List, [], _∷_, _++_}
 use Prim.Native.Nat.{ℕ}
-use lib.Dec.{ltb}
-use lib.ListN.{length}
-use Rattle.base.specs.Bytes.{splice, bytesOf}
+use lib.Dec.{eqb}
+use Rattle.base.specs.Answer.{Answer, granted, refused, answered, Outcome, settled}
+use Rattle.base.specs.Answer as answers
+use Rattle.base.specs.Bounds.{most-l}
+use Rattle.base.specs.Bytes.{bytesOf}
 use Rattle.cut.specs.declared.Address.{Address}
+use Rattle.places.specs.declared.Place.{Place}
 use Rattle.places.specs.declared.Table.{Table}
 use Rattle.places.specs.declared.Displaced.{Displaced}
 use Rattle.places.specs.declared.Displaced.the-variants.{None, Number}
+use Rattle.places.specs.Places.{free, open-now, delivered, spoiled, freshTable, placeAt}
 use Rattle.packed.specs.Packed.{packedOf, tableFrom, unpackFault}
-use Rattle.receiver.specs.Promise.{numberOf, outcome, Step}
+use Rattle.receiver.specs.Promise.{numberOf, outcome, roomFault, Step}
 use Rattle.receiver.specs.declared.Received.{Received}
 use Rattle.receiver.specs.declared.Received.the-variants.{Kept, Delivered, Damaged, Refused}
+use Rattle.receiver.specs.declared.Seen.{Seen}
+use Rattle.receiver.specs.declared.Seen.the-variants as seen
+use Rattle.receiver.specs.declared.Shown.{Shown}
+use Rattle.receiver.specs.declared.Queried.{Queried}
+use Rattle.receiver.specs.declared.Queried.the-variants as queried
+use Rattle.card.specs.Told.{refusalIn, toldIn, inWidths, toldOf, answerIn, bytesIn}
+
+-- ---- the record in its bytes
+
+-- what is no record is refused, before anything else is looked at, with the number that unpacking gives it, 1 or 14; else the call goes on
+-- with the record
+unfoldable pub onRecord {ℓ} : {A : Type ℓ} → List ℕ → (ℕ → A) → (Table → A) → A
+onRecord bytes refusal call = cond (eqb (unpackFault bytes) 0) (call (tableFrom bytes)) (refusal (unpackFault bytes))
+
+-- ---- query
+
+-- what is told of a place: its condition, and its packet's number, 0 where it is free
+unfoldable pub placeTold : Place → List ℕ
+placeTold p = p .condition ∷ cond (eqb (p .condition) free) 0 (p .number) ∷ []
+
+-- that of all four places,
+unfoldable pub placesTold : Table → List ℕ
+placesTold t = placeTold (placeAt t 0) ++ placeTold (placeAt t 1) ++ placeTold (placeAt t 2) ++ placeTold (placeAt t 3)
+
+-- and the bytes that each figure takes
+abbrev pub placesWidths : List ℕ
+placesWidths = 1 ∷ 2 ∷ 1 ∷ 2 ∷ 1 ∷ 2 ∷ 1 ∷ 2 ∷ []
+
+-- the query's answer: what is no record is refused; then "query and clearing check 14, then 1"
+unfoldable pub queryFor : List ℕ → ℕ → Answer
+queryFor bytes lent = onRecord bytes refused (λ t. answered (roomFault t lent most-l) (placesTold t))
+
+-- the call gives that answer's number, and tells its values
+pub record CardQueried (bytes : List ℕ) (lent : ℕ) (before after : List ℕ) (r : ℕ) : Type 0 where
+  pub number : r ≡ refusalIn (queryFor bytes lent)
+  pub told : after ≡ toldOf placesWidths (queryFor bytes lent) before
+
+-- what is told of a place that `query` shows
+unfoldable pub seenTold : Seen → List ℕ
+seenTold seen.Free = free ∷ 0 ∷ []
+seenTold (seen.Open n) = open-now ∷ n ∷ []
+seenTold (seen.Delivered n) = delivered ∷ n ∷ []
+seenTold (seen.Spoiled n) = spoiled ∷ n ∷ []
+
+-- the same as bytes
+abbrev pub seenBytes : Seen → List ℕ
+seenBytes s = inWidths (1 ∷ 2 ∷ []) (seenTold s)
+
+-- that of all four
+unfoldable pub shownTold : Shown → List ℕ
+shownTold p = seenTold (p .first) ++ seenTold (p .second) ++ seenTold (p .third) ++ seenTold (p .fourth)
+
+-- the answer of `query` with what is told of it
+unfoldable pub queriedIn : Queried → Answer
+queriedIn (queried.Places p) = granted (shownTold p)
+queriedIn (queried.Refused n) = refused n
+
+-- ---- clear
+
+-- the clearing's answer, and the record's bytes after it: refused as a query is, else a fresh record
+unfoldable pub clearFor : List ℕ → ℕ → Outcome
+clearFor bytes lent = onRecord bytes (λ n. answers.outcome (refused n) bytes) (λ t. settled (roomFault t lent most-l) [] (packedOf freshTable) bytes)
+
+-- the call gives that answer's number, and leaves those bytes
+pub record CardCleared (before : List ℕ) (lent : ℕ) (after : List ℕ) (r : ℕ) : Type 0 where
+  pub number : r ≡ refusalIn (answerIn (clearFor before lent))
+  pub left : after ≡ bytesIn (clearFor before lent)
+
+-- ---- receive
 
 -- the displaced number: 1 and it, or zeros
 unfoldable pub displacedBytes : Displaced → List ℕ
@@ -24,10 +97,7 @@ displacedBytes (Number n) = bytesOf 1 1 ++ bytesOf 2 n
 unfoldable pub toldBytes : ℕ → ℕ → ℕ → Displaced → List ℕ
 toldBytes handed length missing d = bytesOf 1 handed ++ bytesOf 2 length ++ bytesOf 2 missing ++ displacedBytes d
 
--- what stands in the bytes lent for that: its eight where there is place for them and the datagram is not refused
-unfoldable pub toldIn : List ℕ → List ℕ → List ℕ
-toldIn before bytes = cond (ltb (length before) 8) before (splice before 0 bytes)
-
+-- what stands afterwards in the bytes lent for what is told: that of the answer, where it has place; a refused datagram tells nothing
 unfoldable pub toldAfter : Received → List ℕ → List ℕ
 toldAfter (Kept d) before = toldIn before (toldBytes 0 0 0 d)
 toldAfter (Delivered length missing d) before = toldIn before (toldBytes 1 length missing d)
@@ -41,12 +111,15 @@ pub record Held : Type 0 where
   pub told : List ℕ
   pub out : List ℕ
 
--- the call was answered with the number r: what is no record is refused, and nothing is changed; else `receive` meets its promise on the record
-pub data CardReceived (own : Address) (datagram : List ℕ) (before after : Held) (r : ℕ) : Type 0 where
-  no-record : (unpackFault (before .record-bytes) ≡ 0 → ⊥) → r ≡ unpackFault (before .record-bytes) → after ≡ before
-      → CardReceived own datagram before after r
-  received : (answer : Received) (table : Table) → unpackFault (before .record-bytes) ≡ 0
-      → Step own (record { table = tableFrom (before .record-bytes); bytes = before .lent }) datagram (before .out)
-      (outcome answer table (after .lent) (after .out))
-      → after .record-bytes ≡ packedOf table → after .told ≡ toldAfter answer (before .told) → r ≡ numberOf answer .0
-      → CardReceived own datagram before after r
+-- with the record t `receive` meets its promise; the record that it leaves is packed, its answer is told, and r is the answer's number
+pub record ReceivedWith (own : Address) (datagram : List ℕ) (before after : Held) (r : ℕ) (t : Table) : Type 0 where
+  pub answer : Received
+  pub table : Table
+  pub step : Step own (record { table = t; bytes = before .lent }) datagram (before .out) (outcome answer table (after .lent) (after .out))
+  pub packed : after .record-bytes ≡ packedOf table
+  pub told : after .told ≡ toldAfter answer (before .told)
+  pub number : r ≡ numberOf answer .0
+
+-- the call was answered with the number r: what is no record is refused, and nothing is changed; else as above with the record in the bytes
+unfoldable pub CardReceived : Address → List ℕ → Held → Held → ℕ → Type 0
+CardReceived own datagram before after r = onRecord (before .record-bytes) (λ n. (r ≡ n) × (after ≡ before)) (ReceivedWith own datagram before after r)

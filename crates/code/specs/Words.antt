@@ -13,9 +13,10 @@ first l = getD l 0 0
 abbrev pub table : ℕ → (ℕ → ℕ) → List ℕ
 table n f = base.table f 0 n
 
--- bytes of a power's rows in the register's table: 32 of 48 bytes; and of the table: eight powers (clause 7.3.1)
+-- bytes of a power's rows in the register's table: 32 of 48 bytes (clause 7.3.1)
 abbrev pub power-size : ℕ
 power-size = 32 * parity
 
+-- bytes of the table: eight powers
 abbrev pub table-size : ℕ
 table-size = 8 * power-size

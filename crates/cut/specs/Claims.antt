@@ -28,6 +28,7 @@ pub record Sized (g : Settings) (l : ℕ) : Type 0 where
   pub last-held : (f g l - 1) * s g l < L g l
   pub placed : f g l * s g l ≤ place
 
+-- they do for all settings and lengths that a plan takes
 abbrev pub C2 : Type 0
 C2 = (g : Settings) (l : ℕ) → Taken g l → Sized g l
 
@@ -59,6 +60,7 @@ pub record Parted (packet : List ℕ) (f s : ℕ) : Type 0 where
   pub full : (i : ℕ) → i + 1 < f → length (partOf packet s i) ≡ s
   pub last : (i : ℕ) → i + 1 ≡ f → (1 ≤ length (partOf packet s i)) × (length (partOf packet s i) ≤ s)
 
+-- C4: cells, fragments, chunks and parts go together, for every block and packet
 pub record C4 : Type 0 where
   pub woven : (f s : ℕ) → 0 < f → Woven f s
   pub joined : (block : List ℕ) (f s q : ℕ) → 0 < f → q < f * s → Joined block f s q
@@ -81,5 +83,6 @@ C6 = (g : Settings) (l : ℕ) → Taken g l → g .fec ≡ true → (lost : ℕ 
 abbrev pub AnyThree : Type 0
 AnyThree = (lost : ℕ → Bool) → losses lost (f (fec 2) 415) ≤ 3 → suffice lost (f (fec 2) 415) (n 415) (c 415) ≡ true
 
+-- "no four do"
 abbrev pub NoFour : Type 0
 NoFour = (lost : ℕ → Bool) → 4 ≤ losses lost (f (fec 2) 415) → suffice lost (f (fec 2) 415) (n 415) (c 415) ≡ false

@@ -12,16 +12,19 @@ pub record Row : Type 0 where
   pub gives : List ℕ
   pub says : List ℕ
 
+-- a row of the table
 abbrev pub row : List ℕ → List ℕ → Row
 row a b = record { gives = a; says = b }
 
--- MTU 1,400 without address: FEC at m, and no FEC
+-- MTU 1,400 without address: FEC at m
 abbrev pub fec : ℕ → Settings
 fec m = record { fec = true; m = m; mtu = 1400; address = None }
 
+-- the same without FEC
 abbrev pub plain : Settings
 plain = record { fec = false; m = 0; mtu = 1400; address = None }
 
+-- document 01, "On each side of the edge": the starred rows of sizes
 unfoldable pub rows : List Row
 rows =
     -- l 207: c 1, k 207, z 0

@@ -27,10 +27,11 @@ z l = c l * k l - l
 unfoldable pub n : ℕ → ℕ
 n l = k l + parity
 
--- what follows of the bounds: the chunks of the longest packet, and the bytes of its block at the most
+-- what follows of the bounds: the chunks of the longest packet
 abbrev pub most-c : ℕ
 most-c = (most-l + (most-k - 1)) / most-k
 
+-- the bytes of the longest block
 abbrev pub most-L : ℕ
 most-L = most-l + (most-k - 1) + parity * most-c
 

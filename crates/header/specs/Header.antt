@@ -20,13 +20,16 @@ sync = 80 ∷ 70 ∷ []
 abbrev pub fecBit : ℕ
 fecBit = 32768
 
+-- the Addr bit
 abbrev pub addrBit : ℕ
 addrBit = 16384
 
+-- the Addr bit where there is an address
 unfoldable pub addrFlag : Address → ℕ
 addrFlag None = 0
 addrFlag (Pair source dest) = addrBit
 
+-- the number in the two bytes
 unfoldable pub flagsOf : Header → ℕ
 flagsOf h = cond (h .fec) fecBit 0 + (addrFlag (h .address) + h .plen % addrBit)
 

@@ -17,13 +17,15 @@ use Rattle.header.specs.declared.Parsed.{Parsed}
 use Rattle.header.specs.declared.Parsed.the-variants as parsed
 use Rattle.header.specs.Header.{fecBit, addrBit}
 
--- clause 7.1: the two bytes of the flags and Plen, and the flags in them
+-- clause 7.1: the two bytes of the flags and Plen
 unfoldable pub flagsAt : List ℕ → ℕ
 flagsAt s = numberAt 2 s 10
 
+-- the FEC bit is set
 unfoldable pub hasFec : List ℕ → Bool
 hasFec s = leb fecBit (flagsAt s)
 
+-- the Addr bit is set
 unfoldable pub hasAddress : List ℕ → Bool
 hasAddress s = leb addrBit (flagsAt s % fecBit)
 

@@ -42,13 +42,15 @@ firstOf name (item i r) = cond (eqb (i .name) name) (found.At i) (firstOf name r
 firstOf name (padding n) = found.Nothing
 firstOf name (refused n) = found.Nothing
 
--- document 01: "*dmy" is filler, and "*ptr" has exactly 64 bits
+-- document 01: "*dmy" is filler
 abbrev pub dmy : ℕ
 dmy = 0x2A646D79
 
+-- document 01: "*ptr"
 abbrev pub ptr : ℕ
 ptr = 0x2A707472
 
+-- "has exactly 64 bits"
 abbrev pub ptr-bits : ℕ
 ptr-bits = 64
 

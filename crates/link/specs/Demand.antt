@@ -53,6 +53,7 @@ unfoldable pub among : ℕ → List ℕ → Bool
 among n [] = false
 among n (m ∷ ms) = eqb m n || among n ms
 
+-- a datagram that passes the checks has the number n or one of the others
 unfoldable pub Among : ℕ → List ℕ → Call → Type 0
 Among n others e = heard e ≡ true → (numberIn e ≡ n → ⊥) → among (numberIn e) others ≡ true
 

@@ -41,10 +41,11 @@ SomeRun = (s : State) (inputs : List Input) → Lawful inputs → (es : List Cal
 
 -- ---- the packets and datagrams of the examples
 
--- document 01, l 415 at the house settings: 12 fragments, "Any three lost still rebuild, no four do". It is sent under the number 5
+-- document 01, l 415 at the house settings: 12 fragments, "Any three lost still rebuild, no four do"
 unfoldable pub packet : List ℕ
 packet = packetOf 7 true (replicate 403 85)
 
+-- the number under which it is sent
 abbrev pub number : ℕ
 number = 5
 
@@ -94,25 +95,25 @@ opening = Of 101 ∷ Of 102 ∷ Of 103 ∷ Of 104 ∷ []
 
 -- ---- T1: three other numbers
 
--- demand 3: "fragments lost, repeated and reordered among those of other packets", and datagrams that are refused
+-- demand 3: "fragments lost, repeated and reordered among those of other packets", and datagrams that are no fragments
 unfoldable pub three-others : List Arrival
 three-others =
-    -- its first fragment to come is not fragment 0; it displaces 101
+    -- its first fragment to come is not fragment 0
     Its 4
-    -- an empty datagram, refused as 2
+    -- an empty datagram
     ∷ Broken []
     -- the first other number
     ∷ Of 1
     ∷ Its 0
-    -- a repeat, refused as 12
+    -- a repeat
     ∷ Its 0
     -- the second other number
     ∷ Of 2
-    -- "PF" and nothing behind it, refused as 2
+    -- "PF" and nothing behind it
     ∷ Broken (0x50 ∷ 0x46 ∷ [])
     ∷ Its 1
     ∷ Its 2
-    -- the third other number: the four places hold 5, 1, 2 and 3
+    -- the third other number
     ∷ Of 3
     -- fragments 3, 5 and 7 are lost
     ∷ Its 6

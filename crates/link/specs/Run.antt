@@ -64,10 +64,11 @@ pub record ShownOpen (s : State) (n : ℕ) : Type 0 where
 abbrev pub heard : Call → Bool
 heard e = eqb (faultOf (e .own) (e .datagram)) 0
 
--- its number and its index
+-- its number
 abbrev pub numberIn : Call → ℕ
 numberIn e = fieldsOf (e .datagram) .number
 
+-- and its index
 abbrev pub indexIn : Call → ℕ
 indexIn e = fieldsOf (e .datagram) .index
 

@@ -15,10 +15,11 @@ use Rattle.receiver.specs.Claims.{keptBy}
 use Rattle.link.specs.Run.{Reached}
 use Rattle.link.specs.Demand.{Takes, count}
 
--- a receiver: what it leaves, from every state and for every input; it keeps the promise where each outcome meets `receive`'s
+-- a receiver: what it leaves, from every state and for every input
 abbrev pub Receiver : Type 0
 Receiver = Address → State → List ℕ → List ℕ → Outcome
 
+-- it keeps the promise: each outcome meets that of `receive`
 pub record Keeps (R : Receiver) : Type 0 where
   pub meets : (own : Address) (s : State) (datagram out : List ℕ) → Bytes datagram → Step own s datagram out (R own s datagram out)
 
@@ -35,10 +36,11 @@ pub record Fixed (R : Receiver) : Type 0 where
   pub packet : List ℕ
   pub only : (own : Address) (s : State) (datagram out : List ℕ) → Delivers (R own s datagram out) → R own s datagram out .out ≡ splice out 0 packet
 
--- "One that stores nothing": the bytes, or the record, are never changed
+-- "One that stores nothing": one that never changes the bytes,
 pub record StoresNoBytes (R : Receiver) : Type 0 where
   pub same : (own : Address) (s : State) (datagram out : List ℕ) → R own s datagram out .bytes ≡ s .bytes
 
+-- or that never changes the record
 pub record StoresNoRecord (R : Receiver) : Type 0 where
   pub same : (own : Address) (s : State) (datagram out : List ℕ) → R own s datagram out .table ≡ s .table
 

@@ -14,23 +14,27 @@ use Rattle.walk.specs.Walk.{Tour, visit, ends, stops, refusal, walkOf}
 abbrev pub containers : List ℕ
 containers = 102 ∷ 105 ∷ 111 ∷ 95 ∷ []
 
--- "af ", " 1." and "pad "; "refused "
+-- "af "
 abbrev pub af : List ℕ
 af = 97 ∷ 102 ∷ 32 ∷ []
 
+-- " 1."
 abbrev pub one : List ℕ
 one = 32 ∷ 49 ∷ 46 ∷ []
 
+-- "pad "
 abbrev pub pad : List ℕ
 pad = 112 ∷ 97 ∷ 100 ∷ 32 ∷ []
 
+-- "refused "
 abbrev pub refused : List ℕ
 refused = 114 ∷ 101 ∷ 102 ∷ 117 ∷ 115 ∷ 101 ∷ 100 ∷ 32 ∷ []
 
--- a blank, and the newline behind every line
+-- a blank
 abbrev pub blank : List ℕ
 blank = 32 ∷ []
 
+-- the newline behind every line
 abbrev pub newline : List ℕ
 newline = 10 ∷ []
 

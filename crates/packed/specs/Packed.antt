@@ -28,10 +28,11 @@ figuresOf p =
 unfoldable pub packedPlace : Place → List ℕ
 packedPlace p = figuresOf p ++ map flagOf (p .kept)
 
--- the bytes of a place's record, and of the whole: four of them, and then which is displaced next
+-- the bytes of a place's record
 abbrev pub place-bytes : ℕ
 place-bytes = 14 + most-f
 
+-- the bytes of the whole record: four of them, and then which is displaced next
 abbrev pub table-bytes : ℕ
 table-bytes = four * place-bytes + 1
 

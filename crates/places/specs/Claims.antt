@@ -18,6 +18,7 @@ FreshInRange = badTable freshTable ≡ false
 abbrev pub KeptInRange : Type 0
 KeptInRange = (p : Place) (h : Header) → badPlace p ≡ false → Sound h → placeFault p h ≡ 0 → badPlace (keptIn p h) ≡ false
 
+-- so is a place that such a fragment opens
 abbrev pub OpenedInRange : Type 0
 OpenedInRange = (h : Header) → Sound h → badPlace (keptIn (openedBy h) h) ≡ false
 

@@ -12,7 +12,7 @@ use Rattle.places.specs.declared.Table.{Table}
 use Rattle.places.specs.Places.{four, delivered, spoiled, placeAt, isLast}
 
 -- 14 STATE: the ranges of a place's figures, in which every place can be formed with no byte outside it: at most 256 fragments, which
--- fit the place, the last one too, which is no longer than the others; with FEC, k and z are a chunk's
+-- fit the place, the last one too, which is no longer than the others
 unfoldable pub badFigures : Place → Bool
 badFigures p =
     ltb most-f (p .count)
@@ -20,9 +20,11 @@ badFigures p =
     || (ltb place (p .last)
     || (not (eqb (p .size) 0) && ltb (p .size) (p .last))))
 
+-- with FEC, k and z are not those of a chunk
 unfoldable pub badCode : Place → Bool
 badCode p = p .fec && (eqb (p .rsk) 0 || (ltb most-k (p .rsk) || leb (p .rsk) (p .rsz)))
 
+-- 14 STATE: one of a place's fields is out of its range
 unfoldable pub badPlace : Place → Bool
 badPlace p = ltb spoiled (p .condition) || (badFigures p || badCode p)
 

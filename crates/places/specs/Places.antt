@@ -19,12 +19,15 @@ four = 4
 abbrev pub free : ℕ
 free = 0
 
+-- open
 abbrev pub open-now : ℕ
 open-now = 1
 
+-- delivered
 abbrev pub delivered : ℕ
 delivered = 2
 
+-- spoiled
 abbrev pub spoiled : ℕ
 spoiled = 3
 
@@ -58,6 +61,7 @@ withPlace t i p = record { places = set (t .places) i p; oldest = t .oldest }
 unfoldable pub keyOf : Header → ℕ
 keyOf h = h .number
 
+-- whose packet's fragments a place holds
 unfoldable pub keyIn : Place → ℕ
 keyIn p = p .number
 

@@ -43,6 +43,7 @@ pub record Outcome : Type 0 where
   pub bytes : List ℕ
   pub out : List ℕ
 
+-- what a call with this answer leaves
 unfoldable pub outcome : Received → Table → List ℕ → List ℕ → Outcome
 outcome a t b o = record { answer = numberOf a; table = t; bytes = b; out = o }
 

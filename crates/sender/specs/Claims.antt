@@ -21,6 +21,7 @@ pub record Sized (g : Settings) (packet : List ℕ) : Type 0 where
   pub plain : g .fec ≡ false → (i : ℕ) → suc i < f g (length packet) → length (payloadFor g packet i) ≡ s g (length packet)
   pub last : g .fec ≡ false → length (payloadFor g packet (f g (length packet) - 1)) ≡ length packet - (f g (length packet) - 1) * s g (length packet)
 
+-- so it is of every packet that is not refused
 abbrev pub Sizes : Type 0
 Sizes = (g : Settings) (packet : List ℕ) → packetFault g packet ≡ 0 → Sized g packet
 
@@ -51,5 +52,6 @@ JoinsPlain =
 abbrev pub OneSent : Type 0
 OneSent = (a b : Sent) → sentNumber a ≡ sentNumber b → a ≡ b
 
+-- nor of the sender of all
 abbrev pub OneSentAll : Type 0
 OneSentAll = (a b : SentAll) → allNumber a ≡ allNumber b → a ≡ b

@@ -6,17 +6,21 @@ use native.Mathlib.Nat.{le-refl}
 use lib.Dec.{eqb}
 use lib.ListN.{take, replicate}
 use borrow.Author.Tests.{eqb-true, eqb-false}
-use Rattle.base.specs.Answer.{answered}
+use Rattle.base.specs.Answer.{granted, answered}
 use Rattle.base.proofs.Logic.{either}
+use Rattle.item.specs.declared.Item.{Item}
 use Rattle.item.specs.declared.Step.{Step}
 use Rattle.item.specs.declared.Step.the-variants as step
+use Rattle.item.specs.Item.{valuesOf, numberOf}
+use Rattle.item.proofs.Proved.{one-step}
+use Rattle.tag.specs.declared.Located.the-variants as located
 use Rattle.tag.specs.declared.Opened.{Opened}
 use Rattle.tag.specs.declared.Opened.the-variants as opened
 use Rattle.tag.specs.declared.Sought.the-variants as sought
 use Rattle.tag.specs.Find.{checkOf}
-use Rattle.tag.specs.Calls.{openedNumber, openCall, soughtNumber, readOf}
+use Rattle.tag.specs.Calls.{openedNumber, openCall, soughtNumber, locatedNumber, readOf}
 use Rattle.tag.specs.Reading.{startOf, refusalOf, checkedRun, itemsOf, lastOf}
-use Rattle.tag.specs.Claims.{OneOpened, OneSought, Opens, InOrder, Ends, StaysAtEnd, StaysRefused, ReadShown, FoundShown}
+use Rattle.tag.specs.Claims.{OneOpened, OneSought, OneLocated, Opens, InOrder, Ends, StaysAtEnd, StaysRefused, ReadShown, FoundShown}
 use Rattle.tag.proofs.Reading.{handed-stands, after-is, refused-reads, refused-after}
 use Rattle.tag.proofs.HandedOut.{stays, repeats, hands-run}
 use Rattle.tag.proofs.Endings as endings
@@ -35,6 +39,23 @@ one-sought (sought.Found a) (sought.Found b) e = ap (λ (n : ℕ). sought.Found 
 one-sought (sought.Found a) (sought.Refused m) e = cc
 one-sought (sought.Refused n) (sought.Found b) e = cc
 one-sought (sought.Refused n) (sought.Refused m) e = cc
+
+-- an item is what it tells
+one-item : (i j : Item) → valuesOf i ≡ valuesOf j → i ≡ j
+unfolding numberOf
+one-item i j e = let steps : step.Item i ≡ step.Item j = one-step (step.Item i) (step.Item j) (ap granted e) in cc
+
+pub one-located : OneLocated
+unfolding locatedNumber
+one-located (located.Packet i) (located.Packet j) e = ap located.Packet (one-item i j (cc))
+one-located (located.Packet i) (located.Standing j) e = cc
+one-located (located.Packet i) (located.Refused m) e = cc
+one-located (located.Standing i) (located.Packet j) e = cc
+one-located (located.Standing i) (located.Standing j) e = ap located.Standing (one-item i j (cc))
+one-located (located.Standing i) (located.Refused m) e = cc
+one-located (located.Refused n) (located.Packet j) e = cc
+one-located (located.Refused n) (located.Standing j) e = cc
+one-located (located.Refused n) (located.Refused m) e = cc
 
 -- what a check says, and what an opening then is
 opens-by : (n : ℕ) (o : Opened) → openedNumber o ≡ answered n (0 ∷ []) → (startOf o ≡ 0) × (refusalOf o ≡ n)

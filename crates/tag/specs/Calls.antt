@@ -7,7 +7,7 @@ use lib.ListN.{length}
 use Rattle.base.specs.Answer.{Answer, granted, refused, answered}
 use Rattle.item.specs.declared.Step.{Step}
 use Rattle.item.specs.declared.Step.the-variants as step
-use Rattle.item.specs.Item.{stepIn}
+use Rattle.item.specs.Item.{stepIn, valuesOf}
 use Rattle.item.specs.Run.{nextOf, onStep}
 use Rattle.tag.specs.declared.Located.{Located}
 use Rattle.tag.specs.declared.Located.the-variants as located
@@ -45,5 +45,16 @@ searchAnswer (located.Packet i) = granted (i .bits .0 ∷ [])
 searchAnswer (located.Standing i) = granted (i .bits .0 ∷ [])
 searchAnswer (located.Refused n) = refused n
 
+-- what a search is answered: the packet first, then the standing packet
 unfoldable pub searchCall : List ℕ → List ℕ → ℕ → Answer
 searchCall s t name = searchAnswer (locateOf s t name)
+
+-- document 01's number and values for each case: 0 for the packet and 1 for the standing packet, and what the item there tells
+unfoldable pub locatedNumber : Located → Answer
+locatedNumber (located.Packet i) = granted (0 ∷ valuesOf i)
+locatedNumber (located.Standing i) = granted (1 ∷ valuesOf i)
+locatedNumber (located.Refused n) = refused n
+
+-- document 01: where a name is, as number and values
+unfoldable pub locateCall : List ℕ → List ℕ → ℕ → Answer
+locateCall s t name = locatedNumber (locateOf s t name)

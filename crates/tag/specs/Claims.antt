@@ -8,19 +8,24 @@ use Rattle.item.specs.declared.Item.{Item}
 use Rattle.item.specs.declared.Step.the-variants as step
 use Rattle.item.specs.Item.{head, bytesFor}
 use Rattle.item.specs.Run.{Run, nextOf}
+use Rattle.tag.specs.declared.Located.{Located}
 use Rattle.tag.specs.declared.Located.the-variants as located
 use Rattle.tag.specs.declared.Opened.{Opened}
 use Rattle.tag.specs.declared.Sought.{Sought}
 use Rattle.tag.specs.Find.{wholeRun, checkOf, locateOf, valueOf}
-use Rattle.tag.specs.Calls.{openedNumber, openCall, readOf, soughtNumber}
+use Rattle.tag.specs.Calls.{openedNumber, openCall, readOf, soughtNumber, locatedNumber}
 use Rattle.tag.specs.Reading.{startOf, refusalOf, handed, standsAfter, checkedRun, itemsOf, lastOf}
 
 -- no second answer fits: two answers with the same number and values are the same answer
 abbrev pub OneOpened : Type 0
 OneOpened = (a b : Opened) → openedNumber a ≡ openedNumber b → a ≡ b
 
+-- so it is of a search
 abbrev pub OneSought : Type 0
 OneSought = (a b : Sought) → soughtNumber a ≡ soughtNumber b → a ≡ b
+
+abbrev pub OneLocated : Type 0
+OneLocated = (a b : Located) → locatedNumber a ≡ locatedNumber b → a ≡ b
 
 -- "Opening a reader checks the whole packet": whatever answer fits, the reader stands at 0 and keeps what the check says
 abbrev pub Opens : Type 0
@@ -37,6 +42,7 @@ pub record Padded (r : Run) : Type 0 where
   pub last : lastOf r ≡ step.End bytes
   pub few : bytes .0 < head
 
+-- every packet that is not refused does
 abbrev pub Ends : Type 0
 Ends = (s : List ℕ) → checkOf s ≡ 0 → Padded (wholeRun s)
 

@@ -21,8 +21,8 @@ pub enum Sought {
     Refused(u8),
 }
 
-// Where a name is found.
-enum Located {
+// Where a name is found: the item, in the packet or in the standing packet; or the number of the refusal.
+pub enum Located {
     Packet(Item),
     Standing(Item),
     Refused(u8),
@@ -92,7 +92,7 @@ pub fn read_after(packet: &[u8], at: usize, refusal: u8) -> usize
 }
 
 // Where the name is: both packets are checked whole, the packet first, before either is searched.
-fn locate(packet: &[u8], standing: &[u8], name: u32) -> Located
+pub fn locate(packet: &[u8], standing: &[u8], name: u32) -> Located
     ensures { λ r. ⌜ r ≡ locateOf (now (packet .entry)) (now (standing .entry)) name ⌝ }
 {
     let n = check(packet);

@@ -9,8 +9,7 @@ use Rattle.packed.proofs.Proved.{packed-length}
 use Rattle.places.specs.Places.{four, placeAt}
 use Rattle.places.proofs.Records.{as-long}
 use Rattle.card.specs.Calls.{addressOf}
-use Rattle.card.specs.Receiving.{CardReceived, no-record}
-use Rattle.card.proofs.ReceiveLaws.{refused-record, received-there, typed-place}
+use Rattle.card.proofs.ReceiveLaws.{receive-refused, received-there, typed-place}
 use borrow.Author.Needs.{needs}
 use Rattle.card.proofs.receiving.bailhammer_receive.Statement.{statement}
 use Rattle.card.proofs.receiving.bailhammer_receive.Tie as tie
@@ -44,11 +43,10 @@ same-length c = search needs
 
 returns : tie.Need-returns
 returns c =
-    let known = c .before .fault .given in
-    let start = c .before .before .before .before .before .before .before .before .before .before in
     let opened = c .before .before .before in
-    let due = refused-record (start .args .table .now) (opened .unpack .result .answer) (opened .unpack .result .table) (opened .unpack .ensures) _ (known .1) in
-    no-record (due .1) (due .0) refl
+    let a = opened .before .before .before .before .before .before .before .args in
+    receive-refused (addressOf (a .addressed) (a .source) (a .dest)) (a .datagram .now) _ _ _ (opened .unpack .result .answer) (opened .unpack .result .table)
+    (opened .unpack .ensures) (c .before .fault .given .1) refl
 
 same-length-2 : tie.Need-same-length-2
 same-length-2 c = search needs
@@ -81,10 +79,9 @@ returns-2 c =
       each = λ i (b : i < four). typed-place (t .places) _ (ok .0 .1 .1) i (omega arith);
       oldest = omega (arith, ok .1 .0);
     } in
-    received-there (addressOf (a .addressed) (a .source) (a .dest)) (addressed .address-of .result) (a .datagram .now) _ _ (said .tell .result)
-    (opened .unpack .result .answer) (packed .pack .result) (opened .unpack .result .table) (got .receive .result .table) (got .receive .result .answer)
-    (opened .unpack .ensures) (told .enum-told .given .1) (addressed .address-of .ensures) (got .receive .ensures)
-    (packed-length (got .receive .result .table) typed) (packed .pack .ensures) (said .tell .ensures)
+    received-there (addressOf (a .addressed) (a .source) (a .dest)) (a .datagram .now) _ _ (said .tell .result) (opened .unpack .result .answer)
+    (opened .unpack .result .table) (opened .unpack .ensures) (addressed .address-of .result) (packed .pack .result) t (got .receive .result .answer)
+    (told .enum-told .given .1) (addressed .address-of .ensures) (got .receive .ensures) (packed-length t typed) (packed .pack .ensures) (said .tell .ensures)
 
 pub bailhammer-receive-spec : {M : Type 1} → statement M
 bailhammer-receive-spec =

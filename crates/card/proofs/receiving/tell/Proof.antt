@@ -1,10 +1,12 @@
 -- `tell` meets its contract: a refusal tells nothing. Assumes nothing.
-use mathlib.Core.Path.{sym, ap, _∙_}
+use mathlib.Core.Path.{_≡_, sym, ap, _∙_}
+use mathlib.Core.List.{List}
 use Prim.Native.Nat.{ℕ}
+use Rattle.places.specs.declared.Displaced.{Displaced}
 use Rattle.receiver.specs.Promise.{numberOf}
 use Rattle.receiver.specs.declared.Received.{Received}
-use Rattle.card.specs.Receiving.{toldAfter}
-use Rattle.card.proofs.ReceiveLaws.{told-in}
+use Rattle.card.specs.Told.{toldIn}
+use Rattle.card.specs.Receiving.{toldBytes, toldAfter}
 use borrow.Author.Needs.{needs}
 use Rattle.card.proofs.receiving.tell.Statement.{statement}
 use Rattle.card.proofs.receiving.tell.Tie as tie
@@ -12,17 +14,22 @@ use Rattle.card.proofs.receiving.tell.Tie as tie
 abbrev number : Received → ℕ
 number a = numberOf a .0
 
+-- what is told, with its figures by name
+told-in : (handed n missing : ℕ) (d : Displaced) (before after bytes : List ℕ) → bytes ≡ toldBytes handed n missing d
+    → after ≡ toldIn before bytes → after ≡ toldIn before (toldBytes handed n missing d)
+told-in handed n missing d before after bytes e h = h ∙ ap (toldIn before) e
+
 enum-known-a : tie.Need-enum-known-a
 enum-known-a c = search needs
 
 told-bytes-requires : tie.Need-told-bytes-requires
 told-bytes-requires c κs = search needs
 
-slice-aggregate-put : tie.Need-slice-aggregate-put
-slice-aggregate-put c = search needs
+slice-aggregate-tell-bytes : tie.Need-slice-aggregate-tell-bytes
+slice-aggregate-tell-bytes c = search needs
 
-put-requires : tie.Need-put-requires
-put-requires c κs = search needs
+tell-bytes-requires : tie.Need-tell-bytes-requires
+tell-bytes-requires c κs = search needs
 
 enum-known-a-2 : tie.Need-enum-known-a-2
 enum-known-a-2 c = search needs
@@ -30,11 +37,11 @@ enum-known-a-2 c = search needs
 told-bytes-requires-2 : tie.Need-told-bytes-requires-2
 told-bytes-requires-2 c κs = search needs
 
-slice-aggregate-put-2 : tie.Need-slice-aggregate-put-2
-slice-aggregate-put-2 c = search needs
+slice-aggregate-tell-bytes-2 : tie.Need-slice-aggregate-tell-bytes-2
+slice-aggregate-tell-bytes-2 c = search needs
 
-put-requires-2 : tie.Need-put-requires-2
-put-requires-2 c κs = search needs
+tell-bytes-requires-2 : tie.Need-tell-bytes-requires-2
+tell-bytes-requires-2 c κs = search needs
 
 enum-known-a-3 : tie.Need-enum-known-a-3
 enum-known-a-3 c = search needs
@@ -42,11 +49,11 @@ enum-known-a-3 c = search needs
 told-bytes-requires-3 : tie.Need-told-bytes-requires-3
 told-bytes-requires-3 c κs = search needs
 
-slice-aggregate-put-3 : tie.Need-slice-aggregate-put-3
-slice-aggregate-put-3 c = search needs
+slice-aggregate-tell-bytes-3 : tie.Need-slice-aggregate-tell-bytes-3
+slice-aggregate-tell-bytes-3 c = search needs
 
-put-requires-3 : tie.Need-put-requires-3
-put-requires-3 c κs = search needs
+tell-bytes-requires-3 : tie.Need-tell-bytes-requires-3
+tell-bytes-requires-3 c κs = search needs
 
 enum-known-a-4 : tie.Need-enum-known-a-4
 enum-known-a-4 c = search needs
@@ -64,7 +71,7 @@ returns c =
     let known = said .before .before .before .before .before .a .given in
     let before = said .before .before .before .before .before .before .before .before .args .told .now in (
       sym (ap number (known .1)),
-      told-in 0 0 0 _ before _ _ (said .put .result) (said .before .before .told-bytes .ensures) (said .put .ensures) ∙ sym (ap (λ (x : Received). toldAfter x before) (known .1)),
+      told-in 0 0 0 _ before _ _ (said .before .before .told-bytes .ensures) (said .tell-bytes .ensures) ∙ sym (ap (λ (x : Received). toldAfter x before) (known .1)),
     )
 
 same-length-2 : tie.Need-same-length-2
@@ -77,7 +84,7 @@ returns-2 c =
     let known = said .before .before .before .before .before .a2 .given in
     let before = said .before .before .before .before .before .before .before .before .args .told .now in (
       sym (ap number (known .1)),
-      told-in 1 (known .0 .0) (known .0 .1 .0) _ before _ _ (said .put2 .result) (said .before .before .told-bytes2 .ensures) (said .put2 .ensures) ∙ sym (ap (λ (x : Received). toldAfter x before) (known .1)),
+      told-in 1 (known .0 .0) (known .0 .1 .0) _ before _ _ (said .before .before .told-bytes2 .ensures) (said .tell-bytes2 .ensures) ∙ sym (ap (λ (x : Received). toldAfter x before) (known .1)),
     )
 
 same-length-3 : tie.Need-same-length-3
@@ -90,7 +97,7 @@ returns-3 c =
     let known = said .before .before .before .before .before .a3 .given in
     let before = said .before .before .before .before .before .before .before .before .args .told .now in (
       sym (ap number (known .1)),
-      told-in 0 0 0 _ before _ _ (said .put3 .result) (said .before .before .told-bytes3 .ensures) (said .put3 .ensures) ∙ sym (ap (λ (x : Received). toldAfter x before) (known .1)),
+      told-in 0 0 0 _ before _ _ (said .before .before .told-bytes3 .ensures) (said .tell-bytes3 .ensures) ∙ sym (ap (λ (x : Received). toldAfter x before) (known .1)),
     )
 
 returns-4 : tie.Need-returns-4
@@ -106,16 +113,16 @@ tell-spec =
     (tie.spec
     enum-known-a
     told-bytes-requires
-    slice-aggregate-put
-    put-requires
+    slice-aggregate-tell-bytes
+    tell-bytes-requires
     enum-known-a-2
     told-bytes-requires-2
-    slice-aggregate-put-2
-    put-requires-2
+    slice-aggregate-tell-bytes-2
+    tell-bytes-requires-2
     enum-known-a-3
     told-bytes-requires-3
-    slice-aggregate-put-3
-    put-requires-3
+    slice-aggregate-tell-bytes-3
+    tell-bytes-requires-3
     enum-known-a-4
     cast-result
     same-length

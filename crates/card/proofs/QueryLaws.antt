@@ -1,0 +1,173 @@
+-- What the query's and the clearing's calls for C tell and leave. Assumes nothing.
+use mathlib.Core.Path.{_≡_, refl, sym, ap, _∙_}
+use mathlib.Core.Bool.{Bool, cond}
+use mathlib.Core.List.{List, [], _∷_, _++_, append-nil, append-assoc}
+use Prim.Native.Nat.{ℕ, zero, suc}
+use native.Mathlib.Omega.{arith}
+use borrow.Author.Tests.{eq-eqb, ne-eqb}
+use lib.Dec.{eqb}
+use lib.ListN.{length, getD, length-replicate}
+use Rattle.base.specs.Answer.{Answer, granted, refused, answered, Outcome, outcome}
+use Rattle.base.specs.Bounds.{most-l}
+use Rattle.base.specs.Bytes.{bytesOf}
+use Rattle.base.specs.Written.{numberOf}
+use Rattle.base.specs.declared.Written.{Written}
+use Rattle.base.specs.declared.Written.the-variants.{Done, Refused}
+use Rattle.base.proofs.Answers.{grants, refuses, writes, leaves}
+use Rattle.code.proofs.CallCases.{granted-by, refused-by}
+use Rattle.packed.specs.Packed.{table-bytes, packedOf, packCall, unpackCall}
+use Rattle.packed.proofs.Proved.{fresh-zeros}
+use Rattle.places.specs.declared.Place.{Place}
+use Rattle.places.specs.declared.Table.{Table}
+use Rattle.places.specs.Places.{free, freshTable, placeAt}
+use Rattle.receiver.specs.Promise.{roomFault}
+use Rattle.receiver.specs.Calls.{shownOf, seenValues, queriedNumber, queryCall, clearCall}
+use Rattle.receiver.specs.declared.Seen.{Seen}
+use Rattle.receiver.specs.declared.Seen.the-variants as seen
+use Rattle.receiver.specs.declared.Shown.{Shown}
+use Rattle.receiver.specs.declared.Queried.{Queried}
+use Rattle.receiver.specs.declared.Queried.the-variants as queried
+use Rattle.card.specs.Told.{refusalIn, inWidths, toldOf, answerIn, bytesIn}
+use Rattle.card.specs.Receiving.{placeTold, placesTold, placesWidths, queryFor, CardQueried, seenTold, seenBytes, shownTold, queriedIn, clearFor, CardCleared}
+use Rattle.card.proofs.ReceiveLaws.{refused-record, good-record, taken-record, long-record, packed-there}
+
+-- ---- the values of a query, with a number for a free place too
+
+spread : List ℕ → List ℕ
+spread [] = []
+spread (zero ∷ v) = 0 ∷ 0 ∷ spread v
+spread (suc x ∷ []) = []
+spread (suc x ∷ n ∷ v) = suc x ∷ n ∷ spread v
+
+seen-spread : (s : Seen) (v : List ℕ) → spread (seenValues s ++ v) ≡ seenTold s ++ spread v
+unfolding spread seenValues seenTold
+seen-spread seen.Free v = refl
+seen-spread (seen.Open n) v = refl
+seen-spread (seen.Delivered n) v = refl
+seen-spread (seen.Spoiled n) v = refl
+
+figures-spread : (x n : ℕ) (v : List ℕ) → spread (cond (eqb x free) (free ∷ []) (x ∷ n ∷ []) ++ v) ≡ x ∷ cond (eqb x free) 0 n ∷ spread v
+unfolding spread
+figures-spread zero n v = refl
+figures-spread (suc x) n v = rw (ne-eqb (suc x) free (λ (z : suc x ≡ 0). omega arith))
+
+place-spread : (p : Place) (v : List ℕ) → spread (shownOf p ++ v) ≡ placeTold p ++ spread v
+unfolding shownOf placeTold
+place-spread p v = figures-spread (p .condition) (p .number) v
+
+-- of four
+to-right : (a b c d : List ℕ) → a ++ b ++ c ++ d ≡ a ++ (b ++ (c ++ d))
+to-right a b c d = append-assoc (a ++ b) c d ∙ append-assoc a b (c ++ d)
+
+module _ {A : Type 0} (values told : A → List ℕ) (one : (x : A) (v : List ℕ) → spread (values x ++ v) ≡ told x ++ spread v) where
+  last : (x : A) → spread (values x) ≡ told x
+  unfolding spread
+  last x = ap spread (sym (append-nil (values x))) ∙ one x [] ∙ append-nil (told x)
+
+  four-spread : (a b c d : A) → spread (values a ++ values b ++ values c ++ values d) ≡ told a ++ told b ++ told c ++ told d
+  four-spread a b c d =
+      ap spread (to-right (values a) (values b) (values c) (values d))
+      ∙ one a _
+      ∙ ap (λ (l : List ℕ). told a ++ l) (one b _ ∙ ap (λ (l : List ℕ). told b ++ l) (one c _ ∙ ap (λ (l : List ℕ). told c ++ l) (last d)))
+      ∙ sym (to-right (told a) (told b) (told c) (told d))
+
+-- what a query is answered, as it is told
+pub query-told : (q : Queried) (t : Table) (lent : ℕ) → queriedNumber q ≡ queryCall t lent → queriedIn q ≡ answered (roomFault t lent most-l) (placesTold t)
+unfolding queriedNumber queryCall queriedIn shownTold placesTold
+query-told (queried.Places p) t lent e =
+    let shown = granted-by (roomFault t lent most-l) _ _ e in
+    ap granted
+    (sym (four-spread seenValues seenTold seen-spread (p .first) (p .second) (p .third) (p .fourth))
+    ∙ ap spread (shown .1)
+    ∙ four-spread shownOf placeTold place-spread (placeAt t 0) (placeAt t 1) (placeAt t 2) (placeAt t 3))
+    ∙ grants (roomFault t lent most-l) (placesTold t) (shown .0)
+query-told (queried.Refused n) t lent e =
+    let due = refused-by n (roomFault t lent most-l) _ e in
+    refuses n (roomFault t lent most-l) (placesTold t) (due .1) (due .0)
+
+-- ---- its bytes
+
+seen-next : (s : Seen) (w v : List ℕ) → inWidths (1 ∷ 2 ∷ w) (seenTold s ++ v) ≡ seenBytes s ++ inWidths w v
+unfolding inWidths seenTold bytesOf
+seen-next seen.Free w v = refl
+seen-next (seen.Open n) w v = refl
+seen-next (seen.Delivered n) w v = refl
+seen-next (seen.Spoiled n) w v = refl
+
+abbrev readThree : List ℕ → List ℕ → List ℕ
+readThree l rest = getD l 0 0 ∷ getD l 1 0 ∷ getD l 2 0 ∷ rest
+
+three-read : (s : Seen) (rest : List ℕ) → readThree (seenBytes s) rest ≡ seenBytes s ++ rest
+unfolding inWidths seenTold bytesOf
+three-read seen.Free rest = refl
+three-read (seen.Open n) rest = refl
+three-read (seen.Delivered n) rest = refl
+three-read (seen.Spoiled n) rest = refl
+
+next : (s : Seen) {l rest : List ℕ} (w v : List ℕ) → l ≡ seenBytes s → rest ≡ inWidths w v → readThree l rest ≡ inWidths (1 ∷ 2 ∷ w) (seenTold s ++ v)
+next s {rest = rest} w v e h =
+    ap (λ (x : List ℕ). readThree x rest) e ∙ three-read s rest ∙ ap (λ (x : List ℕ). seenBytes s ++ x) h ∙ sym (seen-next s w v)
+
+pub twelve : (p : Shown) {a b c d : List ℕ} → a ≡ seenBytes (p .first) → b ≡ seenBytes (p .second) → c ≡ seenBytes (p .third)
+    → d ≡ seenBytes (p .fourth) → readThree a (readThree b (readThree c (readThree d []))) ≡ inWidths placesWidths (shownTold p)
+unfolding shownTold inWidths
+twelve p ea eb ec ed =
+    next (p .first) (1 ∷ 2 ∷ 1 ∷ 2 ∷ 1 ∷ 2 ∷ []) (seenTold (p .second) ++ (seenTold (p .third) ++ seenTold (p .fourth))) ea
+    (next (p .second) (1 ∷ 2 ∷ 1 ∷ 2 ∷ []) (seenTold (p .third) ++ seenTold (p .fourth)) eb
+    (next (p .third) (1 ∷ 2 ∷ []) (seenTold (p .fourth)) ec
+    (next (p .fourth) [] [] ed refl ∙ ap (inWidths (1 ∷ 2 ∷ [])) (append-nil (seenTold (p .fourth))))))
+    ∙ ap (inWidths placesWidths) (sym (to-right (seenTold (p .first)) (seenTold (p .second)) (seenTold (p .third)) (seenTold (p .fourth))))
+
+-- ---- the query's ends
+
+module _ (s : List ℕ) (lent : ℕ) (before after : List ℕ) (r : ℕ) (w : Written) (t : Table) (e : (numberOf w, t) ≡ unpackCall s) where
+  pub query-refused : (n : ℕ) → w ≡ Refused n → r ≡ n → after ≡ before → CardQueried s lent before after r
+  unfolding queryFor refusalIn toldOf
+  query-refused n is is-r same =
+      let answer : queryFor s lent ≡ refused n = refused-record s w t e refused _ n is in
+      record { number = is-r ∙ sym (ap refusalIn answer); told = same ∙ sym (ap (λ (a : Answer). toldOf placesWidths a before) answer) }
+
+  pub query-done : (q : Queried) → w ≡ Done → queriedNumber q ≡ queryCall t lent
+      → (r ≡ refusalIn (queriedIn q)) × (after ≡ toldOf placesWidths (queriedIn q) before) → CardQueried s lent before after r
+  unfolding queryFor
+  query-done q is asked said =
+      let answer : queriedIn q ≡ queryFor s lent = query-told q t lent asked ∙ sym (taken-record s w t e refused _ is) in
+      record { number = said .0 ∙ ap refusalIn answer; told = said .1 ∙ ap (λ (a : Answer). toldOf placesWidths a before) answer }
+
+-- ---- the clearing's ends
+
+fresh-length : length (packedOf freshTable) ≡ table-bytes
+fresh-length = ap length fresh-zeros ∙ length-replicate {A = ℕ} table-bytes 0
+
+module _ (s : List ℕ) (lent : ℕ) (w : Written) (t : Table) (e : (numberOf w, t) ≡ unpackCall s) where
+  left-as : (after : List ℕ) (r : ℕ) (a : Answer) → clearFor s lent ≡ outcome a after → r ≡ refusalIn a → CardCleared s lent after r
+  unfolding answerIn bytesIn
+  left-as after r a is is-r = record { number = is-r ∙ sym (ap (λ (x : Outcome). refusalIn (answerIn x)) is); left = sym (ap bytesIn is) }
+
+  pub clear-no-record : (n : ℕ) → w ≡ Refused n → CardCleared s lent s n
+  unfolding clearFor refusalIn
+  clear-no-record n is = left-as s n (refused n) (refused-record s w t e _ _ n is) refl
+
+  module _ (v : Written) (x : Table) (cleared : (numberOf v, x) ≡ clearCall t lent) (is : w ≡ Done) where
+    due : numberOf v ≡ answered (roomFault t lent most-l) []
+    unfolding clearCall
+    due = ap (λ (y : Answer × Table). y .0) cleared
+
+    pub clear-refused : (n : ℕ) → v ≡ Refused n → CardCleared s lent s n
+    unfolding clearFor refusalIn numberOf
+    clear-refused n is-v =
+        let by = refused-by n (roomFault t lent most-l) [] (sym (ap numberOf is-v) ∙ due) in
+        left-as s n (refused n)
+        (taken-record s w t e _ _ is ∙ sym (leaves n (roomFault t lent most-l) [] (packedOf freshTable) s (by .1) (by .0)))
+        refl
+
+    pub clear-done : (after : List ℕ) (u : Written) → v ≡ Done → outcome (numberOf u) after ≡ packCall x s → CardCleared s lent after 0
+    unfolding clearFor clearCall refusalIn numberOf
+    clear-done after u is-v packed =
+        let fault : ℕ = roomFault t lent most-l in
+        let by = granted-by fault [] [] (sym (ap numberOf is-v) ∙ due) in
+        let chosen : x ≡ cond (eqb fault 0) freshTable t = ap (λ (y : Answer × Table). y .1) cleared in
+        let fresh : x ≡ freshTable = chosen ∙ ap (λ (b : Bool). cond b freshTable t) (eq-eqb fault 0 (sym (by .0))) in
+        let there : after ≡ packedOf freshTable =
+        packed-there freshTable s after u fresh-length (long-record s (good-record s w t e is .0)) (packed ∙ ap (λ (y : Table). packCall y s) fresh) in
+        left-as after 0 (granted []) (taken-record s w t e _ _ is ∙ sym (writes fault [] (packedOf freshTable) s after (by .0) there)) refl

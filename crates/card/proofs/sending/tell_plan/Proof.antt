@@ -1,0 +1,55 @@
+-- `tell_plan` meets its contract: a refusal tells nothing. Assumes nothing.
+use mathlib.Core.Path.{ap}
+use Rattle.cut.specs.Plan.{numberOf}
+use Rattle.card.specs.Sending.{twos}
+use Rattle.card.proofs.SendLaws.{values-told, none-told}
+use borrow.Author.Needs.{needs}
+use Rattle.card.proofs.sending.tell_plan.Statement.{statement}
+use Rattle.card.proofs.sending.tell_plan.Tie as tie
+
+enum-known-a : tie.Need-enum-known-a
+enum-known-a c = search needs
+
+plan-bytes-requires : tie.Need-plan-bytes-requires
+plan-bytes-requires c κs = search needs
+
+slice-aggregate-tell-bytes : tie.Need-slice-aggregate-tell-bytes
+slice-aggregate-tell-bytes c = search needs
+
+tell-bytes-requires : tie.Need-tell-bytes-requires
+tell-bytes-requires c κs = search needs
+
+enum-known-a-2 : tie.Need-enum-known-a-2
+enum-known-a-2 c = search needs
+
+cast-result : tie.Need-cast-result
+cast-result c = search needs
+
+same-length : tie.Need-same-length
+same-length c = search needs
+
+returns : tie.Need-returns
+unfolding numberOf
+returns c =
+    let said = c .before .before in
+    let made = said .before .before in
+    let known = made .before .before .before in
+    values-told (twos 10) (known .before .before .before .args .told .now) _ _ _ _ (ap numberOf (known .a .given .1)) (made .plan-bytes .ensures) (said .tell-bytes .ensures)
+
+returns-2 : tie.Need-returns-2
+unfolding numberOf
+returns-2 c = none-told (twos 10) (c .before .before .before .before .args .told .now) _ _ (ap numberOf (c .before .a2 .given .1))
+
+pub tell-plan-spec : {M : Type 1} → statement M
+tell-plan-spec =
+    tie.close
+    (tie.spec
+    enum-known-a
+    plan-bytes-requires
+    slice-aggregate-tell-bytes
+    tell-bytes-requires
+    enum-known-a-2
+    cast-result
+    same-length
+    returns
+    returns-2)

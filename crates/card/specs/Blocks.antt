@@ -1,0 +1,44 @@
+-- What the block calls for C answer: the answers of crate code, each as one number, and what is kept as bytes.
+use mathlib.Core.Path.{_≡_}
+use mathlib.Core.Bool.{Bool, not}
+use mathlib.Core.List.{List, [], _∷_}
+use Prim.Native.Nat.{ℕ, zero, suc}
+use lib.Dec.{eqb}
+use lib.ListN.{getD}
+use Rattle.base.specs.Bounds.{most-f}
+use Rattle.base.specs.Answer.{outcome}
+use Rattle.base.specs.Written.{numberOf}
+use Rattle.base.specs.declared.Written.{Written}
+use Rattle.code.specs.Calls as filled
+use Rattle.code.specs.Calls.{encodeCall, BlockFilled}
+use Rattle.code.specs.declared.Filled.{Filled}
+use Rattle.card.specs.Calls.{oneNumber, writtenNumber}
+
+-- test a, test (a + 1), .., n of them
+unfoldable pub flags : (ℕ → Bool) → ℕ → ℕ → List Bool
+flags test a zero = []
+flags test a (suc n) = test a ∷ flags test (suc a) n
+
+-- fragment i is kept where byte i is not 0; past the end of the bytes there are zeros
+abbrev pub isKept : List ℕ → ℕ → Bool
+isKept bytes i = not (eqb (getD bytes i 0) 0)
+
+-- the same for each of the 256 fragments that can be
+unfoldable pub keptOf : List ℕ → List Bool
+keptOf bytes = flags (isKept bytes) 0 most-f
+
+-- a filling's answer as one number: 256 and 257 are its values
+abbrev pub filledNumber : Filled → ℕ
+filledNumber a = oneNumber (filled.numberOf a)
+
+-- the block's call of crate code was answered, and r is the number of its answer
+pub record CardEncoded (packet : List ℕ) (k c : ℕ) (before after : List ℕ) (r : ℕ) : Type 0 where
+  pub answer : Written
+  pub left : outcome (numberOf answer) after ≡ encodeCall packet k c before
+  pub number : r ≡ writtenNumber answer
+
+-- the filling's call of crate code was answered, and r is the number of its answer
+pub record CardFilled (kept : List ℕ) (f s k : ℕ) (block after : List ℕ) (r : ℕ) : Type 0 where
+  pub answer : Filled
+  pub left : BlockFilled (keptOf kept) f s k block after answer
+  pub number : r ≡ filledNumber answer

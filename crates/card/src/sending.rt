@@ -1,0 +1,184 @@
+// The sender for C: the plan of a cut, one fragment, and all of them.
+use crate::address_of;
+use crate::low;
+use crate::tell_bytes;
+use cut::Figures;
+use cut::Planned;
+use cut::Settings;
+use sender::Sent;
+use sender::SentAll;
+use sender::Split;
+ghost use mathlib.Core.Path.{_≡_};
+ghost use mathlib.Core.List.{[], _∷_};
+ghost use Rattle.cut.specs.Plan.{planOf, numberOf, valuesOf};
+ghost use Rattle.sender.specs.Calls.{sentNumber, fragmentCall, allNumber, fragmentsCall};
+ghost use Rattle.card.specs.Told.{refusalIn, inWidths, toldOf};
+ghost use Rattle.card.specs.Sending.{settingsOf, twos, SentAs};
+
+// The settings.
+fn settings_of(
+    fec: usize,
+    m: usize,
+    mtu: usize,
+    addressed: usize,
+    source: u16,
+    dest: u16,
+) -> Settings
+    ensures { λ r. ⌜ r ≡ settingsOf fec m mtu addressed source dest ⌝ }
+{
+    Settings {
+        fec: fec != 0,
+        m,
+        mtu,
+        address: address_of(addressed, source, dest),
+    }
+}
+
+// The figures of a plan as bytes.
+fn plan_bytes(plan: Figures) -> [u8; 20]
+    ensures { λ r. ⌜ r ≡ inWidths (twos 10) (valuesOf plan) ⌝ }
+{
+    [
+        low(plan.c / 256),
+        low(plan.c),
+        low(plan.k / 256),
+        low(plan.k),
+        low(plan.z / 256),
+        low(plan.z),
+        low(plan.n / 256),
+        low(plan.n),
+        low(plan.h / 256),
+        low(plan.h),
+        low(plan.room / 256),
+        low(plan.room),
+        low(plan.total / 256),
+        low(plan.total),
+        low(plan.f / 256),
+        low(plan.f),
+        low(plan.s / 256),
+        low(plan.s),
+        low(plan.assured / 256),
+        low(plan.assured),
+    ]
+}
+
+// Tells the figures of a plan, and gives the number of the answer.
+fn tell_plan(a: Planned, told: &mut [u8]) -> usize
+    ensures { λ r. ⌜ (r ≡ refusalIn (numberOf a)) × (now (told .exit) ≡ toldOf (twos 10) (numberOf a) (now (told .entry))) ⌝ }
+{
+    match a {
+        Planned::Cut(plan) => {
+            tell_bytes(told, &plan_bytes(plan));
+            0
+        }
+        Planned::Refused(n) => n as usize,
+    }
+}
+
+// Plans the cut of a packet of l bytes and tells its figures, and gives 0; else the number of the refusal.
+#[no_mangle]
+pub extern "C" fn bailhammer_plan(
+    fec: usize,
+    m: usize,
+    mtu: usize,
+    addressed: usize,
+    l: usize,
+    told: &mut [u8],
+) -> usize
+    ensures { λ r. ⌜ (r ≡ refusalIn (planOf (settingsOf fec m mtu addressed 0 0) l)) × (now (told .exit) ≡ toldOf (twos 10) (planOf (settingsOf fec m mtu addressed 0 0) l) (now (told .entry))) ⌝ }
+{
+    let a = cut::plan(settings_of(fec, m, mtu, addressed, 0, 0), l);
+    tell_plan(a, told)
+}
+
+// A fragment's length as bytes.
+fn length_bytes(n: usize) -> [u8; 2]
+    ensures { λ r. ⌜ r ≡ inWidths (twos 1) (n ∷ []) ⌝ }
+{
+    [low(n / 256), low(n)]
+}
+
+// Tells the length of a fragment that was written, and gives the number of the answer.
+fn tell_length(a: Sent, told: &mut [u8]) -> usize
+    ensures { λ r. ⌜ (r ≡ refusalIn (sentNumber a)) × (now (told .exit) ≡ toldOf (twos 1) (sentNumber a) (now (told .entry))) ⌝ }
+{
+    match a {
+        Sent::Fragment(n) => {
+            tell_bytes(told, &length_bytes(n));
+            0
+        }
+        Sent::Refused(n) => n as usize,
+    }
+}
+
+// Writes one fragment of a packet at the front of out and tells its length, and gives 0; else the number of the refusal.
+#[no_mangle]
+pub extern "C" fn bailhammer_fragment(
+    fec: usize,
+    m: usize,
+    mtu: usize,
+    addressed: usize,
+    source: u16,
+    dest: u16,
+    number: u16,
+    packet: &[u8],
+    index: usize,
+    told: &mut [u8],
+    out: &mut [u8],
+) -> usize
+    ensures { λ r. ⌜ SentAs (twos 1) (fragmentCall (settingsOf fec m mtu addressed source dest) number (now (packet .entry)) index (now (out .entry))) (now (told .entry)) (now (told .exit)) (now (out .exit)) r ⌝ }
+{
+    let g = settings_of(fec, m, mtu, addressed, source, dest);
+    let a = sender::fragment(g, number, packet, index, out);
+    tell_length(a, told)
+}
+
+// The split as bytes.
+fn split_bytes(p: Split) -> [u8; 8]
+    ensures { λ r. ⌜ r ≡ inWidths (twos 4) (p .f ∷ p .h ∷ p .s ∷ p .last ∷ []) ⌝ }
+{
+    [
+        low(p.f / 256),
+        low(p.f),
+        low(p.h / 256),
+        low(p.h),
+        low(p.s / 256),
+        low(p.s),
+        low(p.last / 256),
+        low(p.last),
+    ]
+}
+
+// Tells how what was written is split, and gives the number of the answer.
+fn tell_split(a: SentAll, told: &mut [u8]) -> usize
+    ensures { λ r. ⌜ (r ≡ refusalIn (allNumber a)) × (now (told .exit) ≡ toldOf (twos 4) (allNumber a) (now (told .entry))) ⌝ }
+{
+    match a {
+        SentAll::Fragments(p) => {
+            tell_bytes(told, &split_bytes(p));
+            0
+        }
+        SentAll::Refused(n) => n as usize,
+    }
+}
+
+// Writes all fragments of a packet at the front of out and tells how out is split, and gives 0; else the number of the refusal.
+#[no_mangle]
+pub extern "C" fn bailhammer_fragments(
+    fec: usize,
+    m: usize,
+    mtu: usize,
+    addressed: usize,
+    source: u16,
+    dest: u16,
+    number: u16,
+    packet: &[u8],
+    told: &mut [u8],
+    out: &mut [u8],
+) -> usize
+    ensures { λ r. ⌜ SentAs (twos 4) (fragmentsCall (settingsOf fec m mtu addressed source dest) number (now (packet .entry)) (now (out .entry))) (now (told .entry)) (now (told .exit)) (now (out .exit)) r ⌝ }
+{
+    let g = settings_of(fec, m, mtu, addressed, source, dest);
+    let a = sender::fragments(g, number, packet, out);
+    tell_split(a, told)
+}

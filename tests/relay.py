@@ -1,0 +1,69 @@
+"""Writes what the program `relay` reads and what it has to print: crates/relay/stdin and crates/relay/stdout.
+
+    python3 tests/relay.py
+
+The packet is the longest, 8,192 bytes with CF 1: "*ptr" and one item. The fragments are those of the sender in fragments.py, what each is answered
+and what is handed out comes from the receiver in receiver.py. The line's rule is written here anew: neighbours are exchanged, fragments 2, 5, 8, ..
+come twice, and 4, 9, .. are lost, as many as the house default assures. None of it is taken from the program. Running this again gives the same bytes.
+"""
+import itertools
+import pathlib
+import sys
+
+sys.dont_write_bytecode = True
+import fragments
+import packets
+import receiver
+
+RELAY = pathlib.Path(__file__).resolve().parent.parent / "crates" / "relay"
+NUMBER = 1  # of the packet on the line
+ASSURED, MTU = 2, 1400  # the house default: FEC on, m = 2, MTU 1,400, no address
+
+
+def line(f):
+    """The fragments in the order in which they come, each with the times that it comes: 0 for one that is lost."""
+    lost = list(range(4, f, 5))[:ASSURED]
+    for first in range(0, f, 2):
+        for i in reversed(range(first, min(first + 2, f))):
+            yield i, 0 if i in lost else 2 if i in range(2, f, 3) else 1
+
+
+def shown(answer):
+    """An answer of the receiver as a line has it, and the packet if one was handed out."""
+    name, *words = answer.split(" ")
+    if name == "delivered":
+        return f"delivered {words[0]} bytes, {words[1]} fragments not held", bytes.fromhex(words[3])
+    return "kept" if name == "kept" else " ".join([name, words[0]]), None
+
+
+def printed(packet):
+    """The lines that a packet has to give, whatever its bytes are."""
+    whole = fragments.sent(True, ASSURED, MTU, b"", NUMBER, packet)
+    if isinstance(whole, str):
+        return [whole]
+    lines = [f"packet {len(packet)} bytes: {len(whole)} fragments of {len(whole[0])} bytes, any {ASSURED} may be lost"]
+    far, handed = receiver.Receiver(), None
+    for i, times in line(len(whole)):
+        for _ in range(times):
+            words, out = shown(far.answer(receiver.recv(whole[i])))
+            lines.append(f"fragment {i} {words}")
+            handed = handed or out
+        if not times:
+            lines.append(f"fragment {i} lost")
+    assert handed == packet, len(packet)
+    return lines + ["the packet is the one that went in"]
+
+
+def longest():
+    pointer = packets.whole(b"*ptr", b"abcd\0\1\0\0")
+    value = bytes(number % 256 for number in itertools.islice(packets.draw(8192), 8192 - 12 - len(pointer) - 8))
+    return packets.af(pointer + packets.whole(b"abc_", value))
+
+
+if __name__ == "__main__":
+    fragments.held()
+    receiver.held()
+    packet = longest()
+    assert len(packet) == 8192
+    (RELAY / "stdin").write_bytes(packet)
+    (RELAY / "stdout").write_text("".join(words + "\n" for words in printed(packet)))
