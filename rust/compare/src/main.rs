@@ -103,9 +103,10 @@ fn receptions(seed: u64) -> [Tally; 3] {
     let mut rng = Rng::new(seed, RECEIVE);
     let mut desk = Desk::new(&mut rng);
     timed(RECEIVE, || (0..RECEIVED).for_each(|_| desk.turn(&mut rng)));
-    let (delivered, longest, strays) = (desk.delivered, desk.longest, desk.strays);
-    println!("receive: {delivered} packets handed out, the longest of {longest} bytes");
-    println!("receive: {strays} calls from records that no calls leave, compared in part");
+    let over = |least: usize| desk.delivered.iter().filter(|length| **length > least).count();
+    let (all, some, few) = (over(0), over(207), over(3_000));
+    println!("receive: {all} packets handed out, {some} over 207 bytes, {few} over 3,000 bytes");
+    println!("receive: {} calls from records that no calls leave, compared in part", desk.strays);
     [desk.received, desk.queried, desk.cleared]
 }
 

@@ -41,9 +41,8 @@ pub struct Desk {
     pub cleared: Tally,
     /// Calls from a stray record that were not refused for anything before its places.
     pub strays: usize,
-    /// Packets handed out, and the bytes of the longest.
-    pub delivered: usize,
-    pub longest: usize,
+    /// The lengths of the packets handed out.
+    pub delivered: Vec<usize>,
 }
 
 impl Desk {
@@ -57,8 +56,7 @@ impl Desk {
             queried: Tally::new("query", &[0, 1, 14]),
             cleared: Tally::new("clear", &[0, 1, 14]),
             strays: 0,
-            delivered: 0,
-            longest: 0,
+            delivered: Vec::new(),
         }
     }
 
@@ -168,8 +166,7 @@ impl Desk {
         let Ok(Received { kept: Kept::Delivered { length, .. }, .. }) = answer else {
             return;
         };
-        self.delivered += 1;
-        self.longest = self.longest.max(*length);
+        self.delivered.push(*length);
         if rng.chance(70) {
             self.traffic.forget(u16::from_be_bytes([call.datagram[2], call.datagram[3]]));
         }

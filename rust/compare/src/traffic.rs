@@ -62,9 +62,9 @@ impl Traffic {
 /// A packet of l bytes where most are short.
 fn length(rng: &mut Rng) -> usize {
     match rng.below(1_000) {
-        0..700 => rng.within(12, 207),
-        700..930 => rng.within(208, 900),
-        930..985 => rng.within(901, 3_000),
+        0..550 => rng.within(12, 207),
+        550..800 => rng.within(208, 900),
+        800..940 => rng.within(901, 3_000),
         _ => rng.within(3_001, 8_192),
     }
 }
