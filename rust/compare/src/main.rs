@@ -103,9 +103,16 @@ fn receptions(seed: u64) -> [Tally; 3] {
     let mut rng = Rng::new(seed, RECEIVE);
     let mut desk = Desk::new(&mut rng);
     timed(RECEIVE, || (0..RECEIVED).for_each(|_| desk.turn(&mut rng)));
-    let over = |least: usize| desk.delivered.iter().filter(|length| **length > least).count();
-    let (all, some, few) = (over(0), over(207), over(3_000));
-    println!("receive: {all} packets handed out, {some} over 207 bytes, {few} over 3,000 bytes");
+    let delivered = |wanted: fn(usize, usize) -> bool| {
+        desk.delivered.iter().filter(|(length, missing)| wanted(*length, *missing)).count()
+    };
+    println!(
+        "receive: {} packets handed out, {} over 207 bytes, {} over 3,000, {} with fragments missing",
+        desk.delivered.len(),
+        delivered(|length, _| length > 207),
+        delivered(|length, _| length > 3_000),
+        delivered(|_, missing| missing > 0),
+    );
     println!("receive: {} calls from records that no calls leave, compared in part", desk.strays);
     [desk.received, desk.queried, desk.cleared]
 }

@@ -41,8 +41,8 @@ pub struct Desk {
     pub cleared: Tally,
     /// Calls from a stray record that were not refused for anything before its places.
     pub strays: usize,
-    /// The lengths of the packets handed out.
-    pub delivered: Vec<usize>,
+    /// The lengths of the packets handed out, and how many fragments of each were not held.
+    pub delivered: Vec<(usize, usize)>,
 }
 
 impl Desk {
@@ -163,10 +163,10 @@ impl Desk {
 
     /// Counts packets handed out, and mostly stops sending what has come.
     fn note(&mut self, rng: &mut Rng, answer: &Result<Received, u8>, call: &Call) {
-        let Ok(Received { kept: Kept::Delivered { length, .. }, .. }) = answer else {
+        let Ok(Received { kept: Kept::Delivered { length, missing }, .. }) = answer else {
             return;
         };
-        self.delivered.push(*length);
+        self.delivered.push((*length, *missing));
         if rng.chance(70) {
             self.traffic.forget(u16::from_be_bytes([call.datagram[2], call.datagram[3]]));
         }
