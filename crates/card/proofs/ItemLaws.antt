@@ -8,7 +8,7 @@ use native.Mathlib.Omega.{arith}
 use borrow.Author.Tests.{eq-eqb, ne-eqb}
 use lib.Dec.{eqb, lit<}
 use lib.ListN.{length, getD}
-use Rattle.base.specs.Answer.{Answer, granted, refused, Outcome, outcome}
+use Rattle.base.specs.Answer.{granted, refused, outcome}
 use Rattle.base.specs.Bytes.{splice, numberAt, bytesOf}
 use Rattle.base.specs.Written.{numberOf, putOf}
 use Rattle.base.specs.declared.Written.{Written}
@@ -22,11 +22,12 @@ use Rattle.item.specs.Item.{valuesOf}
 use Rattle.walk.specs.declared.Walked.{Walked}
 use Rattle.walk.specs.declared.Walker.{Walker}
 use Rattle.walk.specs.Step.{opens}
-use Rattle.card.specs.Told.{refusalIn, toldIn, inWidths, toldOf, answerIn, bytesIn}
+use Rattle.card.specs.Told.{refusalIn, inWidths, toldOf, CardTold}
 use Rattle.card.specs.Items.{found-widths, walker-widths, walker-bytes, walkerBytes, walkerFrom, walkOpenFault, walkOpenCall}
 use Rattle.card.specs.Items.{step-widths, steppedNumber, stepped, walkStepCall, walkerAfter, CardStepped}
 use Rattle.card.proofs.SplitLaws.{one-byte}
 use Rattle.card.proofs.ReceiveLaws.{whole}
+use Rattle.card.proofs.ToldLaws.{told-as}
 
 -- ---- numbers
 
@@ -60,27 +61,6 @@ pub found-are : (which : ℕ) (i : Item) {b f n : List ℕ} → which < 256 → 
     ∷ getD f 6 0 ∷ getD f 7 0 ∷ getD n 0 0 ∷ getD n 1 0 ∷ getD n 2 0 ∷ getD n 3 0 ∷ [] ≡ inWidths found-widths (which ∷ valuesOf i)
 unfolding inWidths bytesOf
 found-are which i small is-b is-f is-n = one-byte which small (rw (is-b, is-f, is-n))
-
--- ---- an answer that is told, and one that is not
-
-pub told-by : (widths values before : List ℕ) {a : Answer} {after bytes : List ℕ} → a ≡ granted values → bytes ≡ inWidths widths values
-    → after ≡ toldIn before bytes → (0 ≡ refusalIn a) × (after ≡ toldOf widths a before)
-unfolding refusalIn toldOf
-told-by widths values before is-a is-bytes is-after =
-    (sym (ap refusalIn is-a), is-after ∙ ap (toldIn before) is-bytes ∙ sym (ap (λ (x : Answer). toldOf widths x before) is-a))
-
-pub untold-by : (widths before : List ℕ) {a : Answer} {n : ℕ} → a ≡ refused n → (n ≡ refusalIn a) × (before ≡ toldOf widths a before)
-unfolding refusalIn toldOf
-untold-by widths before is-a = (sym (ap refusalIn is-a), sym (ap (λ (x : Answer). toldOf widths x before) is-a))
-
--- the same for a call that writes
-pub call-refused : {n : ℕ} {before : List ℕ} {o : Outcome} → outcome (refused n) before ≡ o → (n ≡ refusalIn (answerIn o)) × (before ≡ bytesIn o)
-unfolding refusalIn answerIn bytesIn
-call-refused e = (ap (λ (o : Outcome). refusalIn (answerIn o)) e, ap bytesIn e)
-
-pub call-granted : {values after : List ℕ} {o : Outcome} → outcome (granted values) after ≡ o → (0 ≡ refusalIn (answerIn o)) × (after ≡ bytesIn o)
-unfolding refusalIn answerIn bytesIn
-call-granted e = (ap (λ (o : Outcome). refusalIn (answerIn o)) e, ap bytesIn e)
 
 -- ---- a walk as bytes
 
@@ -179,31 +159,27 @@ module _ (packet names walker told : List ℕ) where
 
   module _ (x : Walked) (long : length walker ≡ walker-bytes) (is-x : x ≡ stepped packet names walker) where
     -- where a step goes on, and where it is refused
-    module _ {r : ℕ} {told-after : List ℕ} (number : r ≡ refusalIn (steppedNumber (x .handed)))
-        (tells : told-after ≡ toldOf step-widths (steppedNumber (x .handed)) told) where
-      is-number : r ≡ refusalIn (walkStepCall packet names walker)
-      is-number = number ∙ ap refusalIn (answers packet names walker x long is-x)
-
-      is-told : told-after ≡ toldOf step-widths (walkStepCall packet names walker) told
-      is-told = tells ∙ ap (λ (a : Answer). toldOf step-widths a told) (answers packet names walker x long is-x)
+    module _ {r : ℕ} {told-after : List ℕ} (said : CardTold step-widths (steppedNumber (x .handed)) told told-after r) where
+      there : CardTold step-widths (walkStepCall packet names walker) told told-after r
+      there = told-as step-widths told (answers packet names walker x long is-x) said
 
       pub step-on : {y : List ℕ} → r ≡ 0 → y ≡ walkerBytes (x .next) → CardStepped packet names walker y told told-after r
       unfolding walkerAfter
       step-on z is-y = record {
-        number = is-number;
-        tells = is-told;
+        number = there .number;
+        tells = there .told;
         goes =
             is-y ∙ ap (λ (y : Walked). walkerBytes (y .next)) is-x
             ∙ sym (ap (λ (b : Bool). cond b (walkerBytes (stepped packet names walker .next)) walker)
-            (eq-eqb (refusalIn (walkStepCall packet names walker)) 0 (sym is-number ∙ z)));
+            (eq-eqb (refusalIn (walkStepCall packet names walker)) 0 (sym (there .number) ∙ z)));
       }
 
       pub step-not : (r ≡ 0 → ⊥) → CardStepped packet names walker walker told told-after r
       unfolding walkerAfter
       step-not h = record {
-        number = is-number;
-        tells = is-told;
+        number = there .number;
+        tells = there .told;
         goes =
             sym (ap (λ (b : Bool). cond b (walkerBytes (stepped packet names walker .next)) walker)
-            (ne-eqb (refusalIn (walkStepCall packet names walker)) 0 (λ (z : refusalIn (walkStepCall packet names walker) ≡ 0). h (is-number ∙ z))));
+            (ne-eqb (refusalIn (walkStepCall packet names walker)) 0 (λ (z : refusalIn (walkStepCall packet names walker) ≡ 0). h (there .number ∙ z))));
       }

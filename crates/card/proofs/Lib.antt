@@ -1,11 +1,11 @@
-pub mod FlagLaws
-pub mod SplitLaws
-pub mod SendLaws
 pub mod ToldLaws
+pub mod SplitLaws
+pub mod FlagLaws
 pub mod PacketLaws
 pub mod ReceiveLaws
-pub mod Proved
 pub mod QueryLaws
-pub mod ReceiveProved
 pub mod ItemLaws
+pub mod SendProved
+pub mod ReceiveProved
 pub mod WalkProved
+pub mod Proved

@@ -7,7 +7,7 @@ use native.Mathlib.Omega.{arith}
 use borrow.Author.Tests.{eq-eqb, ne-eqb}
 use lib.Dec.{eqb}
 use lib.ListN.{length, getD, length-replicate}
-use Rattle.base.specs.Answer.{Answer, granted, refused, answered, Outcome, outcome}
+use Rattle.base.specs.Answer.{Answer, granted, refused, answered, outcome}
 use Rattle.base.specs.Bounds.{most-l}
 use Rattle.base.specs.Bytes.{bytesOf}
 use Rattle.base.specs.Written.{numberOf}
@@ -27,9 +27,10 @@ use Rattle.receiver.specs.declared.Seen.the-variants as seen
 use Rattle.receiver.specs.declared.Shown.{Shown}
 use Rattle.receiver.specs.declared.Queried.{Queried}
 use Rattle.receiver.specs.declared.Queried.the-variants as queried
-use Rattle.card.specs.Told.{refusalIn, inWidths, toldOf, answerIn, bytesIn}
-use Rattle.card.specs.Receiving.{placeTold, placesTold, placesWidths, queryFor, CardQueried, seenTold, seenBytes, shownTold, queriedIn, clearFor, CardCleared}
+use Rattle.card.specs.Told.{refusalIn, inWidths, CardWritten, CardTold}
+use Rattle.card.specs.Receiving.{placeTold, placesTold, places-widths, queryFor, seenTold, seenBytes, shownTold, queriedIn, clearFor}
 use Rattle.card.proofs.ReceiveLaws.{refused-record, good-record, taken-record, long-record, packed-there}
+use Rattle.card.proofs.ToldLaws.{handed-on, told-refused, told-as}
 
 -- ---- the values of a query, with a number for a free place too
 
@@ -109,30 +110,26 @@ next s {rest = rest} w v e h =
     ap (λ (x : List ℕ). readThree x rest) e ∙ three-read s rest ∙ ap (λ (x : List ℕ). seenBytes s ++ x) h ∙ sym (seen-next s w v)
 
 pub twelve : (p : Shown) {a b c d : List ℕ} → a ≡ seenBytes (p .first) → b ≡ seenBytes (p .second) → c ≡ seenBytes (p .third)
-    → d ≡ seenBytes (p .fourth) → readThree a (readThree b (readThree c (readThree d []))) ≡ inWidths placesWidths (shownTold p)
+    → d ≡ seenBytes (p .fourth) → readThree a (readThree b (readThree c (readThree d []))) ≡ inWidths places-widths (shownTold p)
 unfolding shownTold inWidths
 twelve p ea eb ec ed =
     next (p .first) (1 ∷ 2 ∷ 1 ∷ 2 ∷ 1 ∷ 2 ∷ []) (seenTold (p .second) ++ (seenTold (p .third) ++ seenTold (p .fourth))) ea
     (next (p .second) (1 ∷ 2 ∷ 1 ∷ 2 ∷ []) (seenTold (p .third) ++ seenTold (p .fourth)) eb
     (next (p .third) (1 ∷ 2 ∷ []) (seenTold (p .fourth)) ec
     (next (p .fourth) [] [] ed refl ∙ ap (inWidths (1 ∷ 2 ∷ [])) (append-nil (seenTold (p .fourth))))))
-    ∙ ap (inWidths placesWidths) (sym (to-right (seenTold (p .first)) (seenTold (p .second)) (seenTold (p .third)) (seenTold (p .fourth))))
+    ∙ ap (inWidths places-widths) (sym (to-right (seenTold (p .first)) (seenTold (p .second)) (seenTold (p .third)) (seenTold (p .fourth))))
 
 -- ---- the query's ends
 
-module _ (s : List ℕ) (lent : ℕ) (before after : List ℕ) (r : ℕ) (w : Written) (t : Table) (e : (numberOf w, t) ≡ unpackCall s) where
-  pub query-refused : (n : ℕ) → w ≡ Refused n → r ≡ n → after ≡ before → CardQueried s lent before after r
-  unfolding queryFor refusalIn toldOf
-  query-refused n is is-r same =
-      let answer : queryFor s lent ≡ refused n = refused-record s w t e refused _ n is in
-      record { number = is-r ∙ sym (ap refusalIn answer); told = same ∙ sym (ap (λ (a : Answer). toldOf placesWidths a before) answer) }
-
-  pub query-done : (q : Queried) → w ≡ Done → queriedNumber q ≡ queryCall t lent
-      → (r ≡ refusalIn (queriedIn q)) × (after ≡ toldOf placesWidths (queriedIn q) before) → CardQueried s lent before after r
+module _ (s : List ℕ) (lent : ℕ) (before : List ℕ) (w : Written) (t : Table) (e : (numberOf w, t) ≡ unpackCall s) where
+  pub query-refused : (n : ℕ) → w ≡ Refused n → CardTold places-widths (queryFor s lent) before before n
   unfolding queryFor
-  query-done q is asked said =
-      let answer : queriedIn q ≡ queryFor s lent = query-told q t lent asked ∙ sym (taken-record s w t e refused _ is) in
-      record { number = said .0 ∙ ap refusalIn answer; told = said .1 ∙ ap (λ (a : Answer). toldOf placesWidths a before) answer }
+  query-refused n is = told-refused places-widths before (refused-record s w t e refused _ n is)
+
+  pub query-done : {after : List ℕ} {r : ℕ} (q : Queried) → w ≡ Done → queriedNumber q ≡ queryCall t lent
+      → CardTold places-widths (queriedIn q) before after r → CardTold places-widths (queryFor s lent) before after r
+  unfolding queryFor
+  query-done q is asked said = told-as places-widths before (query-told q t lent asked ∙ sym (taken-record s w t e refused _ is)) said
 
 -- ---- the clearing's ends
 
@@ -140,28 +137,24 @@ fresh-length : length (packedOf freshTable) ≡ table-bytes
 fresh-length = ap length fresh-zeros ∙ length-replicate {A = ℕ} table-bytes 0
 
 module _ (s : List ℕ) (lent : ℕ) (w : Written) (t : Table) (e : (numberOf w, t) ≡ unpackCall s) where
-  left-as : (after : List ℕ) (r : ℕ) (a : Answer) → clearFor s lent ≡ outcome a after → r ≡ refusalIn a → CardCleared s lent after r
-  unfolding answerIn bytesIn
-  left-as after r a is is-r = record { number = is-r ∙ sym (ap (λ (x : Outcome). refusalIn (answerIn x)) is); left = sym (ap bytesIn is) }
-
-  pub clear-no-record : (n : ℕ) → w ≡ Refused n → CardCleared s lent s n
+  pub clear-no-record : (n : ℕ) → w ≡ Refused n → CardWritten (clearFor s lent) s n
   unfolding clearFor refusalIn
-  clear-no-record n is = left-as s n (refused n) (refused-record s w t e _ _ n is) refl
+  clear-no-record n is = handed-on {a = refused n} (sym (refused-record s w t e _ _ n is)) refl
 
   module _ (v : Written) (x : Table) (cleared : (numberOf v, x) ≡ clearCall t lent) (is : w ≡ Done) where
     due : numberOf v ≡ answered (roomFault t lent most-l) []
     unfolding clearCall
     due = ap (λ (y : Answer × Table). y .0) cleared
 
-    pub clear-refused : (n : ℕ) → v ≡ Refused n → CardCleared s lent s n
+    pub clear-refused : (n : ℕ) → v ≡ Refused n → CardWritten (clearFor s lent) s n
     unfolding clearFor refusalIn numberOf
     clear-refused n is-v =
         let by = refused-by n (roomFault t lent most-l) [] (sym (ap numberOf is-v) ∙ due) in
-        left-as s n (refused n)
-        (taken-record s w t e _ _ is ∙ sym (leaves n (roomFault t lent most-l) [] (packedOf freshTable) s (by .1) (by .0)))
+        handed-on {a = refused n}
+        (leaves n (roomFault t lent most-l) [] (packedOf freshTable) s (by .1) (by .0) ∙ sym (taken-record s w t e _ _ is))
         refl
 
-    pub clear-done : (after : List ℕ) (u : Written) → v ≡ Done → outcome (numberOf u) after ≡ packCall x s → CardCleared s lent after 0
+    pub clear-done : (after : List ℕ) (u : Written) → v ≡ Done → outcome (numberOf u) after ≡ packCall x s → CardWritten (clearFor s lent) after 0
     unfolding clearFor clearCall refusalIn numberOf
     clear-done after u is-v packed =
         let fault : ℕ = roomFault t lent most-l in
@@ -170,4 +163,4 @@ module _ (s : List ℕ) (lent : ℕ) (w : Written) (t : Table) (e : (numberOf w,
         let fresh : x ≡ freshTable = chosen ∙ ap (λ (b : Bool). cond b freshTable t) (eq-eqb fault 0 (sym (by .0))) in
         let there : after ≡ packedOf freshTable =
         packed-there freshTable s after u fresh-length (long-record s (good-record s w t e is .0)) (packed ∙ ap (λ (y : Table). packCall y s) fresh) in
-        left-as after 0 (granted []) (taken-record s w t e _ _ is ∙ sym (writes fault [] (packedOf freshTable) s after (by .0) there)) refl
+        handed-on {a = granted []} (writes fault [] (packedOf freshTable) s after (by .0) there ∙ sym (taken-record s w t e _ _ is)) refl

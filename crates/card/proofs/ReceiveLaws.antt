@@ -30,8 +30,9 @@ use Rattle.places.proofs.Records.{as-long}
 use Rattle.receiver.specs.Promise as promise
 use Rattle.receiver.specs.Promise.{Step}
 use Rattle.receiver.specs.declared.Received.{Received}
+use Rattle.card.specs.Told.{bytesIn}
 use Rattle.card.specs.Receiving.{onRecord, toldAfter, Held, ReceivedWith, CardReceived}
-use Rattle.card.proofs.SplitLaws.{bytesLeft, chosen}
+use Rattle.card.proofs.SplitLaws.{chosen}
 
 -- ---- the record
 
@@ -83,9 +84,9 @@ long-record s none =
 -- and what is packed there is all of it
 pub packed-there : (t : Table) (s y : List ℕ) (w : Written) → length (packedOf t) ≡ table-bytes → length s ≡ table-bytes
     → outcome (numberOf w) y ≡ packCall t s → y ≡ packedOf t
-unfolding packCall bytesLeft
+unfolding packCall bytesIn
 packed-there t s y w long as-long e =
-    ap bytesLeft e
+    ap bytesIn e
     ∙ chosen (ltb (length s) table-bytes) (splice s 0 (packedOf t)) s
     ∙ ap (λ (b : Bool). cond b s (splice s 0 (packedOf t))) (le-ltb (length s) table-bytes (omega arith))
     ∙ whole s (packedOf t) (long ∙ sym as-long)

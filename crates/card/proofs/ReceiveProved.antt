@@ -1,4 +1,4 @@
--- The claims of specs/ReceiveClaims.antt. Assumes nothing.
+-- The claims of specs/Claims.antt on the receiver. Assumes nothing.
 use mathlib.Core.Path.{_≡_, refl, sym, ap, _∙_, subst}
 use mathlib.Core.Bool.{false}
 use mathlib.Core.List.{List, []}
@@ -27,7 +27,7 @@ use Rattle.receiver.proofs.Proved.{one-outcome, one-received}
 use Rattle.receiver.proofs.Unique.{step-settled, step-refused}
 use Rattle.card.specs.Told.{refusalIn, answerIn, bytesIn}
 use Rattle.card.specs.Receiving.{onRecord, toldAfter, Held, ReceivedWith, CardReceived, clearFor}
-use Rattle.card.specs.ReceiveClaims.{ZerosFresh, ClearedZeros, OneReceipt, RefusedUnchanged}
+use Rattle.card.specs.Claims.{ZerosFresh, ClearedZeros, OneReceipt, RefusedUnchanged}
 
 -- ---- a fresh record
 
@@ -74,7 +74,7 @@ cleared-by s lent o is none =
     absurd (eqb-false (unpackFault s) 0 z (sym (none ∙ ap (λ (x : Outcome). refusalIn (answerIn x)) to))))
 
 pub cleared-zeros : ClearedZeros
-cleared-zeros s after lent cleared = cleared .left ∙ cleared-by s lent (clearFor s lent) refl (cleared .number) ∙ fresh-zeros
+cleared-zeros s after lent cleared = cleared .out ∙ cleared-by s lent (clearFor s lent) refl (cleared .number) ∙ fresh-zeros
 
 -- ---- a receiving
 

@@ -1,40 +1,50 @@
--- The number and the bytes of a call's outcome, for the calls that hand it on to C. Assumes nothing.
-use mathlib.Core.Path.{_≡_, refl, ap, _∙_}
+-- An answer or an outcome that a call hands on to C. Assumes nothing.
+use mathlib.Core.Path.{_≡_, sym, ap, _∙_}
 use mathlib.Core.List.{List}
 use Prim.Native.Nat.{ℕ}
 use Rattle.base.specs.Answer.{Answer, granted, refused, Outcome, outcome}
-use Rattle.base.specs.Written.{numberOf}
-use Rattle.base.specs.declared.Written.{Written}
-use Rattle.base.specs.declared.Written.the-variants.{Done, Refused}
-use Rattle.card.specs.Calls.{oneNumber, writtenNumber}
-use Rattle.card.specs.Told.{refusalIn, toldIn, inWidths, toldOf, answerIn, bytesIn}
+use Rattle.card.specs.Told.{refusalIn, toldIn, inWidths, toldOf, answerIn, bytesIn, CardWritten, CardTold, SentAs}
 
--- the answer and the bytes of an outcome that is known
-pub answer-in : (a : Answer) (after : List ℕ) (x : Outcome) → outcome a after ≡ x → a ≡ answerIn x
+-- ---- a call that writes
+
+answer-in : {a : Answer} {after : List ℕ} {due : Outcome} → outcome a after ≡ due → a ≡ answerIn due
 unfolding answerIn
-answer-in a after x e = ap answerIn e
+answer-in e = ap answerIn e
 
-pub bytes-in : (a : Answer) (after : List ℕ) (x : Outcome) → outcome a after ≡ x → after ≡ bytesIn x
+bytes-in : {a : Answer} {after : List ℕ} {due : Outcome} → outcome a after ≡ due → after ≡ bytesIn due
 unfolding bytesIn
-bytes-in a after x e = ap bytesIn e
+bytes-in e = ap bytesIn e
 
--- a writing's one number is the number given back
-pub written-refusal : (w : Written) → writtenNumber w ≡ refusalIn (numberOf w)
-unfolding oneNumber refusalIn numberOf
-written-refusal Done = refl
-written-refusal (Refused n) = refl
+-- its outcome, handed on with the answer's number
+pub handed-on : {a : Answer} {after : List ℕ} {due : Outcome} {r : ℕ} → outcome a after ≡ due → r ≡ refusalIn a → CardWritten due after r
+handed-on e n = record { number = n ∙ ap refusalIn (answer-in e); out = bytes-in e }
 
-pub written-in : (w : Written) (after : List ℕ) (x : Outcome) → outcome (numberOf w) after ≡ x → writtenNumber w ≡ refusalIn (answerIn x)
-written-in w after x e = written-refusal w ∙ ap refusalIn (answer-in (numberOf w) after x e)
+-- ---- a call that tells
 
--- what a call tells: a refusal nothing, else the values where they have place
-pub told-granted : (widths values : List ℕ) (due : Answer) (bytes before after : List ℕ) → granted values ≡ due → bytes ≡ inWidths widths values
-    → after ≡ toldIn before bytes → (0 ≡ refusalIn due) × (after ≡ toldOf widths due before)
+-- the values of an answer that refuses nothing are told,
+pub told-granted : (widths values before : List ℕ) {a : Answer} {after bytes : List ℕ} → a ≡ granted values → bytes ≡ inWidths widths values
+    → after ≡ toldIn before bytes → CardTold widths a before after 0
 unfolding refusalIn toldOf
-told-granted widths values due bytes before after e is put =
-    (ap refusalIn e, put ∙ ap (toldIn before) is ∙ ap (λ (a : Answer). toldOf widths a before) e)
+told-granted widths values before is e put = record {
+  number = sym (ap refusalIn is);
+  told = put ∙ ap (toldIn before) e ∙ sym (ap (λ (x : Answer). toldOf widths x before) is);
+}
 
-pub told-refused : (widths : List ℕ) (n : ℕ) (due : Answer) (before : List ℕ) → refused n ≡ due
-    → (n ≡ refusalIn due) × (before ≡ toldOf widths due before)
+-- and of a refusal nothing is
+pub told-refused : (widths before : List ℕ) {a : Answer} {n : ℕ} → a ≡ refused n → CardTold widths a before before n
 unfolding refusalIn toldOf
-told-refused widths n due before e = (ap refusalIn e, ap (λ (a : Answer). toldOf widths a before) e)
+told-refused widths before is = record { number = sym (ap refusalIn is); told = sym (ap (λ (x : Answer). toldOf widths x before) is) }
+
+-- what is told of an answer is told of one that is the same
+pub told-as : (widths before : List ℕ) {after : List ℕ} {r : ℕ} {a b : Answer} → a ≡ b → CardTold widths a before after r
+    → CardTold widths b before after r
+told-as widths before is said =
+    record { number = said .number ∙ ap refusalIn is; told = said .told ∙ ap (λ (x : Answer). toldOf widths x before) is }
+
+-- ---- a call that does both
+
+pub sent-as : (widths before : List ℕ) {told after : List ℕ} {r : ℕ} {a : Answer} {due : Outcome} → outcome a after ≡ due
+    → CardTold widths a before told r → SentAs widths due before told after r
+sent-as widths before e said =
+    let there = told-as widths before (answer-in e) said in
+    record { number = there .number; told = there .told; out = bytes-in e }

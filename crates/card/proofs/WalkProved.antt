@@ -1,4 +1,4 @@
--- The claims of specs/WalkClaims.antt. Assumes nothing.
+-- The claims of specs/Claims.antt on a walk. Assumes nothing.
 use mathlib.Core.Path.{_≡_, refl, sym, ap, _∙_, subst}
 use mathlib.Core.Bool.{Bool, true, false, cond}
 use mathlib.Core.List.{List, [], _∷_}
@@ -21,7 +21,7 @@ use Rattle.walk.specs.Step.{endOf, stepFrom, walkStep}
 use Rattle.walk.proofs.StepCases.{step-item, step-end, step-refused}
 use Rattle.card.specs.Told.{refusalIn, inWidths}
 use Rattle.card.specs.Items.{walker-widths, walkerBytes, walkerFrom, steppedNumber, stepped}
-use Rattle.card.specs.WalkClaims.{ReadBack, StepNumbers}
+use Rattle.card.specs.Claims.{ReadBack, StepNumbers}
 use Rattle.card.proofs.ItemLaws.{five, walker-read, answers}
 
 -- ---- reading back

@@ -1,4 +1,4 @@
--- What the block calls for C answer: the answers of crate code, each as one number, and what is kept as bytes.
+-- What the filling's call for C answers: the answer of crate code as one number, and what is kept as bytes.
 use mathlib.Core.Path.{_≡_}
 use mathlib.Core.Bool.{Bool, not}
 use mathlib.Core.List.{List, [], _∷_}
@@ -6,13 +6,9 @@ use Prim.Native.Nat.{ℕ, zero, suc}
 use lib.Dec.{eqb}
 use lib.ListN.{getD}
 use Rattle.base.specs.Bounds.{most-f}
-use Rattle.base.specs.Answer.{outcome}
-use Rattle.base.specs.Written.{numberOf}
-use Rattle.base.specs.declared.Written.{Written}
-use Rattle.code.specs.Calls as filled
-use Rattle.code.specs.Calls.{encodeCall, BlockFilled}
+use Rattle.base.specs.Answer.{Answer, granted, refused}
+use Rattle.code.specs.Calls.{numberOf, BlockFilled}
 use Rattle.code.specs.declared.Filled.{Filled}
-use Rattle.card.specs.Calls.{oneNumber, writtenNumber}
 
 -- test a, test (a + 1), .., n of them
 unfoldable pub flags : (ℕ → Bool) → ℕ → ℕ → List Bool
@@ -27,15 +23,15 @@ isKept bytes i = not (eqb (getD bytes i 0) 0)
 unfoldable pub keptOf : List ℕ → List Bool
 keptOf bytes = flags (isKept bytes) 0 most-f
 
--- a filling's answer as one number: 256 and 257 are its values
-abbrev pub filledNumber : Filled → ℕ
-filledNumber a = oneNumber (filled.numberOf a)
+-- an answer as one number: the refusal's, else the first value, and 0 where there is none
+unfoldable pub oneNumber : Answer → ℕ
+oneNumber (granted []) = 0
+oneNumber (granted (v ∷ values)) = v
+oneNumber (refused n) = n
 
--- the block's call of crate code was answered, and r is the number of its answer
-pub record CardEncoded (packet : List ℕ) (k c : ℕ) (before after : List ℕ) (r : ℕ) : Type 0 where
-  pub answer : Written
-  pub left : outcome (numberOf answer) after ≡ encodeCall packet k c before
-  pub number : r ≡ writtenNumber answer
+-- that of a filling: 256 and 257 are its values
+abbrev pub filledNumber : Filled → ℕ
+filledNumber a = oneNumber (numberOf a)
 
 -- the filling's call of crate code was answered, and r is the number of its answer
 pub record CardFilled (kept : List ℕ) (f s k : ℕ) (block after : List ℕ) (r : ℕ) : Type 0 where

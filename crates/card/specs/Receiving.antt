@@ -23,7 +23,7 @@ use Rattle.receiver.specs.declared.Seen.the-variants as seen
 use Rattle.receiver.specs.declared.Shown.{Shown}
 use Rattle.receiver.specs.declared.Queried.{Queried}
 use Rattle.receiver.specs.declared.Queried.the-variants as queried
-use Rattle.card.specs.Told.{refusalIn, toldIn, inWidths, toldOf, answerIn, bytesIn}
+use Rattle.card.specs.Told.{toldIn, inWidths}
 
 -- ---- the record in its bytes
 
@@ -43,17 +43,12 @@ unfoldable pub placesTold : Table → List ℕ
 placesTold t = placeTold (placeAt t 0) ++ placeTold (placeAt t 1) ++ placeTold (placeAt t 2) ++ placeTold (placeAt t 3)
 
 -- and the bytes that each figure takes
-abbrev pub placesWidths : List ℕ
-placesWidths = 1 ∷ 2 ∷ 1 ∷ 2 ∷ 1 ∷ 2 ∷ 1 ∷ 2 ∷ []
+abbrev pub places-widths : List ℕ
+places-widths = 1 ∷ 2 ∷ 1 ∷ 2 ∷ 1 ∷ 2 ∷ 1 ∷ 2 ∷ []
 
 -- the query's answer: what is no record is refused; then "query and clearing check 14, then 1"
 unfoldable pub queryFor : List ℕ → ℕ → Answer
 queryFor bytes lent = onRecord bytes refused (λ t. answered (roomFault t lent most-l) (placesTold t))
-
--- the call gives that answer's number, and tells its values
-pub record CardQueried (bytes : List ℕ) (lent : ℕ) (before after : List ℕ) (r : ℕ) : Type 0 where
-  pub number : r ≡ refusalIn (queryFor bytes lent)
-  pub told : after ≡ toldOf placesWidths (queryFor bytes lent) before
 
 -- what is told of a place that `query` shows
 unfoldable pub seenTold : Seen → List ℕ
@@ -80,11 +75,6 @@ queriedIn (queried.Refused n) = refused n
 -- the clearing's answer, and the record's bytes after it: refused as a query is, else a fresh record
 unfoldable pub clearFor : List ℕ → ℕ → Outcome
 clearFor bytes lent = onRecord bytes (λ n. answers.outcome (refused n) bytes) (λ t. settled (roomFault t lent most-l) [] (packedOf freshTable) bytes)
-
--- the call gives that answer's number, and leaves those bytes
-pub record CardCleared (before : List ℕ) (lent : ℕ) (after : List ℕ) (r : ℕ) : Type 0 where
-  pub number : r ≡ refusalIn (answerIn (clearFor before lent))
-  pub left : after ≡ bytesIn (clearFor before lent)
 
 -- ---- receive
 

@@ -1,4 +1,5 @@
 -- How an answer crosses to C: its number is given back, and its values are told as bytes in what is lent for them.
+use mathlib.Core.Path.{_≡_}
 use mathlib.Core.Bool.{cond}
 use mathlib.Core.List.{List, [], _∷_, _++_}
 use Prim.Native.Nat.{ℕ}
@@ -34,3 +35,21 @@ answerIn (outcome a bytes) = a
 -- and the bytes that it leaves
 unfoldable pub bytesIn : Outcome → List ℕ
 bytesIn (outcome a bytes) = bytes
+
+-- ---- what a call for C promises; `due` is what it has to answer, and r the number that it gives back
+
+-- of a call that writes: `after` are the bytes that it writes, afterwards
+pub record CardWritten (due : Outcome) (after : List ℕ) (r : ℕ) : Type 0 where
+  pub number : r ≡ refusalIn (answerIn due)
+  pub out : after ≡ bytesIn due
+
+-- of a call that tells: the values stand in what was lent for them, in these widths
+pub record CardTold (widths : List ℕ) (due : Answer) (before after : List ℕ) (r : ℕ) : Type 0 where
+  pub number : r ≡ refusalIn due
+  pub told : after ≡ toldOf widths due before
+
+-- of a call that does both
+pub record SentAs (widths : List ℕ) (due : Outcome) (told-before told-after after : List ℕ) (r : ℕ) : Type 0 where
+  pub number : r ≡ refusalIn (answerIn due)
+  pub told : told-after ≡ toldOf widths (answerIn due) told-before
+  pub out : after ≡ bytesIn due

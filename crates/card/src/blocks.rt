@@ -3,7 +3,9 @@ use crate::written_number;
 use base::MOST_F;
 use code::Filled;
 ghost use mathlib.Core.Path.{_≡_};
-ghost use Rattle.card.specs.Blocks.{isKept, keptOf, filledNumber, CardEncoded, CardFilled};
+ghost use Rattle.code.specs.Calls.{encodeCall};
+ghost use Rattle.card.specs.Told.{CardWritten};
+ghost use Rattle.card.specs.Blocks.{isKept, keptOf, filledNumber, CardFilled};
 
 // The number of a filling's answer; no refusal has 256 or 257.
 fn filled_number(a: Filled) -> usize
@@ -40,7 +42,7 @@ fn kept_of(bytes: &[u8]) -> [bool; MOST_F]
 // Writes the block of a packet at the front of out, c chunks of k bytes with their parity, and gives 0; else the number of the refusal.
 #[no_mangle]
 pub extern "C" fn bailhammer_encode(packet: &[u8], k: usize, c: usize, out: &mut [u8]) -> usize
-    ensures { λ r. ⌜ CardEncoded (now (packet .entry)) k c (now (out .entry)) (now (out .exit)) r ⌝ }
+    ensures { λ r. ⌜ CardWritten (encodeCall (now (packet .entry)) k c (now (out .entry))) (now (out .exit)) r ⌝ }
 {
     let w = code::encode(packet, k, c, out);
     written_number(w)

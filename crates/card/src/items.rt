@@ -1,9 +1,9 @@
 // The items of a packet for C: finding one by its name, and a walk, which C holds as bytes.
-use crate::eights::bytes4;
-use crate::eights::bytes8;
-use crate::eights::put8;
-use crate::eights::read8;
-use crate::low;
+use crate::numbers::bytes4;
+use crate::numbers::bytes8;
+use crate::numbers::low;
+use crate::numbers::put8;
+use crate::numbers::read8;
 use crate::tell_bytes;
 use item::Bits;
 use item::Item;
@@ -15,7 +15,7 @@ ghost use mathlib.Core.List.{_∷_};
 ghost use lib.ListN.{length};
 ghost use Rattle.item.specs.Item.{valuesOf};
 ghost use Rattle.tag.specs.Calls.{locatedNumber, locateCall};
-ghost use Rattle.card.specs.Told.{refusalIn, inWidths, toldOf, answerIn, bytesIn};
+ghost use Rattle.card.specs.Told.{inWidths, CardWritten, CardTold};
 ghost use Rattle.card.specs.Items.{found-widths, walker-bytes, walkerBytes, walkerFrom, walkOpenCall, step-widths, steppedNumber, CardStepped};
 
 // The bytes of a walk: seven numbers of eight.
@@ -51,7 +51,7 @@ fn found_bytes(which: u8, i: Item) -> [u8; 17]
 
 // Tells where a name was found, and gives the number of the answer.
 fn tell_found(l: Located, told: &mut [u8]) -> usize
-    ensures { λ r. ⌜ (r ≡ refusalIn (locatedNumber l)) × (now (told .exit) ≡ toldOf found-widths (locatedNumber l) (now (told .entry))) ⌝ }
+    ensures { λ r. ⌜ CardTold found-widths (locatedNumber l) (now (told .entry)) (now (told .exit)) r ⌝ }
 {
     match l {
         Located::Packet(i) => {
@@ -75,7 +75,7 @@ pub extern "C" fn bailhammer_find(
     name: u32,
     told: &mut [u8],
 ) -> usize
-    ensures { λ r. ⌜ (r ≡ refusalIn (locateCall (now (packet .entry)) (now (standing .entry)) name)) × (now (told .exit) ≡ toldOf found-widths (locateCall (now (packet .entry)) (now (standing .entry)) name) (now (told .entry))) ⌝ }
+    ensures { λ r. ⌜ CardTold found-widths (locateCall (now (packet .entry)) (now (standing .entry)) name) (now (told .entry)) (now (told .exit)) r ⌝ }
 {
     let l = tag::locate(packet, standing, name);
     tell_found(l, told)
@@ -118,7 +118,7 @@ fn walker_from(s: &[u8]) -> Walker
 // Opens a walk through a packet and the containers in it that have one of the names, and gives 0; else the number of the refusal.
 #[no_mangle]
 pub extern "C" fn bailhammer_walk_open(packet: &[u8], names: &[u8], walker: &mut [u8]) -> usize
-    ensures { λ r. ⌜ (r ≡ refusalIn (answerIn (walkOpenCall (now (packet .entry)) (now (names .entry)) (now (walker .entry))))) × (now (walker .exit) ≡ bytesIn (walkOpenCall (now (packet .entry)) (now (names .entry)) (now (walker .entry)))) ⌝ }
+    ensures { λ r. ⌜ CardWritten (walkOpenCall (now (packet .entry)) (now (names .entry)) (now (walker .entry))) (now (walker .exit)) r ⌝ }
 {
     let w = walk::open_walk(packet, names);
     let n = w.refusal;
@@ -168,7 +168,7 @@ fn step_bytes(first: u8, depth: usize, i: Item) -> [u8; 22]
 
 // Tells what a step hands out, and gives the number of the answer.
 fn tell_step(h: Handed, told: &mut [u8]) -> usize
-    ensures { λ r. ⌜ (r ≡ refusalIn (steppedNumber h)) × (now (told .exit) ≡ toldOf step-widths (steppedNumber h) (now (told .entry))) ⌝ }
+    ensures { λ r. ⌜ CardTold step-widths (steppedNumber h) (now (told .entry)) (now (told .exit)) r ⌝ }
 {
     match h {
         Handed::Item(v) => {

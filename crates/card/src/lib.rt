@@ -1,7 +1,7 @@
 // The card for C: card.h declares the calls, and says what each number means. Here stands what several of them share.
 mod blocks;
-mod eights;
 mod items;
+mod numbers;
 mod packets;
 mod receiving;
 mod sending;
@@ -23,13 +23,13 @@ pub use sending::bailhammer_fragment;
 pub use sending::bailhammer_fragments;
 pub use sending::bailhammer_plan;
 ghost use mathlib.Core.Path.{_≡_};
-ghost use Prim.Native.Nat.{_%_};
-ghost use Rattle.card.specs.Calls.{writtenNumber, addressOf};
-ghost use Rattle.card.specs.Told.{toldIn};
+ghost use Rattle.base.specs.Written.{numberOf};
+ghost use Rattle.card.specs.Calls.{addressOf};
+ghost use Rattle.card.specs.Told.{refusalIn, toldIn};
 
 // The number of a writing's answer.
 fn written_number(w: Written) -> usize
-    ensures { λ r. ⌜ r ≡ writtenNumber w ⌝ }
+    ensures { λ r. ⌜ r ≡ refusalIn (numberOf w) ⌝ }
 {
     match w {
         Written::Done => 0,
@@ -45,13 +45,6 @@ fn address_of(addressed: usize, source: u16, dest: u16) -> Address
         return Address::None;
     }
     Address::Pair { source, dest }
-}
-
-// The low byte of a number.
-fn low(x: usize) -> u8
-    ensures { λ r. ⌜ r ≡ x % 256 ⌝ }
-{
-    (x % 256) as u8
 }
 
 // Tells bytes at the front of what is lent for them, where they have place.

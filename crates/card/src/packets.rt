@@ -11,8 +11,8 @@ ghost use lib.Dec.{eqb};
 ghost use Rattle.af.specs.Calls.{wrapCall, checkCall};
 ghost use Rattle.af.specs.Packet.{bit};
 ghost use Rattle.write.specs.Write.{writeCall};
-ghost use Rattle.card.specs.Told.{inWidths};
-ghost use Rattle.card.specs.Packets.{CardWritten, CardTold, checkWidths};
+ghost use Rattle.card.specs.Told.{inWidths, CardWritten, CardTold};
+ghost use Rattle.card.specs.Packets.{check-widths};
 
 // Writes the AF packet of a payload at the front of out, with a CRC where cf is not 0, and gives 0; else the number of the refusal.
 #[no_mangle]
@@ -32,7 +32,7 @@ fn cf_byte(cf: bool) -> u8
 
 // What a check tells, as bytes.
 fn figure_bytes(p: Figures) -> [u8; 8]
-    ensures { λ r. ⌜ r ≡ inWidths checkWidths (p .seq ∷ bit (p .cf) ∷ p .minor ∷ p .len ∷ []) ⌝ }
+    ensures { λ r. ⌜ r ≡ inWidths check-widths (p .seq ∷ bit (p .cf) ∷ p .minor ∷ p .len ∷ []) ⌝ }
 {
     let s = base::bytes2(p.seq);
     let l = base::bytes4(p.len);
@@ -42,7 +42,7 @@ fn figure_bytes(p: Figures) -> [u8; 8]
 // Checks an AF packet, tells SEQ, CF, the minor revision and LEN, and gives 0; else the number of the refusal.
 #[no_mangle]
 pub extern "C" fn bailhammer_check(packet: &[u8], told: &mut [u8]) -> usize
-    ensures { λ r. ⌜ CardTold checkWidths (checkCall (now (packet .entry))) (now (told .entry)) (now (told .exit)) r ⌝ }
+    ensures { λ r. ⌜ CardTold check-widths (checkCall (now (packet .entry))) (now (told .entry)) (now (told .exit)) r ⌝ }
 {
     let checked = af::check(packet);
     match checked {

@@ -1,15 +1,13 @@
 // The receiver for C: the record crosses the boundary as bytes.
 use crate::address_of;
-use crate::low;
+use crate::numbers::low;
 use crate::tell_bytes;
 use base::Written;
-use cut::Address;
 use places::DELIVERED;
 use places::Displaced;
 use places::FREE;
 use places::OPEN;
 use places::SPOILED;
-use places::Table;
 use receiver::Queried;
 use receiver::Received;
 use receiver::Seen;
@@ -17,10 +15,9 @@ use receiver::Shown;
 ghost use mathlib.Core.Path.{_≡_};
 ghost use mathlib.Core.List.{[], _∷_};
 ghost use lib.ListN.{length};
-ghost use Rattle.card.specs.Told.{refusalIn, inWidths, toldOf};
+ghost use Rattle.card.specs.Told.{inWidths, CardWritten, CardTold};
 ghost use Rattle.card.specs.Calls.{addressOf};
-ghost use Rattle.card.specs.Receiving.{toldBytes, toldAfter, CardReceived};
-ghost use Rattle.card.specs.Receiving.{placesWidths, seenBytes, shownTold, queriedIn, CardQueried, CardCleared};
+ghost use Rattle.card.specs.Receiving.{places-widths, queryFor, seenBytes, shownTold, queriedIn, clearFor, toldBytes, toldAfter, CardReceived};
 ghost use Rattle.receiver.specs.Promise.{numberOf};
 
 // What is told of an answer, as bytes.
@@ -126,7 +123,7 @@ fn seen_bytes(s: Seen) -> [u8; 3]
 
 // That of all four.
 fn shown_bytes(p: Shown) -> [u8; 12]
-    ensures { λ r. ⌜ r ≡ inWidths placesWidths (shownTold p) ⌝ }
+    ensures { λ r. ⌜ r ≡ inWidths places-widths (shownTold p) ⌝ }
 {
     let first = p.first;
     let second = p.second;
@@ -154,7 +151,7 @@ fn shown_bytes(p: Shown) -> [u8; 12]
 
 // Tells what a query shows, where its bytes have place, and gives the number of its answer.
 fn tell_places(q: Queried, told: &mut [u8]) -> usize
-    ensures { λ r. ⌜ (r ≡ refusalIn (queriedIn q)) × (now (told .exit) ≡ toldOf placesWidths (queriedIn q) (now (told .entry))) ⌝ }
+    ensures { λ r. ⌜ CardTold places-widths (queriedIn q) (now (told .entry)) (now (told .exit)) r ⌝ }
 {
     match q {
         Queried::Places(p) => {
@@ -168,7 +165,7 @@ fn tell_places(q: Queried, told: &mut [u8]) -> usize
 // Shows the four places of the record in its bytes, and gives the number of the answer.
 #[no_mangle]
 pub extern "C" fn bailhammer_query(table: &[u8], lent: &[u8], told: &mut [u8]) -> usize
-    ensures { λ r. ⌜ CardQueried (now (table .entry)) (length (now (lent .entry))) (now (told .entry)) (now (told .exit)) r ⌝ }
+    ensures { λ r. ⌜ CardTold places-widths (queryFor (now (table .entry)) (length (now (lent .entry)))) (now (told .entry)) (now (told .exit)) r ⌝ }
 {
     let unpacked = packed::unpack(table);
     let fault = unpacked.answer;
@@ -184,7 +181,7 @@ pub extern "C" fn bailhammer_query(table: &[u8], lent: &[u8], told: &mut [u8]) -
 // Empties the four places: a fresh record in the bytes. Gives the number of the answer.
 #[no_mangle]
 pub extern "C" fn bailhammer_clear(table: &mut [u8], lent: &[u8]) -> usize
-    ensures { λ r. ⌜ CardCleared (now (table .entry)) (length (now (lent .entry))) (now (table .exit)) r ⌝ }
+    ensures { λ r. ⌜ CardWritten (clearFor (now (table .entry)) (length (now (lent .entry)))) (now (table .exit)) r ⌝ }
 {
     let unpacked = packed::unpack(table);
     let fault = unpacked.answer;

@@ -1,6 +1,6 @@
 // The sender for C: the plan of a cut, one fragment, and all of them.
 use crate::address_of;
-use crate::low;
+use crate::numbers::low;
 use crate::tell_bytes;
 use cut::Figures;
 use cut::Planned;
@@ -12,8 +12,8 @@ ghost use mathlib.Core.Path.{_≡_};
 ghost use mathlib.Core.List.{[], _∷_};
 ghost use Rattle.cut.specs.Plan.{planOf, numberOf, valuesOf};
 ghost use Rattle.sender.specs.Calls.{sentNumber, fragmentCall, allNumber, fragmentsCall};
-ghost use Rattle.card.specs.Told.{refusalIn, inWidths, toldOf};
-ghost use Rattle.card.specs.Sending.{settingsOf, twos, SentAs};
+ghost use Rattle.card.specs.Told.{inWidths, CardTold, SentAs};
+ghost use Rattle.card.specs.Sending.{settingsOf, twos};
 
 // The settings.
 fn settings_of(
@@ -64,7 +64,7 @@ fn plan_bytes(plan: Figures) -> [u8; 20]
 
 // Tells the figures of a plan, and gives the number of the answer.
 fn tell_plan(a: Planned, told: &mut [u8]) -> usize
-    ensures { λ r. ⌜ (r ≡ refusalIn (numberOf a)) × (now (told .exit) ≡ toldOf (twos 10) (numberOf a) (now (told .entry))) ⌝ }
+    ensures { λ r. ⌜ CardTold (twos 10) (numberOf a) (now (told .entry)) (now (told .exit)) r ⌝ }
 {
     match a {
         Planned::Cut(plan) => {
@@ -85,7 +85,7 @@ pub extern "C" fn bailhammer_plan(
     l: usize,
     told: &mut [u8],
 ) -> usize
-    ensures { λ r. ⌜ (r ≡ refusalIn (planOf (settingsOf fec m mtu addressed 0 0) l)) × (now (told .exit) ≡ toldOf (twos 10) (planOf (settingsOf fec m mtu addressed 0 0) l) (now (told .entry))) ⌝ }
+    ensures { λ r. ⌜ CardTold (twos 10) (planOf (settingsOf fec m mtu addressed 0 0) l) (now (told .entry)) (now (told .exit)) r ⌝ }
 {
     let a = cut::plan(settings_of(fec, m, mtu, addressed, 0, 0), l);
     tell_plan(a, told)
@@ -100,7 +100,7 @@ fn length_bytes(n: usize) -> [u8; 2]
 
 // Tells the length of a fragment that was written, and gives the number of the answer.
 fn tell_length(a: Sent, told: &mut [u8]) -> usize
-    ensures { λ r. ⌜ (r ≡ refusalIn (sentNumber a)) × (now (told .exit) ≡ toldOf (twos 1) (sentNumber a) (now (told .entry))) ⌝ }
+    ensures { λ r. ⌜ CardTold (twos 1) (sentNumber a) (now (told .entry)) (now (told .exit)) r ⌝ }
 {
     match a {
         Sent::Fragment(n) => {
@@ -151,7 +151,7 @@ fn split_bytes(p: Split) -> [u8; 8]
 
 // Tells how what was written is split, and gives the number of the answer.
 fn tell_split(a: SentAll, told: &mut [u8]) -> usize
-    ensures { λ r. ⌜ (r ≡ refusalIn (allNumber a)) × (now (told .exit) ≡ toldOf (twos 4) (allNumber a) (now (told .entry))) ⌝ }
+    ensures { λ r. ⌜ CardTold (twos 4) (allNumber a) (now (told .entry)) (now (told .exit)) r ⌝ }
 {
     match a {
         SentAll::Fragments(p) => {

@@ -93,12 +93,13 @@ fn table_from(s: &[u8]) -> Table
     requires { ⌜ length (now s) ≡ table-bytes ⌝ }
     ensures { λ r. ⌜ r ≡ tableFrom (now (s .entry)) ⌝ }
 {
-    let a = place_from(s, 0);
-    let b = place_from(s, ONE);
-    let c = place_from(s, 2 * ONE);
-    let d = place_from(s, 3 * ONE);
+    let fresh = places::fresh();
+    let mut places = fresh.places;
+    for i in 0..FOUR {
+        places[i] = place_from(s, i * ONE);
+    }
     Table {
-        places: [a, b, c, d],
+        places,
         oldest: base::byte_at(s, FOUR * ONE),
     }
 }

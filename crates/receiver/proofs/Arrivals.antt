@@ -5,6 +5,7 @@ use mathlib.Core.List.{List}
 use Prim.Native.Nat.{ℕ, _≤_, _<_}
 use borrow.Author.Tests.{eq-eqb, ne-eqb, lt-ltb, le-ltb}
 use lib.Dec.{eqb}
+use lib.ListN.{length}
 use Rattle.header.specs.declared.Header.{Header}
 use Rattle.header.specs.Claims.{Sound}
 use Rattle.places.specs.declared.Place.{Place}
@@ -14,10 +15,11 @@ use Rattle.places.specs.declared.Displaced.the-variants.{None}
 use Rattle.places.specs.Places.{four, placeAt, keyOf, heldAt, openAt, displacedAt, turned, openedBy, keptIn}
 use Rattle.places.specs.Faults.{badPlace, badTable, placeFault}
 use Rattle.places.proofs.Proved.{kept-in-range, opened-in-range}
+use Rattle.receiver.specs.declared.Change.{Change}
 use Rattle.receiver.specs.declared.Received.{Received}
 use Rattle.receiver.specs.declared.Received.the-variants.{Refused}
 use Rattle.receiver.specs.Promise.{Outcome, outcome, heldFault, keepAt, keepOf, SettledAfter}
-use Rattle.receiver.specs.Inner.{Arrives}
+use Rattle.receiver.specs.Inner.{changed, Arrives}
 use Rattle.receiver.proofs.Ranges.{place-fine, opens-below}
 
 -- ---- a choice between two types
@@ -31,6 +33,15 @@ left-out A {B} e x = subst (λ (v : Bool). cond v A B) (sym e) x
 -- what a refusal leaves
 pub refusal-is : {a : Received} {u t : Table} {n : ℕ} (b out : List ℕ) → (u ≡ t) × (a ≡ Refused n) → outcome a u b out ≡ outcome (Refused n) t b out
 refusal-is b out e = rw (e .0, e .1)
+
+-- the turn changes no place
+pub turned-long : (t : Table) (j : ℕ) {u : Table} → u ≡ turned t j → length (t .places) ≡ four → length (u .places) ≡ four
+unfolding turned
+turned-long t j is-u size = ap (λ (x : Table). length (x .places)) is-u ∙ size
+
+turned-change : (t : Table) (j : ℕ) (c : Change) {u : Table} → u ≡ turned t j → changed u c ≡ changed t c
+unfolding turned changed
+turned-change t j c is-u = ap (λ (x : Table). changed x c) is-u
 
 -- ---- what the place that holds it says
 
@@ -72,9 +83,13 @@ module _ (t : Table) (h : Header) (b payload out : List ℕ) where
       unfolding keepOf
       keeps-new is-j is-d is-u is-p = rw (is-d, is-u, is-p, is-j, ← is-i, le-ltb i four none)
 
-      pub arrives-new : {j : ℕ} {d : Displaced} {u : Table} {p : Place} {y : Outcome} → j ≡ openAt t → d ≡ displacedAt t j → u ≡ turned t j → p ≡ openedBy h
-          → SettledAfter (keepAt u j p d h b payload) out y → Arrives t h b payload out y
-      arrives-new is-j is-d is-u is-p s = kept no-fault (rw (keeps-new is-j is-d is-u is-p) at s)
+      pub arrives-new : {j : ℕ} {d : Displaced} {u : Table} {p : Place} (c : Change) (b′ out′ : List ℕ) → j ≡ openAt t → d ≡ displacedAt t j → u ≡ turned t j
+          → p ≡ openedBy h → SettledAfter (keepAt u j p d h b payload) out (outcome (c .answer) (changed u c) b′ out′)
+          → Arrives t h b payload out (outcome (c .answer) (changed t c) b′ out′)
+      arrives-new {j} {d} {u} {p} c b′ out′ is-j is-d is-u is-p s =
+          kept no-fault
+          (subst (λ (x : Table). SettledAfter (keepOf t h b payload) out (outcome (c .answer) x b′ out′)) (turned-change t j c is-u)
+          (rw (keeps-new is-j is-d is-u is-p) at s))
 
 -- ---- the place stays in range
 

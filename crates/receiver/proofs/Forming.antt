@@ -1,12 +1,12 @@
 -- After a fragment was kept in a place: what forming answered is how the place settles. Assumes nothing.
-use mathlib.Core.Path.{_≡_, sym, _∙_, subst}
+use mathlib.Core.Path.{_≡_, sym, ap, _∙_, subst}
 use mathlib.Core.Bool.{false}
 use mathlib.Core.List.{List, []}
 use Prim.Native.Nat.{ℕ, _-_, _*_, _<_}
 use native.Mathlib.Omega.{arith}
 use borrow.Author.Tests.{le-ltb}
 use lib.ListN.{length, take, drop, length-drop}
-use lib.Seq.{take-all}
+use lib.Seq.{take-all, set-set}
 use Rattle.base.specs.Bounds.{most-l, place}
 use Rattle.base.specs.Answer.{granted, refused}
 use Rattle.base.proofs.Answers.{grants}
@@ -16,18 +16,36 @@ use Rattle.places.specs.declared.Table.{Table}
 use Rattle.places.specs.declared.Displaced.{Displaced}
 use Rattle.places.specs.Places.{four, delivered, spoiled, placeAt, withPlace, inCondition}
 use Rattle.places.specs.Faults.{badPlace}
+use Rattle.places.proofs.Records.{with-past}
 use Rattle.form.specs.Calls.{formFault, numberOf, valuesOf, PlaceFormed}
 use Rattle.form.specs.declared.Formed.{Formed}
 use Rattle.form.specs.declared.Formed.the-variants.{Waits, Packet, Nothing, Refused}
+use Rattle.receiver.specs.declared.Change.{Change}
 use Rattle.receiver.specs.declared.Received.the-variants as received
 use Rattle.receiver.specs.Promise.{outcome, closedAt, bytesAt, Settled, waits, delivers, damaged}
-use Rattle.receiver.specs.Inner.{Lent}
+use Rattle.receiver.specs.Inner.{Lent, changed}
+use Rattle.receiver.proofs.Ranges.{written-place}
+
+-- a change that leaves which is displaced next
+pub changes : (t : Table) (c : Change) → t .oldest ≡ c .oldest → changed t c ≡ withPlace t (c .at) (c .place)
+unfolding changed
+changes t c e = ap (λ (o : ℕ). withPlace (record { places = t .places; oldest = o }) (c .at) (c .place)) (sym e)
+
+-- and one past the fourth place changes nothing
+pub unchanged : (t : Table) (c : Change) → length (t .places) ≡ four → c .at ≡ four → t .oldest ≡ c .oldest → changed t c ≡ t
+unchanged t c size past e = changes t c e ∙ sym (with-past t (c .at) (c .place) (omega (arith, size, past)))
+
+-- a place that is written twice
+again : (t : Table) (i : ℕ) (p q : Place) → withPlace (withPlace t i p) i q ≡ withPlace t i q
+unfolding withPlace
+again t i p q = ap (λ (l : List Place). record { places = l; oldest = t .oldest }) (set-set (t .places) i p q)
 
 -- a place in another condition
-pub closes : (t : Table) (i condition : ℕ) {p q : Place} {u : Table} → p ≡ placeAt t i → q ≡ inCondition p condition → u ≡ withPlace t i q
-    → u ≡ closedAt t i condition
+pub closes : (t : Table) (i condition : ℕ) (p : Place) → length (t .places) ≡ four → i < four → {q : Place} → q ≡ inCondition p condition
+    → withPlace t i q ≡ closedAt (withPlace t i p) i condition
 unfolding closedAt
-closes t i condition is-p is-q is-u = rw (is-u, is-q, is-p)
+closes t i condition p size below is-q =
+    ap (withPlace t i) (is-q ∙ ap (λ (x : Place). inCondition x condition) (sym (written-place t i p size below))) ∙ sym (again t i p _)
 
 -- the rest of a list from a on, as a part is lent
 pub rest-part : (a : ℕ) (l : List ℕ) → take (length l - a) (drop a l) ≡ drop a l
@@ -45,10 +63,10 @@ formed-at t i b out {p} {after} {r} {q} is-p is-r f =
 -- ---- how it settles
 
 module _ (t : Table) (i : ℕ) (d : Displaced) (b out : List ℕ) {after : List ℕ} where
-  pub settles-waiting : PlaceFormed (placeAt t i) (bytesAt b i) out after Waits → Settled t i d b out (outcome (received.Kept d) t b after)
-  settles-waiting f = rw (f .left .1) (waits (f .left .0))
-
   module _ {u : Table} where
+    pub settles-waiting : PlaceFormed (placeAt t i) (bytesAt b i) out after Waits → u ≡ t → Settled t i d b out (outcome (received.Kept d) u b after)
+    settles-waiting f is-u = rw (is-u, f .left .1) (waits (f .left .0))
+
     pub settles-delivered : {n m : ℕ} → PlaceFormed (placeAt t i) (bytesAt b i) out after (Packet n m) → u ≡ closedAt t i delivered
         → Settled t i d b out (outcome (received.Delivered n m d) u b after)
     settles-delivered f is-u =

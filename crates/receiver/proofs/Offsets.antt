@@ -1,6 +1,5 @@
 -- A fragment is kept within its place. Assumes nothing.
 use mathlib.Core.Path.{_≡_, refl, ap, _∙_, subst}
-use mathlib.Core.Bool.{false}
 use mathlib.Core.List.{List}
 use Prim.Native.Nat.{ℕ, _+_, _*_, _≤_, _<_}
 use native.Mathlib.Nat.{mul-le-mul-right}
@@ -18,12 +17,10 @@ use Rattle.header.specs.Claims.{Sound}
 use Rattle.places.specs.declared.Place.{Place}
 use Rattle.places.specs.declared.Table.{Table}
 use Rattle.places.specs.declared.Displaced.{Displaced}
-use Rattle.places.specs.Places.{four, isLast, offsetOf, placeAt, withPlace, keptIn}
-use Rattle.places.specs.Faults.{badPlace}
+use Rattle.places.specs.Places.{four, isLast, offsetOf, withPlace, keptIn}
 use Rattle.places.proofs.Records.{offset-last, offset-other}
 use Rattle.receiver.specs.Promise.{Outcome, all-places, keepAt, Settled, SettledAfter}
 use Rattle.receiver.specs.Inner.{Heard}
-use Rattle.receiver.proofs.Ranges.{written-place}
 
 module _ (h : Header) (s : Sound h) where
   ends-within : h .index * h .plen + h .plen ≤ place
@@ -37,13 +34,7 @@ module _ (h : Header) (s : Sound h) where
       (λ e. omega (arith, offset-last h refl e, ends-within))
       (λ e. omega (arith, offset-other h refl e, ends-within))
 
--- a table's place that keeps it is in range, where the place with it is
-pub kept-fine : (t : Table) (i : ℕ) (p : Place) (h : Header) → length (t .places) ≡ four → i < four → badPlace (keptIn p h) ≡ false
-    → {q : Place} {u : Table} → q ≡ keptIn p h → u ≡ withPlace t i q → badPlace (placeAt u i) ≡ false
-kept-fine t i p h size below fine {q} is-q is-u =
-    ap (λ (x : Table). badPlace (placeAt x i)) is-u ∙ ap badPlace (written-place t i q size below ∙ is-q) ∙ fine
-
-module _ (t : Table) (i : ℕ) (p : Place) (d : Displaced) (h : Header) (b payload : List ℕ) where
+module _ (i : ℕ) (h : Header) (b payload : List ℕ) where
   module _ (below : i < four) (long : length b ≡ all-places) (heard : Heard h payload) where
     fits : i * place + offsetOf h + length payload ≤ length b
     fits = omega (arith, offset-fits h (heard .sound), heard .size)
@@ -58,9 +49,9 @@ module _ (t : Table) (i : ℕ) (p : Place) (d : Displaced) (h : Header) (b paylo
       kept-long = ap length kept-bytes ∙ splice-length b (i * place + offsetOf h) payload fits ∙ long
 
       -- and what settles then settles after keeping it
-      pub keeps-at : {out : List ℕ} {q : Place} {u : Table} {y : Outcome} → q ≡ keptIn p h → u ≡ withPlace t i q → Settled u i d after out y
-          → SettledAfter (keepAt t i p d h b payload) out y
+      pub keeps-at : (t : Table) (p : Place) (d : Displaced) {out : List ℕ} {q : Place} {y : Outcome} → q ≡ keptIn p h
+          → Settled (withPlace t i q) i d after out y → SettledAfter (keepAt t i p d h b payload) out y
       unfolding keepAt
-      keeps-at {out} {q} {u} {y} is-q is-u settled =
+      keeps-at t p d {out} {q} {y} is-q settled =
           subst (λ (x : List ℕ). Settled (withPlace t i (keptIn p h)) i d x out y) kept-bytes
-          (subst (λ (x : Table). Settled x i d after out y) (is-u ∙ ap (withPlace t i) is-q) settled)
+          (subst (λ (x : Place). Settled (withPlace t i x) i d after out y) is-q settled)

@@ -19,9 +19,11 @@ use Rattle.header.specs.Read.{fieldsOf, lengthOf, faultOf, parsedOf}
 use Rattle.header.proofs.Fields.{parse-refused, parse-read}
 use Rattle.header.proofs.Proved.{passed-sound, payload-stands}
 use Rattle.places.specs.declared.Table.{Table}
+use Rattle.places.specs.Places.{withPlace}
+use Rattle.receiver.specs.declared.Change.{Change}
 use Rattle.receiver.specs.declared.Received.the-variants.{Refused}
 use Rattle.receiver.specs.Promise.{Outcome, outcome, roomFault, heldFault, receiveFault, payloadOf, keepOf, SettledAfter, Step}
-use Rattle.receiver.specs.Inner.{Heard, Arrives}
+use Rattle.receiver.specs.Inner.{Heard, changed, Arrives}
 use Rattle.receiver.proofs.Arrivals.{left-out}
 use Rattle.receiver.proofs.Forming.{rest-part}
 
@@ -125,3 +127,13 @@ module _ (own : Address) (t : Table) (b s out : List ℕ) where
           passes y (p .0)
           (subst (λ (x : Header). Arrives t x b (payloadOf s) out y) (p .1)
           (subst (λ (x : List ℕ). Arrives t h b x out y) (payload-is own s (p .0) (p .1)) arrives))
+
+-- ---- and the record is made anew
+
+pub step-changed : (own : Address) (t : Table) (b s out : List ℕ) (c : Change) {u : Table} (b′ out′ : List ℕ)
+    → u ≡ withPlace (record { places = t .places; oldest = c .oldest }) (c .at) (c .place)
+    → Step own (record { table = t; bytes = b }) s out (outcome (c .answer) (changed t c) b′ out′)
+    → Step own (record { table = t; bytes = b }) s out (outcome (c .answer) u b′ out′)
+unfolding changed
+step-changed own t b s out c {u} b′ out′ is-u step =
+    subst (λ (x : Table). Step own (record { table = t; bytes = b }) s out (outcome (c .answer) x b′ out′)) (sym is-u) step

@@ -9,6 +9,8 @@ use Rattle.base.specs.Bounds.{most-l}
 use Rattle.header.specs.declared.Header.{Header}
 use Rattle.header.specs.Claims.{Sound}
 use Rattle.places.specs.declared.Table.{Table}
+use Rattle.places.specs.Places.{withPlace}
+use Rattle.receiver.specs.declared.Change.{Change}
 use Rattle.receiver.specs.declared.Received.the-variants.{Refused}
 use Rattle.receiver.specs.Promise.{Outcome, outcome, all-places, heldFault, keepOf, SettledAfter}
 
@@ -21,6 +23,10 @@ pub record Lent (b out : List ℕ) : Type 0 where
 pub record Heard (h : Header) (payload : List ℕ) : Type 0 where
   pub sound : Sound h
   pub size : length payload ≡ h .plen
+
+-- document 01, "The four places": the record after a change, which is another place in it, and which is displaced next
+unfoldable pub changed : Table → Change → Table
+changed t c = withPlace (record { places = t .places; oldest = c .oldest }) (c .at) (c .place)
 
 -- document 01, 9 to 12, and what comes after them: what a fragment whose header passed leaves
 unfoldable pub Arrives : Table → Header → List ℕ → List ℕ → List ℕ → Outcome → Type 0

@@ -30,6 +30,14 @@ pub struct Reply {
     pub answer: Received,
 }
 
+// What a datagram changes: place `at` is `place` now, past the fourth none is another; which is displaced next; and the answer.
+struct Change {
+    at: usize,
+    place: Place,
+    oldest: u8,
+    answer: Received,
+}
+
 // What a query shows of a place.
 pub enum Seen {
     Free,

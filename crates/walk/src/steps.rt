@@ -46,6 +46,21 @@ fn goes_on(names: &[u8], d: usize, ends: [usize; LEVELS], i: Item) -> Walker
     }
 }
 
+// What a walk answers that stays where it is.
+fn stays(handed: Handed, at: usize, depth: usize, ends: [usize; LEVELS]) -> Walked
+    ensures { λ r. ⌜ r ≡ record { handed = handed; next = record { refusal = 0; at = at; depth = depth; ends = ends } } ⌝ }
+{
+    Walked {
+        handed,
+        next: Walker {
+            refusal: 0,
+            at,
+            depth,
+            ends,
+        },
+    }
+}
+
 // A step from `at` at depth `depth`, or at the deepest where that is deeper: at the end of an inner packet the walk goes on behind its container.
 pub fn step_from(s: &[u8], names: &[u8], from: usize, depth: usize, ends: [usize; LEVELS]) -> Walked
     ensures { λ r. ⌜ r ≡ stepFrom (now (s .entry)) (namesOf (now (names .entry))) from (min depth deepest) ends ⌝ }
@@ -65,29 +80,13 @@ pub fn step_from(s: &[u8], names: &[u8], from: usize, depth: usize, ends: [usize
             }
             Step::End(p) => {
                 if d == 0 {
-                    return Walked {
-                        handed: Handed::End(p),
-                        next: Walker {
-                            refusal: 0,
-                            at,
-                            depth: 0,
-                            ends,
-                        },
-                    };
+                    return stays(Handed::End(p), at, 0, ends);
                 }
                 at = end;
                 d = d - 1;
             }
             Step::Refused(n) => {
-                return Walked {
-                    handed: Handed::Refused(n),
-                    next: Walker {
-                        refusal: 0,
-                        at,
-                        depth: d,
-                        ends,
-                    },
-                };
+                return stays(Handed::Refused(n), at, d, ends);
             }
         }
     }

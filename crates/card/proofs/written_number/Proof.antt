@@ -2,7 +2,8 @@
 use mathlib.Core.Path.{sym, ap}
 use borrow.Author.Needs.{needs}
 use Rattle.base.specs.Written.{numberOf}
-use Rattle.card.specs.Calls.{oneNumber, writtenNumber}
+use Rattle.base.specs.declared.Written.{Written}
+use Rattle.card.specs.Told.{refusalIn}
 use Rattle.card.proofs.written_number.Statement.{statement}
 use Rattle.card.proofs.written_number.Tie as tie
 
@@ -16,11 +17,11 @@ cast-result : tie.Need-cast-result
 cast-result c = search needs
 
 returns : tie.Need-returns
-unfolding oneNumber numberOf
-returns c = sym (ap writtenNumber (c .enum-told .given .1))
+unfolding refusalIn numberOf
+returns c = sym (ap (λ (w : Written). refusalIn (numberOf w)) (c .enum-told .given .1))
 
 returns-2 : tie.Need-returns-2
-unfolding oneNumber numberOf
+unfolding refusalIn numberOf
 returns-2 c = search needs
 
 pub written-number-spec : {M : Type 1} → statement M

@@ -2,8 +2,7 @@
 use mathlib.Core.Path.{sym, ap}
 use borrow.Author.Needs.{needs}
 use Rattle.code.specs.Calls.{numberOf, valuesOf}
-use Rattle.card.specs.Calls.{oneNumber}
-use Rattle.card.specs.Blocks.{filledNumber}
+use Rattle.card.specs.Blocks.{oneNumber, filledNumber}
 use Rattle.card.proofs.blocks.filled_number.Statement.{statement}
 use Rattle.card.proofs.blocks.filled_number.Tie as tie
 

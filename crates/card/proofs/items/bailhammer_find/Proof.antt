@@ -1,9 +1,8 @@
 -- `bailhammer_find` meets its contract: what is told is where the name is. Assumes nothing.
-use mathlib.Core.Path.{ap, _∙_}
+use mathlib.Core.Path.{ap}
 use Rattle.tag.specs.Calls.{locatedNumber, locateCall}
-use Rattle.base.specs.Answer.{Answer}
-use Rattle.card.specs.Told.{refusalIn, toldOf}
 use Rattle.card.specs.Items.{found-widths}
+use Rattle.card.proofs.ToldLaws.{told-as}
 use borrow.Author.Needs.{needs}
 use Rattle.card.proofs.items.bailhammer_find.Statement.{statement}
 use Rattle.card.proofs.items.bailhammer_find.Tie as tie
@@ -23,8 +22,7 @@ returns c =
     let told = c .before .before in
     let found = told .before .before in
     let before = found .before .before .before .before .args .told .now in
-    let same = ap locatedNumber (found .locate .ensures) in
-    (told .tell-found .ensures .0 ∙ ap refusalIn same, told .tell-found .ensures .1 ∙ ap (λ (a : Answer). toldOf found-widths a before) same)
+    told-as found-widths before (ap locatedNumber (found .locate .ensures)) (told .tell-found .ensures)
 
 pub bailhammer-find-spec : {M : Type 1} → statement M
 bailhammer-find-spec = tie.close (tie.spec locate-requires tell-found-requires same-length returns)

@@ -1,5 +1,8 @@
 -- `bailhammer_walk_open` meets its contract: the walk's refusal, then the bytes' number, else the walk. Assumes nothing.
-use Rattle.card.proofs.ItemLaws.{call-refused, call-granted, open-refused, open-short, open-done}
+use mathlib.Core.Path.{refl}
+use Rattle.card.specs.Told.{refusalIn}
+use Rattle.card.proofs.ItemLaws.{open-refused, open-short, open-done}
+use Rattle.card.proofs.ToldLaws.{handed-on}
 use borrow.Author.Needs.{needs}
 use Rattle.card.proofs.items.bailhammer_walk_open.Statement.{statement}
 use Rattle.card.proofs.items.bailhammer_walk_open.Tie as tie
@@ -11,19 +14,23 @@ cast-result : tie.Need-cast-result
 cast-result c = search needs
 
 returns : tie.Need-returns
+unfolding refusalIn
 returns c =
     let opened = c .before in
     let a = opened .before .before .before .before .args in
-    call-refused
+    handed-on
     (open-refused (a .packet .now) (a .names .now) (a .walker .now) (opened .open-walk .result) (opened .open-walk .ensures) (c .if1 .taken))
+    refl
 
 returns-2 : tie.Need-returns-2
+unfolding refusalIn
 returns-2 c =
     let opened = c .before .before in
     let a = opened .before .before .before .before .args in
-    call-refused
+    handed-on
     (open-short (a .packet .now) (a .names .now) (a .walker .now) (opened .open-walk .result) (opened .open-walk .ensures) (c .before .if1 .left)
     (c .if2 .taken))
+    refl
 
 write-walker-requires : tie.Need-write-walker-requires
 write-walker-requires c κs = search needs
@@ -32,15 +39,17 @@ same-length : tie.Need-same-length
 same-length c = search needs
 
 returns-3 : tie.Need-returns-3
+unfolding refusalIn
 returns-3 c =
     let written = c .before .before in
     let sized = written .before .before in
     let opened = sized .before .before in
     let a = opened .before .before .before .before .args in
-    call-granted
+    handed-on
     (open-done (a .packet .now) (a .names .now) (a .walker .now) (opened .open-walk .result) (opened .open-walk .ensures) (sized .before .if1 .left)
     (sized .if2 .left)
     (written .write-walker .ensures))
+    refl
 
 pub bailhammer-walk-open-spec : {M : Type 1} → statement M
 bailhammer-walk-open-spec =

@@ -40,8 +40,7 @@ returns-2 c =
     let a = sized .before .before .before .before .before .args in
     step-on (a .packet .now) (a .names .now) (a .walker .now) (a .told .now) (stepped .walk-step .result) (sized .if1 .left)
     (stepped .walk-step .ensures ∙ ap (walkStep (a .packet .now) (a .names .now)) (read .walker-from .ensures))
-    (told .tell-step .ensures .0)
-    (told .tell-step .ensures .1)
+    (told .tell-step .ensures)
     (tested .if2 .taken)
     (written .write-walker .ensures)
 
@@ -60,8 +59,7 @@ returns-3 c =
     let a = sized .before .before .before .before .before .args in
     step-not (a .packet .now) (a .names .now) (a .walker .now) (a .told .now) (stepped .walk-step .result) (sized .if1 .left)
     (stepped .walk-step .ensures ∙ ap (walkStep (a .packet .now) (a .names .now)) (read .walker-from .ensures))
-    (told .tell-step .ensures .0)
-    (told .tell-step .ensures .1)
+    (told .tell-step .ensures)
     (c .if2 .left)
 
 pub bailhammer-walk-step-spec : {M : Type 1} → statement M

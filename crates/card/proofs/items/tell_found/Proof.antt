@@ -2,7 +2,7 @@
 use mathlib.Core.Path.{ap}
 use Rattle.tag.specs.Calls.{locatedNumber}
 use Rattle.card.specs.Items.{found-widths}
-use Rattle.card.proofs.ItemLaws.{told-by, untold-by}
+use Rattle.card.proofs.ToldLaws.{told-granted, told-refused}
 use borrow.Author.Needs.{needs}
 use Rattle.card.proofs.items.tell_found.Statement.{statement}
 use Rattle.card.proofs.items.tell_found.Tie as tie
@@ -46,7 +46,7 @@ returns c =
     let said = c .before .before in
     let written = said .before .before in
     let known = written .before .before .before in
-    told-by found-widths _ (known .before .before .before .args .told .now) (ap locatedNumber (known .l .given .1)) (written .found-bytes .ensures) (said .tell-bytes .ensures)
+    told-granted found-widths _ (known .before .before .before .args .told .now) (ap locatedNumber (known .l .given .1)) (written .found-bytes .ensures) (said .tell-bytes .ensures)
 
 same-length-2 : tie.Need-same-length-2
 same-length-2 c = search needs
@@ -57,13 +57,13 @@ returns-2 c =
     let said = c .before .before in
     let written = said .before .before in
     let known = written .before .before .before in
-    told-by found-widths _ (known .before .before .before .args .told .now) (ap locatedNumber (known .l2 .given .1)) (written .found-bytes2 .ensures) (said .tell-bytes2 .ensures)
+    told-granted found-widths _ (known .before .before .before .args .told .now) (ap locatedNumber (known .l2 .given .1)) (written .found-bytes2 .ensures) (said .tell-bytes2 .ensures)
 
 returns-3 : tie.Need-returns-3
 unfolding locatedNumber
 returns-3 c =
     let known = c .before in
-    untold-by found-widths (known .before .before .before .args .told .now) (ap locatedNumber (known .l3 .given .1))
+    told-refused found-widths (known .before .before .before .args .told .now) (ap locatedNumber (known .l3 .given .1))
 
 pub tell-found-spec : {M : Type 1} → statement M
 tell-found-spec =

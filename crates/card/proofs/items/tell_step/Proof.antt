@@ -1,7 +1,7 @@
 -- `tell_step` meets its contract, case by case: a refusal tells nothing. Assumes nothing.
 use mathlib.Core.Path.{ap}
 use Rattle.card.specs.Items.{step-widths, steppedNumber}
-use Rattle.card.proofs.ItemLaws.{told-by, untold-by}
+use Rattle.card.proofs.ToldLaws.{told-granted, told-refused}
 use borrow.Author.Needs.{needs}
 use Rattle.card.proofs.items.tell_step.Statement.{statement}
 use Rattle.card.proofs.items.tell_step.Tie as tie
@@ -45,7 +45,7 @@ returns c =
     let said = c .before .before in
     let written = said .before .before in
     let known = written .before .before .before in
-    told-by step-widths _ (known .before .before .before .args .told .now) (ap steppedNumber (known .h .given .1)) (written .step-bytes .ensures) (said .tell-bytes .ensures)
+    told-granted step-widths _ (known .before .before .before .args .told .now) (ap steppedNumber (known .h .given .1)) (written .step-bytes .ensures) (said .tell-bytes .ensures)
 
 same-length-2 : tie.Need-same-length-2
 same-length-2 c = search needs
@@ -56,13 +56,13 @@ returns-2 c =
     let said = c .before .before in
     let written = said .before .before in
     let known = written .before .before .before in
-    told-by step-widths _ (known .before .before .before .args .told .now) (ap steppedNumber (known .h2 .given .1)) (written .step-bytes2 .ensures) (said .tell-bytes2 .ensures)
+    told-granted step-widths _ (known .before .before .before .args .told .now) (ap steppedNumber (known .h2 .given .1)) (written .step-bytes2 .ensures) (said .tell-bytes2 .ensures)
 
 returns-3 : tie.Need-returns-3
 unfolding steppedNumber
 returns-3 c =
     let known = c .before in
-    untold-by step-widths (known .before .before .before .args .told .now) (ap steppedNumber (known .h3 .given .1))
+    told-refused step-widths (known .before .before .before .args .told .now) (ap steppedNumber (known .h3 .given .1))
 
 pub tell-step-spec : {M : Type 1} → statement M
 tell-step-spec =

@@ -1,5 +1,8 @@
 -- `bailhammer_check` meets its contract: the answer of crate af's call, and what it tells. Assumes nothing.
-use Rattle.card.proofs.PacketLaws.{passed-on, refused-on}
+use mathlib.Core.Path.{sym, ap, _∙_}
+use Rattle.af.specs.Calls.{numberOf}
+use Rattle.card.specs.Packets.{check-widths}
+use Rattle.card.proofs.ToldLaws.{told-granted, told-refused}
 use borrow.Author.Needs.{needs}
 use Rattle.card.proofs.packets.bailhammer_check.Statement.{statement}
 use Rattle.card.proofs.packets.bailhammer_check.Tie as tie
@@ -29,18 +32,20 @@ same-length : tie.Need-same-length
 same-length c = search needs
 
 returns : tie.Need-returns
+unfolding numberOf
 returns c =
     let told = c .before .before in
     let laid = told .before .before in
     let known = laid .before .before .before in
     let call = known .before .before .check in
-    passed-on (call .result) _ (call .ensures) _ _ _ _ (known .checked .given .1) (laid .figure-bytes .ensures) (told .tell-bytes .ensures)
+    told-granted check-widths _ _ (sym (call .ensures) ∙ ap numberOf (known .checked .given .1)) (laid .figure-bytes .ensures) (told .tell-bytes .ensures)
 
 returns-2 : tie.Need-returns-2
+unfolding numberOf
 returns-2 c =
     let known = c .before in
     let call = known .before .before .check in
-    refused-on (call .result) _ (call .ensures) _ _ (known .checked2 .given .1)
+    told-refused check-widths _ (sym (call .ensures) ∙ ap numberOf (known .checked2 .given .1))
 
 pub bailhammer-check-spec : {M : Type 1} → statement M
 bailhammer-check-spec =

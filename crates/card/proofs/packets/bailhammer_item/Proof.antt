@@ -1,5 +1,5 @@
 -- `bailhammer_item` meets its contract: the outcome of crate write's call, and its number. Assumes nothing.
-use Rattle.card.proofs.PacketLaws.{handed-on}
+use Rattle.card.proofs.ToldLaws.{handed-on}
 use borrow.Author.Needs.{needs}
 use Rattle.card.proofs.packets.bailhammer_item.Statement.{statement}
 use Rattle.card.proofs.packets.bailhammer_item.Tie as tie
@@ -16,7 +16,7 @@ same-length c = search needs
 returns : tie.Need-returns
 returns c =
     let done = c .before .before .before .write in
-    handed-on (done .result) _ _ _ (done .ensures) (c .written-number .ensures)
+    handed-on (done .ensures) (c .written-number .ensures)
 
 pub bailhammer-item-spec : {M : Type 1} → statement M
 bailhammer-item-spec = tie.close (tie.spec write-requires written-number-requires same-length returns)

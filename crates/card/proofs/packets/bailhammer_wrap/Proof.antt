@@ -1,5 +1,5 @@
 -- `bailhammer_wrap` meets its contract: the outcome of crate af's call, and its number. Assumes nothing.
-use Rattle.card.proofs.PacketLaws.{handed-on}
+use Rattle.card.proofs.ToldLaws.{handed-on}
 use borrow.Author.Needs.{needs}
 use Rattle.card.proofs.packets.bailhammer_wrap.Statement.{statement}
 use Rattle.card.proofs.packets.bailhammer_wrap.Tie as tie
@@ -16,7 +16,7 @@ same-length c = search needs
 returns : tie.Need-returns
 returns c =
     let done = c .before .before .before .wrap in
-    handed-on (done .result) _ _ _ (done .ensures) (c .written-number .ensures)
+    handed-on (done .ensures) (c .written-number .ensures)
 
 pub bailhammer-wrap-spec : {M : Type 1} → statement M
 bailhammer-wrap-spec = tie.close (tie.spec wrap-requires written-number-requires same-length returns)

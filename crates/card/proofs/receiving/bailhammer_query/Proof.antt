@@ -1,5 +1,4 @@
 -- `bailhammer_query` meets its contract: what is no record is refused, and else the query tells. Assumes nothing.
-use mathlib.Core.Path.{refl}
 use lib.ListN.{length}
 use Rattle.card.proofs.QueryLaws.{query-refused, query-done}
 use borrow.Author.Needs.{needs}
@@ -28,8 +27,8 @@ returns : tie.Need-returns
 returns c =
     let opened = c .before .before .before in
     let a = opened .before .before .before .before .args in
-    query-refused (a .table .now) (length (a .lent .now)) (a .told .now) _ _ (opened .unpack .result .answer) (opened .unpack .result .table)
-    (opened .unpack .ensures) _ (c .before .fault .given .1) refl refl
+    query-refused (a .table .now) (length (a .lent .now)) (a .told .now) (opened .unpack .result .answer) (opened .unpack .result .table)
+    (opened .unpack .ensures) _ (c .before .fault .given .1)
 
 same-length : tie.Need-same-length
 same-length c = search needs
@@ -40,7 +39,7 @@ returns-2 c =
     let asked = said .before .before in
     let opened = asked .before .before .before in
     let a = opened .before .before .before .before .args in
-    query-done (a .table .now) (length (a .lent .now)) (a .told .now) _ _ (opened .unpack .result .answer) (opened .unpack .result .table)
+    query-done (a .table .now) (length (a .lent .now)) (a .told .now) (opened .unpack .result .answer) (opened .unpack .result .table)
     (opened .unpack .ensures) (asked .query .result) (asked .before .enum-told .given .1) (asked .query .ensures) (said .tell-places .ensures)
 
 pub bailhammer-query-spec : {M : Type 1} → statement M

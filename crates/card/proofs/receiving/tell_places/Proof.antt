@@ -1,19 +1,10 @@
 -- `tell_places` meets its contract: a refusal tells nothing. Assumes nothing.
-use mathlib.Core.Path.{sym, ap, _∙_}
-use Prim.Native.Nat.{ℕ}
-use mathlib.Core.List.{List}
-use Rattle.receiver.specs.declared.Queried.{Queried}
-use Rattle.card.specs.Told.{refusalIn, toldIn, toldOf}
-use Rattle.card.specs.Receiving.{placesWidths, queriedIn}
+use mathlib.Core.Path.{ap}
+use Rattle.card.specs.Receiving.{places-widths, queriedIn}
+use Rattle.card.proofs.ToldLaws.{told-granted, told-refused}
 use borrow.Author.Needs.{needs}
 use Rattle.card.proofs.receiving.tell_places.Statement.{statement}
 use Rattle.card.proofs.receiving.tell_places.Tie as tie
-
-abbrev number : Queried → ℕ
-number q = refusalIn (queriedIn q)
-
-abbrev told : List ℕ → Queried → List ℕ
-told before q = toldOf placesWidths (queriedIn q) before
 
 enum-known-q : tie.Need-enum-known-q
 enum-known-q c = search needs
@@ -37,21 +28,16 @@ same-length : tie.Need-same-length
 same-length c = search needs
 
 returns : tie.Need-returns
-unfolding refusalIn queriedIn toldOf
+unfolding queriedIn
 returns c =
     let said = c .before .before in
-    let asked = said .before .before .before .before .before in
-    let known = asked .q .given in
-    let before = asked .before .before .before .args .told .now in (
-      sym (ap number (known .1)),
-      said .tell-bytes .ensures ∙ ap (toldIn before) (said .before .before .shown-bytes .ensures) ∙ sym (ap (told before) (known .1)),
-    )
+    let made = said .before .before in
+    let known = made .before .before .before in
+    told-granted places-widths _ (known .before .before .before .args .told .now) (ap queriedIn (known .q .given .1)) (made .shown-bytes .ensures) (said .tell-bytes .ensures)
 
 returns-2 : tie.Need-returns-2
-unfolding refusalIn queriedIn toldOf
-returns-2 c =
-    let known = c .before .q2 .given in
-    (sym (ap number (known .1)), sym (ap (told (c .before .before .before .before .args .told .now)) (known .1)))
+unfolding queriedIn
+returns-2 c = told-refused places-widths (c .before .before .before .before .args .told .now) (ap queriedIn (c .before .q2 .given .1))
 
 pub tell-places-spec : {M : Type 1} → statement M
 tell-places-spec =

@@ -3,7 +3,7 @@ use mathlib.Core.Path.{ap, _∙_}
 use Rattle.cut.specs.declared.Settings.{Settings}
 use Rattle.sender.specs.Calls.{fragmentCall}
 use Rattle.card.specs.Sending.{twos}
-use Rattle.card.proofs.SendLaws.{sent-as}
+use Rattle.card.proofs.ToldLaws.{sent-as}
 use borrow.Author.Needs.{needs}
 use Rattle.card.proofs.sending.bailhammer_fragment.Statement.{statement}
 use Rattle.card.proofs.sending.bailhammer_fragment.Tie as tie
@@ -29,7 +29,7 @@ returns c =
     let sent = said .before .before .before .before in
     let set = sent .before .before in
     let a = set .before .before .before .before .args in
-    sent-as (twos 1) (a .told .now) _ _ _ _ _ (sent .fragment .ensures ∙ ap (λ (x : Settings). fragmentCall x (a .number) (a .packet .now) (a .index) (a .out .now)) (set .settings-of .ensures)) (said .tell-length .ensures)
+    sent-as (twos 1) (a .told .now) (sent .fragment .ensures ∙ ap (λ (x : Settings). fragmentCall x (a .number) (a .packet .now) (a .index) (a .out .now)) (set .settings-of .ensures)) (said .tell-length .ensures)
 
 pub bailhammer-fragment-spec : {M : Type 1} → statement M
 bailhammer-fragment-spec =

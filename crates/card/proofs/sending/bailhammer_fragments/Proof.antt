@@ -3,7 +3,7 @@ use mathlib.Core.Path.{ap, _∙_}
 use Rattle.cut.specs.declared.Settings.{Settings}
 use Rattle.sender.specs.Calls.{fragmentsCall}
 use Rattle.card.specs.Sending.{twos}
-use Rattle.card.proofs.SendLaws.{sent-as}
+use Rattle.card.proofs.ToldLaws.{sent-as}
 use borrow.Author.Needs.{needs}
 use Rattle.card.proofs.sending.bailhammer_fragments.Statement.{statement}
 use Rattle.card.proofs.sending.bailhammer_fragments.Tie as tie
@@ -29,7 +29,7 @@ returns c =
     let sent = said .before .before .before .before in
     let set = sent .before .before in
     let a = set .before .before .before .before .args in
-    sent-as (twos 4) (a .told .now) _ _ _ _ _ (sent .fragments .ensures ∙ ap (λ (x : Settings). fragmentsCall x (a .number) (a .packet .now) (a .out .now)) (set .settings-of .ensures)) (said .tell-split .ensures)
+    sent-as (twos 4) (a .told .now) (sent .fragments .ensures ∙ ap (λ (x : Settings). fragmentsCall x (a .number) (a .packet .now) (a .out .now)) (set .settings-of .ensures)) (said .tell-split .ensures)
 
 pub bailhammer-fragments-spec : {M : Type 1} → statement M
 bailhammer-fragments-spec =

@@ -3,7 +3,7 @@ use mathlib.Core.Path.{ap, _∙_}
 use Rattle.cut.specs.Plan.{planOf}
 use Rattle.cut.specs.declared.Settings.{Settings}
 use Rattle.card.specs.Sending.{twos}
-use Rattle.card.proofs.SendLaws.{told-as}
+use Rattle.card.proofs.ToldLaws.{told-as}
 use borrow.Author.Needs.{needs}
 use Rattle.card.proofs.sending.bailhammer_plan.Statement.{statement}
 use Rattle.card.proofs.sending.bailhammer_plan.Tie as tie
@@ -26,7 +26,7 @@ returns c =
     let planned = said .before .before in
     let set = planned .before in
     let a = set .before .before .args in
-    told-as (twos 10) (a .told .now) _ _ _ _ (planned .plan .ensures ∙ ap (λ (x : Settings). planOf x (a .l)) (set .settings-of .ensures)) (said .tell-plan .ensures)
+    told-as (twos 10) (a .told .now) (planned .plan .ensures ∙ ap (λ (x : Settings). planOf x (a .l)) (set .settings-of .ensures)) (said .tell-plan .ensures)
 
 pub bailhammer-plan-spec : {M : Type 1} → statement M
 bailhammer-plan-spec =

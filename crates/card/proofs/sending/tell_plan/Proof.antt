@@ -2,7 +2,7 @@
 use mathlib.Core.Path.{ap}
 use Rattle.cut.specs.Plan.{numberOf}
 use Rattle.card.specs.Sending.{twos}
-use Rattle.card.proofs.SendLaws.{values-told, none-told}
+use Rattle.card.proofs.ToldLaws.{told-granted, told-refused}
 use borrow.Author.Needs.{needs}
 use Rattle.card.proofs.sending.tell_plan.Statement.{statement}
 use Rattle.card.proofs.sending.tell_plan.Tie as tie
@@ -34,11 +34,11 @@ returns c =
     let said = c .before .before in
     let made = said .before .before in
     let known = made .before .before .before in
-    values-told (twos 10) (known .before .before .before .args .told .now) _ _ _ _ (ap numberOf (known .a .given .1)) (made .plan-bytes .ensures) (said .tell-bytes .ensures)
+    told-granted (twos 10) _ (known .before .before .before .args .told .now) (ap numberOf (known .a .given .1)) (made .plan-bytes .ensures) (said .tell-bytes .ensures)
 
 returns-2 : tie.Need-returns-2
 unfolding numberOf
-returns-2 c = none-told (twos 10) (c .before .before .before .before .args .told .now) _ _ (ap numberOf (c .before .a2 .given .1))
+returns-2 c = told-refused (twos 10) (c .before .before .before .before .args .told .now) (ap numberOf (c .before .a2 .given .1))
 
 pub tell-plan-spec : {M : Type 1} → statement M
 tell-plan-spec =

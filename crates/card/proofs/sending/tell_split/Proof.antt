@@ -2,7 +2,7 @@
 use mathlib.Core.Path.{ap}
 use Rattle.sender.specs.Calls.{allNumber}
 use Rattle.card.specs.Sending.{twos}
-use Rattle.card.proofs.SendLaws.{values-told, none-told}
+use Rattle.card.proofs.ToldLaws.{told-granted, told-refused}
 use borrow.Author.Needs.{needs}
 use Rattle.card.proofs.sending.tell_split.Statement.{statement}
 use Rattle.card.proofs.sending.tell_split.Tie as tie
@@ -34,11 +34,11 @@ returns c =
     let said = c .before .before in
     let made = said .before .before in
     let known = made .before .before .before in
-    values-told (twos 4) (known .before .before .before .args .told .now) _ _ _ _ (ap allNumber (known .a .given .1)) (made .split-bytes .ensures) (said .tell-bytes .ensures)
+    told-granted (twos 4) _ (known .before .before .before .args .told .now) (ap allNumber (known .a .given .1)) (made .split-bytes .ensures) (said .tell-bytes .ensures)
 
 returns-2 : tie.Need-returns-2
 unfolding allNumber
-returns-2 c = none-told (twos 4) (c .before .before .before .before .args .told .now) _ _ (ap allNumber (c .before .a2 .given .1))
+returns-2 c = told-refused (twos 4) (c .before .before .before .before .args .told .now) (ap allNumber (c .before .a2 .given .1))
 
 pub tell-split-spec : {M : Type 1} → statement M
 tell-split-spec =

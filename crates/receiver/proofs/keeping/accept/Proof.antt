@@ -1,6 +1,8 @@
 -- `accept` meets its contract: by the place that holds the number, or a place that is opened. Assumes nothing.
+use mathlib.Core.Path.{refl}
 use borrow.Author.Needs.{needs}
-use Rattle.receiver.proofs.Arrivals.{refusal-is, arrives-refused, arrives-there, arrives-new, there-fine, new-fine, new-below}
+use Rattle.places.proofs.Records.{as-long}
+use Rattle.receiver.proofs.Arrivals.{refusal-is, turned-long, arrives-refused, arrives-there, arrives-new, there-fine, new-fine, new-below}
 use Rattle.receiver.proofs.keeping.accept.Statement.{statement}
 use Rattle.receiver.proofs.keeping.accept.Tie as tie
 
@@ -17,13 +19,11 @@ refusal-requires : tie.Need-refusal-requires
 refusal-requires c κs = search needs
 
 returns : tie.Need-returns
-returns c =
-    let a = c .before .before .before .before .before .before .before .before .before .args in
+returns c = let a = c .before .before .before .before .before .before .before .before .before .args in
     arrives-refused (a .t) (a .h) (a .lent .now) (a .payload .now) (a .out .now) (c .before .before .before .before .before .held-at .ensures) (c .before .before .before .before .if1 .taken) (c .before .before .before .place-at .ensures) (c .before .before .place-fault .ensures) (c .before .if2 .taken) (refusal-is _ _ (c .refusal .ensures))
 
 keep-requires : tie.Need-keep-requires
-keep-requires c κs =
-    let a = c .before .before .before .before .before .before .before .before .before .before .args in
+keep-requires c κs = let a = c .before .before .before .before .before .before .before .before .before .before .args in
     let p = c .before .before .before .before .before .before .before .before .before .before .pre in
     (c .before .before .before .before .before .if1 .taken, p .1, p .2, there-fine (a .t) (a .h) (p .2 .sound) (p .0) (c .before .before .before .before .before .if1 .taken) (c .before .before .before .before .place-at .ensures) (c .before .before .before .place-fault .ensures) (c .before .before .if2 .left))
 
@@ -34,9 +34,9 @@ same-length-2 : tie.Need-same-length-2
 same-length-2 c = search needs
 
 returns-2 : tie.Need-returns-2
-returns-2 c =
-    let a = c .before .before .before .before .before .before .before .before .before .before .before .before .before .before .before .args in
-    arrives-there (a .t) (a .h) (a .lent .now) (a .payload .now) (a .out .now) (c .before .before .before .before .before .before .before .before .before .before .before .held-at .ensures) (c .before .before .before .before .before .before .before .before .before .before .if1 .taken) (c .before .before .before .before .before .before .before .before .before .place-at .ensures) (c .before .before .before .before .before .before .before .before .place-fault .ensures) (c .before .before .before .before .before .before .before .if2 .left) (c .before .before .before .before .keep .ensures)
+returns-2 c = let a = c .before .before .before .before .before .before .before .before .before .before .before .before .before .before .before .args in
+    let size = as-long (a .t .places) _ (c .before .before .before .before .before .before .before .before .before .before .before .before .before .before .before .good .0 .1 .1 .0 .1 .0 .1) in
+    arrives-there (a .t) (a .h) (a .lent .now) (a .payload .now) (a .out .now) (c .before .before .before .before .before .before .before .before .before .before .before .held-at .ensures) (c .before .before .before .before .before .before .before .before .before .before .if1 .taken) (c .before .before .before .before .before .before .before .before .before .place-at .ensures) (c .before .before .before .before .before .before .before .before .place-fault .ensures) (c .before .before .before .before .before .before .before .if2 .left) (c .before .before .before .before .keep .ensures (a .t) size refl)
 
 open-at-requires : tie.Need-open-at-requires
 open-at-requires c κs = search needs
@@ -51,8 +51,7 @@ opened-by-requires : tie.Need-opened-by-requires
 opened-by-requires c κs = search needs
 
 keep-requires-2 : tie.Need-keep-requires-2
-keep-requires-2 c κs =
-    let a = c .before .before .before .before .before .before .before .before .before .before .before .args in
+keep-requires-2 c κs = let a = c .before .before .before .before .before .before .before .before .before .before .before .args in
     let p = c .before .before .before .before .before .before .before .before .before .before .before .pre in
     (new-below (a .t) (a .h) (p .2 .sound) (p .0) (c .before .before .before .before .before .open-at .ensures), p .1, p .2, new-fine (a .t) (a .h) (p .2 .sound) (c .before .before .opened-by .ensures))
 
@@ -63,9 +62,9 @@ same-length-4 : tie.Need-same-length-4
 same-length-4 c = search needs
 
 returns-3 : tie.Need-returns-3
-returns-3 c =
-    let a = c .before .before .before .before .before .before .before .before .before .before .before .before .before .before .before .before .args in
-    arrives-new (a .t) (a .h) (a .lent .now) (a .payload .now) (a .out .now) (c .before .before .before .before .before .before .before .before .before .before .before .before .held-at .ensures) (c .before .before .before .before .before .before .before .before .before .before .before .if1 .left) (c .before .before .before .before .before .before .before .before .before .before .open-at .ensures) (c .before .before .before .before .before .before .before .before .before .displaced-at .ensures) (c .before .before .before .before .before .before .before .before .turned .ensures) (c .before .before .before .before .before .before .before .opened-by .ensures) (c .before .before .before .before .keep2 .ensures)
+returns-3 c = let a = c .before .before .before .before .before .before .before .before .before .before .before .before .before .before .before .before .args in
+    let size = as-long (a .t .places) _ (c .before .before .before .before .before .before .before .before .before .before .before .before .before .before .before .before .good .0 .1 .1 .0 .1 .0 .1) in
+    arrives-new (a .t) (a .h) (a .lent .now) (a .payload .now) (a .out .now) (c .before .before .before .before .before .before .before .before .before .before .before .before .held-at .ensures) (c .before .before .before .before .before .before .before .before .before .before .before .if1 .left) _ _ _ (c .before .before .before .before .before .before .before .before .before .before .open-at .ensures) (c .before .before .before .before .before .before .before .before .before .displaced-at .ensures) (c .before .before .before .before .before .before .before .before .turned .ensures) (c .before .before .before .before .before .before .before .opened-by .ensures) (c .before .before .before .before .keep2 .ensures _ (turned-long (a .t) _ (c .before .before .before .before .before .before .before .before .turned .ensures) size) refl)
 
 pub accept-spec : {M : Type 1} → statement M
 accept-spec =

@@ -1,11 +1,12 @@
 -- `settle` meets its contract: the place settles by what forming answered. Assumes nothing.
+use mathlib.Core.Path.{sym, ap, _∙_}
 use borrow.Author.Needs.{needs}
-use Rattle.receiver.proofs.Forming.{formed-at, settles-waiting, settles-delivered, settles-damaged, never-refused}
+use Rattle.places.specs.Places.{withPlace}
+use Rattle.places.specs.Faults.{badPlace}
+use Rattle.receiver.proofs.Ranges.{written-place}
+use Rattle.receiver.proofs.Forming.{changes, closes, formed-at, settles-waiting, settles-delivered, settles-damaged, never-refused}
 use Rattle.receiver.proofs.keeping.settle.Statement.{statement}
 use Rattle.receiver.proofs.keeping.settle.Tie as tie
-
-place-at-requires : tie.Need-place-at-requires
-place-at-requires c κs = search needs
 
 mul-form : tie.Need-mul-form
 mul-form c = search needs
@@ -28,59 +29,63 @@ enum-told c = search needs
 enum-known-length : tie.Need-enum-known-length
 enum-known-length c = search needs
 
-close-at-requires : tie.Need-close-at-requires
-close-at-requires c κs = search needs
+in-condition-requires : tie.Need-in-condition-requires
+in-condition-requires c κs = search needs
 
 enum-told-2 : tie.Need-enum-told-2
 enum-told-2 c = search needs
 
-close-at-requires-2 : tie.Need-close-at-requires-2
-close-at-requires-2 c κs = search needs
+in-condition-requires-2 : tie.Need-in-condition-requires-2
+in-condition-requires-2 c κs = search needs
 
 enum-known-n : tie.Need-enum-known-n
 enum-known-n c = search needs
-
-refusal-requires : tie.Need-refusal-requires
-refusal-requires c κs = search needs
 
 same-length : tie.Need-same-length
 same-length c = search needs
 
 returns : tie.Need-returns
-returns c =
-    let a = c .before .before .before .before .before .before .before .before .before .before .args in
-    settles-waiting (a .t) (a .i) (a .d) (a .lent .now) (a .out .now) (formed-at (a .t) (a .i) (a .lent .now) (a .out .now) (c .before .before .before .before .before .before .before .place-at .ensures) (c .enum-told .given .1) (c .before .before .before .before .form .ensures))
+returns c = λ t size turn.
+    let a = c .before .before .before .before .before .before .before .before .before .args in
+    let u = withPlace t (a .i) (a .p) in
+    let there = written-place t (a .i) (a .p) size (c .before .before .before .before .before .before .before .before .before .pre .0) in
+    settles-waiting u (a .i) (a .d) (a .lent .now) (a .out .now) (formed-at u (a .i) (a .lent .now) (a .out .now) (sym there) (c .enum-told .given .1) (c .before .before .before .before .form .ensures)) (changes t _ turn)
 
 same-length-2 : tie.Need-same-length-2
 same-length-2 c = search needs
 
 returns-2 : tie.Need-returns-2
-returns-2 c =
-    let a = c .before .before .before .before .before .before .before .before .before .before .before .before .args in
-    settles-delivered (a .t) (a .i) (a .d) (a .lent .now) (a .out .now) (formed-at (a .t) (a .i) (a .lent .now) (a .out .now) (c .before .before .before .before .before .before .before .before .before .place-at .ensures) (c .before .before .length .given .1) (c .before .before .before .before .before .before .form .ensures)) (c .close-at .ensures)
+returns-2 c = λ t size turn.
+    let a = c .before .before .before .before .before .before .before .before .before .before .before .args in
+    let u = withPlace t (a .i) (a .p) in
+    let there = written-place t (a .i) (a .p) size (c .before .before .before .before .before .before .before .before .before .before .before .pre .0) in
+    settles-delivered u (a .i) (a .d) (a .lent .now) (a .out .now) (formed-at u (a .i) (a .lent .now) (a .out .now) (sym there) (c .before .before .length .given .1) (c .before .before .before .before .before .before .form .ensures)) (changes t _ turn ∙ closes t (a .i) _ (a .p) size (c .before .before .before .before .before .before .before .before .before .before .before .pre .0) (c .in-condition .ensures))
 
 same-length-3 : tie.Need-same-length-3
 same-length-3 c = search needs
 
 returns-3 : tie.Need-returns-3
-returns-3 c =
-    let a = c .before .before .before .before .before .before .before .before .before .before .before .args in
-    settles-damaged (a .t) (a .i) (a .d) (a .lent .now) (a .out .now) (formed-at (a .t) (a .i) (a .lent .now) (a .out .now) (c .before .before .before .before .before .before .before .before .place-at .ensures) (c .before .enum-told2 .given .1) (c .before .before .before .before .before .form .ensures)) (c .close-at2 .ensures)
+returns-3 c = λ t size turn.
+    let a = c .before .before .before .before .before .before .before .before .before .before .args in
+    let u = withPlace t (a .i) (a .p) in
+    let there = written-place t (a .i) (a .p) size (c .before .before .before .before .before .before .before .before .before .before .pre .0) in
+    settles-damaged u (a .i) (a .d) (a .lent .now) (a .out .now) (formed-at u (a .i) (a .lent .now) (a .out .now) (sym there) (c .before .enum-told2 .given .1) (c .before .before .before .before .before .form .ensures)) (changes t _ turn ∙ closes t (a .i) _ (a .p) size (c .before .before .before .before .before .before .before .before .before .before .pre .0) (c .in-condition2 .ensures))
 
 same-length-4 : tie.Need-same-length-4
 same-length-4 c = search needs
 
 returns-4 : tie.Need-returns-4
-returns-4 c =
-    let a = c .before .before .before .before .before .before .before .before .before .before .before .before .args in
-    let p = c .before .before .before .before .before .before .before .before .before .before .before .before .pre in
-    absurd (never-refused (a .t) (a .i) (a .lent .now) (a .out .now) (p .0) (p .1) (p .2) (formed-at (a .t) (a .i) (a .lent .now) (a .out .now) (c .before .before .before .before .before .before .before .before .before .place-at .ensures) (c .before .before .n .given .1) (c .before .before .before .before .before .before .form .ensures)))
+returns-4 c = λ t size turn.
+    let a = c .before .before .before .before .before .before .before .before .before .before .args in
+    let p = c .before .before .before .before .before .before .before .before .before .before .pre in
+    let u = withPlace t (a .i) (a .p) in
+    let there = written-place t (a .i) (a .p) size (p .0) in
+    absurd (never-refused u (a .i) (a .lent .now) (a .out .now) (p .0) (p .1) (ap badPlace there ∙ p .2) (formed-at u (a .i) (a .lent .now) (a .out .now) (sym there) (c .before .n .given .1) (c .before .before .before .before .before .form .ensures)))
 
 pub settle-spec : {M : Type 1} → statement M
 settle-spec =
     tie.close
     (tie.spec
-    place-at-requires
     mul-form
     sub-form
     part-form-start
@@ -88,11 +93,10 @@ settle-spec =
     form-requires
     enum-told
     enum-known-length
-    close-at-requires
+    in-condition-requires
     enum-told-2
-    close-at-requires-2
+    in-condition-requires-2
     enum-known-n
-    refusal-requires
     same-length
     returns
     same-length-2

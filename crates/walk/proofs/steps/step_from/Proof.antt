@@ -63,15 +63,20 @@ returns c =
 enum-known-step-2 : tie.Need-enum-known-step-2 Inv-loop μ-loop
 enum-known-step-2 c = search needs
 
+stays-requires : tie.Need-stays-requires Inv-loop μ-loop
+stays-requires c κs = search needs
+
 returns-2 : tie.Need-returns-2 Inv-loop μ-loop
 unfolding endOf
 returns-2 c =
-    let k = c .before .before in
+    let at-end = c .before in
+    let k = at-end .before .before in
     let e = sym (k .before .before .step-in .ensures) ∙ k .step2 .given .1 in
     let l = k .before .before .before .before in
     let a = l .before .before .before .before .args in
-    sym (ap (λ (d : ℕ). stepFrom (now (a .s)) (namesOf (now (a .names))) (a .from) d (a .t5)) (sym (l .before .lesser .ensures)) ∙ l .loop .inv .1
-    ∙ step-end (now (a .s)) (namesOf (now (a .names))) (l .loop .at) (a .t5) (l .loop .d) _ _ (k .before .before .before .lesser2 .ensures) e (omega (arith, c .if1 .taken)))
+    c .stays .ensures
+    ∙ sym (ap (λ (d : ℕ). stepFrom (now (a .s)) (namesOf (now (a .names))) (a .from) d (a .t5)) (sym (l .before .lesser .ensures)) ∙ l .loop .inv .1
+    ∙ step-end (now (a .s)) (namesOf (now (a .names))) (l .loop .at) (a .t5) (l .loop .d) _ _ (k .before .before .before .lesser2 .ensures) e (omega (arith, at-end .if1 .taken)))
 
 sub-d : tie.Need-sub-d Inv-loop μ-loop
 sub-d c = search needs
@@ -91,14 +96,18 @@ loop-again c =
 enum-known-step-3 : tie.Need-enum-known-step-3 Inv-loop μ-loop
 enum-known-step-3 c = search needs
 
+stays-requires-2 : tie.Need-stays-requires-2 Inv-loop μ-loop
+stays-requires-2 c κs = search needs
+
 returns-3 : tie.Need-returns-3 Inv-loop μ-loop
 unfolding endOf
 returns-3 c =
-    let k = c .before in
+    let k = c .before .before in
     let e = sym (k .before .before .step-in .ensures) ∙ k .step3 .given .1 in
     let l = k .before .before .before .before in
     let a = l .before .before .before .before .args in
-    sym (ap (λ (d : ℕ). stepFrom (now (a .s)) (namesOf (now (a .names))) (a .from) d (a .t5)) (sym (l .before .lesser .ensures)) ∙ l .loop .inv .1
+    c .stays2 .ensures
+    ∙ sym (ap (λ (d : ℕ). stepFrom (now (a .s)) (namesOf (now (a .names))) (a .from) d (a .t5)) (sym (l .before .lesser .ensures)) ∙ l .loop .inv .1
     ∙ step-refused (now (a .s)) (namesOf (now (a .names))) (l .loop .at) (a .t5) (l .loop .d) _ _ (k .before .before .before .lesser2 .ensures) e)
 
 pub step-from-spec : {M : Type 1} → statement M
@@ -117,9 +126,11 @@ step-from-spec =
     goes-on-requires
     returns
     enum-known-step-2
+    stays-requires
     returns-2
     sub-d
     loop-less
     loop-again
     enum-known-step-3
+    stays-requires-2
     returns-3)

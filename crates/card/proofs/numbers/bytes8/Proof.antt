@@ -1,8 +1,8 @@
 -- `bytes8` meets its contract: four high bytes and four low ones. Assumes nothing.
 use Rattle.card.proofs.ItemLaws.{eight-are}
 use borrow.Author.Needs.{needs}
-use Rattle.card.proofs.eights.bytes8.Statement.{statement}
-use Rattle.card.proofs.eights.bytes8.Tie as tie
+use Rattle.card.proofs.numbers.bytes8.Statement.{statement}
+use Rattle.card.proofs.numbers.bytes8.Tie as tie
 
 bytes4-requires : tie.Need-bytes4-requires
 bytes4-requires c κs = search needs

@@ -1,8 +1,8 @@
 -- `put8` meets its contract: there is room. Assumes nothing.
 use Rattle.card.proofs.ItemLaws.{eight-put}
 use borrow.Author.Needs.{needs}
-use Rattle.card.proofs.eights.put8.Statement.{statement}
-use Rattle.card.proofs.eights.put8.Tie as tie
+use Rattle.card.proofs.numbers.put8.Statement.{statement}
+use Rattle.card.proofs.numbers.put8.Tie as tie
 
 bytes8-requires : tie.Need-bytes8-requires
 bytes8-requires c κs = search needs

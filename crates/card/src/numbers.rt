@@ -1,9 +1,15 @@
-// Numbers of four and of eight bytes that C holds, big-endian.
-use crate::low;
+// Numbers as bytes, big-endian, as C holds them.
 ghost use mathlib.Core.Path.{_≡_};
-ghost use Prim.Native.Nat.{_+_, _≤_};
+ghost use Prim.Native.Nat.{_+_, _%_, _≤_};
 ghost use lib.ListN.{length};
 ghost use Rattle.base.specs.Bytes.{splice, numberAt, bytesOf};
+
+// The low byte of a number.
+pub(crate) fn low(x: usize) -> u8
+    ensures { λ r. ⌜ r ≡ x % 256 ⌝ }
+{
+    (x % 256) as u8
+}
 
 // The four low bytes of a number.
 pub(crate) fn bytes4(x: usize) -> [u8; 4]

@@ -4,8 +4,8 @@ use Prim.Native.Nat.{ℕ, _%_, _/_}
 use native.Mathlib.Nat.{div-div-eq-div-mul}
 use Rattle.base.proofs.Numbers.{bytes-none, bytes-more}
 use borrow.Author.Needs.{needs}
-use Rattle.card.proofs.eights.bytes4.Statement.{statement}
-use Rattle.card.proofs.eights.bytes4.Tie as tie
+use Rattle.card.proofs.numbers.bytes4.Statement.{statement}
+use Rattle.card.proofs.numbers.bytes4.Tie as tie
 
 low-requires : tie.Need-low-requires
 low-requires c κs = search needs

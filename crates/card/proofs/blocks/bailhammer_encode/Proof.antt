@@ -1,0 +1,22 @@
+-- `bailhammer_encode` meets its contract: the outcome of crate code's call, and its number. Assumes nothing.
+use Rattle.card.proofs.ToldLaws.{handed-on}
+use borrow.Author.Needs.{needs}
+use Rattle.card.proofs.blocks.bailhammer_encode.Statement.{statement}
+use Rattle.card.proofs.blocks.bailhammer_encode.Tie as tie
+
+encode-requires : tie.Need-encode-requires
+encode-requires c κs = search needs
+
+written-number-requires : tie.Need-written-number-requires
+written-number-requires c κs = search needs
+
+same-length : tie.Need-same-length
+same-length c = search needs
+
+returns : tie.Need-returns
+returns c =
+    let done = c .before .before .before .encode in
+    handed-on (done .ensures) (c .written-number .ensures)
+
+pub bailhammer-encode-spec : {M : Type 1} → statement M
+bailhammer-encode-spec = tie.close (tie.spec encode-requires written-number-requires same-length returns)
