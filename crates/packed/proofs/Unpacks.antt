@@ -1,25 +1,23 @@
 -- Unpacking: which answer is due after which tests. Assumes nothing.
-use mathlib.Core.Path.{_≡_, refl, sym, ap, ap₂, _∙_}
+use mathlib.Core.Path.{_≡_, sym, ap, ap₂, _∙_}
 use mathlib.Core.Bool.{Bool, true, false, not, cond}
-use mathlib.Core.List.{List, [], _∷_, _++_}
-use Prim.Native.Nat.{ℕ, zero, suc, _+_, _*_, _≤_, _<_}
-use native.Mathlib.Numerals.{add-one}
+use mathlib.Core.List.{List, [], _∷_}
+use Prim.Native.Nat.{ℕ, _*_}
 use native.Mathlib.Omega.{arith}
-use borrow.Author.Tests.{eq-eqb, ne-eqb}
+use borrow.Author.Tests.{eq-eqb, ne-eqb, eqb-true, not-false}
 use lib.Dec.{eqb}
-use lib.ListN.{length, getD, take, set}
-use lib.Seq.{take-suc, take-suc-set, take-all}
-use Rattle.base.specs.Answer.{Answer}
+use lib.ListN.{length, getD}
+use Rattle.base.specs.Answer.{Answer, answered}
 use Rattle.base.specs.Written.{numberOf}
 use Rattle.base.specs.declared.Written.{Written}
-use Rattle.base.specs.declared.Written.the-variants.{Done, Refused}
-use Rattle.base.proofs.Answers.{grants, refuses}
-use Rattle.base.proofs.Firsts.{due, skip, none-due}
+use Rattle.base.specs.declared.Written.the-variants.{Done}
+use Rattle.base.proofs.Answers.{grants}
+use Rattle.base.proofs.Firsts.{due, skip, none-due, clear}
+use Rattle.base.proofs.Logic.{either}
 use Rattle.places.specs.declared.Place.{Place}
 use Rattle.places.specs.declared.Table.{Table}
-use Rattle.places.specs.Places.{four, freePlace, freshTable}
+use Rattle.places.specs.Places.{four, freePlace, freshTable, placeAt}
 use Rattle.packed.specs.Packed.{place-bytes, table-bytes, placeFrom, tableFrom, badRecord, unpackFault, unpackCall}
-use Rattle.packed.proofs.FlagLaws.{filled-all}
 
 module _ (s : List ℕ) where
   pub other-length : (length s ≡ table-bytes → ⊥) → 1 ≡ unpackFault s
@@ -38,13 +36,19 @@ module _ (s : List ℕ) where
     unfolding unpackFault
     no-fault e = skip 1 _ right-length (skip 14 _ e none-due)
 
-  pub unpack-refused : (n : ℕ) (a : Written) (t : Table) → 0 < n → n ≡ unpackFault s → (a ≡ Refused n) × (t ≡ freshTable) → (numberOf a, t) ≡ unpackCall s
-  unfolding numberOf unpackCall
-  unpack-refused n a t some is-n is =
-      let refused : eqb (unpackFault s) 0 ≡ false = ne-eqb (unpackFault s) 0 (λ (e : unpackFault s ≡ 0). omega arith) in
+  pub right-size : unpackFault s ≡ 0 → length s ≡ table-bytes
+  unfolding unpackFault
+  right-size e =
+      eqb-true (length s) table-bytes
+      (not-false (eqb (length s) table-bytes) (clear (not (eqb (length s) table-bytes)) 1 _ (λ z. omega arith) e))
+
+  pub unpacked : (n : ℕ) (a : Written) (t : Table) → n ≡ unpackFault s → numberOf a ≡ answered n [] → t ≡ cond (eqb n 0) (tableFrom s) freshTable
+      → (numberOf a, t) ≡ unpackCall s
+  unfolding unpackCall
+  unpacked n a t is-n is-a is-t =
       ap₂ (λ (x : Answer) (y : Table). (x, y))
-      (ap numberOf (is .0) ∙ refuses n (unpackFault s) [] some is-n)
-      (is .1 ∙ sym (ap (λ (b : Bool). cond b (tableFrom s) freshTable) refused))
+      (is-a ∙ ap (λ (k : ℕ). answered k []) is-n)
+      (is-t ∙ ap (λ (k : ℕ). cond (eqb k 0) (tableFrom s) freshTable) is-n)
 
   pub unpack-done : (t : Table) → 0 ≡ unpackFault s → t ≡ tableFrom s → (numberOf Done, t) ≡ unpackCall s
   unfolding numberOf unpackCall
@@ -54,34 +58,23 @@ module _ (s : List ℕ) where
       (grants (unpackFault s) [] is-0)
       (is-t ∙ sym (ap (λ (b : Bool). cond b (tableFrom s) freshTable) done))
 
--- ---- the places, read one after another
+-- ---- what is read, by whether a number refuses it
 
-module _ (s : List ℕ) where
-  place-is : (i : ℕ) → i < four → placeFrom s (i * place-bytes) ≡ getD (tableFrom s .places) i freePlace
-  unfolding tableFrom
-  place-is zero h = refl
-  place-is (suc zero) h = refl
-  place-is (suc (suc zero)) h = refl
-  place-is (suc (suc (suc zero))) h = refl
-  place-is (suc (suc (suc (suc i)))) h = absurd (omega arith)
+module _ {A : Type 0} (n : ℕ) (x y : A) where
+  pub by-none : n ≡ 0 → x ≡ cond (eqb n 0) x y
+  by-none e = sym (ap (λ (b : Bool). cond b x y) (eq-eqb n 0 e))
 
-  places-long : length (tableFrom s .places) ≡ four
-  unfolding tableFrom
-  places-long = refl
+  pub by-some : (n ≡ 0 → ⊥) → y ≡ cond (eqb n 0) x y
+  by-some h = sym (ap (λ (b : Bool). cond b x y) (ne-eqb n 0 h))
 
-  -- one place more
-  pub places-more : (l : List Place) (i : ℕ) (p : Place) → length l ≡ four → i < four → take i l ≡ take i (tableFrom s .places)
-      → p ≡ placeFrom s (i * place-bytes) → take (i + 1) (set l i p) ≡ take (i + 1) (tableFrom s .places)
-  places-more l i p long h e is-p =
-      ap (λ (n : ℕ). take n (set l i p)) (add-one i)
-      ∙ take-suc-set l i p (omega (arith, long))
-      ∙ ap₂ (λ (k : List Place) (q : Place). k ++ (q ∷ [])) e (is-p ∙ place-is i h)
-      ∙ sym (take-suc (tableFrom s .places) i freePlace (omega (arith, places-long)))
-      ∙ ap (λ (n : ℕ). take n (tableFrom s .places)) (sym (add-one i))
+pub free-first : (t : Table) → t ≡ freshTable → placeAt t 0 ≡ freePlace
+unfolding placeAt freshTable
+free-first t e = ap (λ (x : Table). placeAt x 0) e
 
-  -- and all of them
-  pub table-read : (l : List Place) (i oldest : ℕ) → length l ≡ four → four ≤ i → take i l ≡ take i (tableFrom s .places) → oldest ≡ getD s (four * place-bytes) 0
-      → record { places = l; oldest = oldest } ≡ tableFrom s
-  unfolding tableFrom
-  table-read l i oldest long h e is-oldest =
-      rw (filled-all l _ i (omega (arith, long)) e ∙ take-all i (tableFrom s .places) (omega (arith, places-long)), is-oldest)
+pub table-read : (n : ℕ) (s : List ℕ) {a b c d : Place} {o : ℕ} → a ≡ cond (eqb n 0) (placeFrom s 0) freePlace → b ≡ cond (eqb n 0) (placeFrom s place-bytes) freePlace
+    → c ≡ cond (eqb n 0) (placeFrom s (2 * place-bytes)) freePlace → d ≡ cond (eqb n 0) (placeFrom s (3 * place-bytes)) freePlace
+    → o ≡ cond (eqb n 0) (getD s (four * place-bytes) 0) 0
+    → record { places = a ∷ b ∷ c ∷ d ∷ []; oldest = o } ≡ cond (eqb n 0) (tableFrom s) freshTable
+unfolding tableFrom freshTable
+table-read n s is-a is-b is-c is-d is-o =
+    either (eqb n 0) (λ e. rw (is-a, is-b, is-c, is-d, is-o, e)) (λ e. rw (is-a, is-b, is-c, is-d, is-o, e))

@@ -9,14 +9,16 @@ use places::FOUR;
 use places::Place;
 use places::Table;
 ghost use mathlib.Core.Path.{_≡_};
-ghost use mathlib.Core.List.{map};
-ghost use Prim.Native.Nat.{_+_, _≤_};
-ghost use lib.ListN.{length};
+ghost use mathlib.Core.Bool.{cond};
+ghost use mathlib.Core.List.{[], map};
+ghost use Prim.Native.Nat.{_+_, _*_, _≤_};
+ghost use lib.Dec.{eqb};
+ghost use lib.ListN.{length, getD};
 ghost use Rattle.base.specs.Bounds.{most-f};
-ghost use Rattle.packed.specs.Packed.{isSet, flagBytes, placeFrom, place-bytes, table-bytes, tableFrom, badFlags, badPlaceAt, badRecord, unpackCall};
+ghost use Rattle.packed.specs.Packed.{isSet, flagBytes, placeFrom, place-bytes, table-bytes, tableFrom, badFlags, badPlaceAt, badRecord, unpackFault, unpackCall};
+ghost use Rattle.base.specs.Answer.{answered};
 ghost use Rattle.base.specs.Written.{numberOf};
-ghost use Rattle.base.specs.declared.Written.the-variants.{Refused};
-ghost use Rattle.places.specs.Places.{freshTable};
+ghost use Rattle.places.specs.Places.{four, freePlace, freshTable};
 
 // The flags that begin at i.
 fn flags_from(s: &[u8], i: usize) -> [bool; MOST_F]
@@ -88,29 +90,60 @@ fn bad_record(s: &[u8]) -> bool
     bad_place_at(s, 3 * ONE)
 }
 
-// The record in the bytes.
-fn table_from(s: &[u8]) -> Table
-    requires { ⌜ length (now s) ≡ table-bytes ⌝ }
-    ensures { λ r. ⌜ r ≡ tableFrom (now (s .entry)) ⌝ }
+// 1 or 14, the first that is due, or 0.
+fn fault_of(s: &[u8]) -> u8
+    ensures { λ r. ⌜ r ≡ unpackFault (now (s .entry)) ⌝ }
 {
-    let fresh = places::fresh();
-    let mut places = fresh.places;
-    for i in 0..FOUR {
-        places[i] = place_from(s, i * ONE);
+    if s.len() != RECORD {
+        return 1;
     }
+    if bad_record(s) { 14 } else { 0 }
+}
+
+// The record of the place whose bytes begin at i, where n refuses nothing, else a free one.
+fn place_by(n: u8, s: &[u8], i: usize) -> Place
+    requires { ⌜ (n ≡ 0 → i + place-bytes ≤ length (now s)) ⌝ }
+    ensures { λ r. ⌜ r ≡ cond (eqb n 0) (placeFrom (now (s .entry)) i) freePlace ⌝ }
+{
+    if n != 0 {
+        return places::place_at(places::fresh(), 0);
+    }
+    place_from(s, i)
+}
+
+// Which place is displaced next, the same way.
+fn oldest_by(n: u8, s: &[u8]) -> u8
+    ensures { λ r. ⌜ r ≡ cond (eqb n 0) (getD (now (s .entry)) (four * place-bytes) 0) 0 ⌝ }
+{
+    if n != 0 {
+        return 0;
+    }
+    base::byte_at(s, FOUR * ONE)
+}
+
+// The record in the bytes, where n refuses nothing, else a fresh one. One way for both: a choice between two records would copy each.
+fn table_by(n: u8, s: &[u8]) -> Table
+    requires { ⌜ (n ≡ 0 → length (now s) ≡ table-bytes) ⌝ }
+    ensures { λ r. ⌜ r ≡ cond (eqb n 0) (tableFrom (now (s .entry))) freshTable ⌝ }
+{
+    let a = place_by(n, s, 0);
+    let b = place_by(n, s, ONE);
+    let c = place_by(n, s, 2 * ONE);
+    let d = place_by(n, s, 3 * ONE);
     Table {
-        places,
-        oldest: base::byte_at(s, FOUR * ONE),
+        places: [a, b, c, d],
+        oldest: oldest_by(n, s),
     }
 }
 
-fn refusal(n: u8) -> Unpacked
-    ensures { λ r. ⌜ (r .answer ≡ Refused n) × (r .table ≡ freshTable) ⌝ }
+// The answer with that number.
+fn written_by(n: u8) -> Written
+    ensures { λ r. ⌜ numberOf r ≡ answered n [] ⌝ }
 {
-    Unpacked {
-        table: places::fresh(),
-        answer: Written::Refused(n),
+    if n == 0 {
+        return Written::Done;
     }
+    Written::Refused(n)
 }
 
 // Reads the record from its bytes; 1 ROOM where they are not as many, 14 STATE where a flag is none. Whether its fields are in their
@@ -118,14 +151,9 @@ fn refusal(n: u8) -> Unpacked
 pub fn unpack(s: &[u8]) -> Unpacked
     ensures { λ r. ⌜ (numberOf (r .answer), r .table) ≡ unpackCall (now (s .entry)) ⌝ }
 {
-    if s.len() != RECORD {
-        return refusal(1);
-    }
-    if bad_record(s) {
-        return refusal(14);
-    }
+    let n = fault_of(s);
     Unpacked {
-        table: table_from(s),
-        answer: Written::Done,
+        table: table_by(n, s),
+        answer: written_by(n),
     }
 }

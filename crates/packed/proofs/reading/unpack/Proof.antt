@@ -1,49 +1,23 @@
--- `unpack` meets its contract, test by test. Assumes nothing.
-use mathlib.Core.Path.{_≡_}
-use native.Mathlib.Omega.{arith}
+-- `unpack` meets its contract: what is read is by the number that is due. Assumes nothing.
+use mathlib.Core.Path.{sym, _∙_}
 use borrow.Author.Needs.{needs}
-use lib.Dec.{lit<}
-use lib.ListN.{length}
-use Rattle.base.proofs.Logic.{told}
-use Rattle.packed.specs.Packed.{table-bytes}
-use Rattle.packed.proofs.Unpacks.{other-length, bad-record, no-fault, unpack-refused, unpack-done}
+use Rattle.packed.proofs.Unpacks.{right-size, unpacked}
 use Rattle.packed.proofs.reading.unpack.Statement.{statement}
 use Rattle.packed.proofs.reading.unpack.Tie as tie
 
-refusal-requires : tie.Need-refusal-requires
-refusal-requires c κs = search needs
+fault-of-requires : tie.Need-fault-of-requires
+fault-of-requires c κs = search needs
+
+table-by-requires : tie.Need-table-by-requires
+table-by-requires c κs = λ z. right-size _ (sym (c .fault-of .ensures) ∙ z)
+
+written-by-requires : tie.Need-written-by-requires
+written-by-requires c κs = search needs
 
 returns : tie.Need-returns
 returns c =
-    unpack-refused _ 1 _ _ (lit< tt) (other-length (c .before .before .before .args .s .now) (λ (e : length (c .before .before .before .args .s .now) ≡ table-bytes). omega (arith, c .before .if1 .taken))) (c .refusal .ensures)
-
-bad-record-requires : tie.Need-bad-record-requires
-bad-record-requires c κs = search needs
-
-refusal-requires-2 : tie.Need-refusal-requires-2
-refusal-requires-2 c κs = search needs
-
-returns-2 : tie.Need-returns-2
-returns-2 c =
-    let flags = c .before in
-    unpack-refused _ 14 _ _ (lit< tt) (bad-record _ (flags .before .before .if1 .left) (told (flags .before .bad-record .ensures) (flags .if2 .taken))) (c .refusal2 .ensures)
-
-table-from-requires : tie.Need-table-from-requires
-table-from-requires c κs = search needs
-
-returns-3 : tie.Need-returns-3
-returns-3 c =
-    let flags = c .before in
-    unpack-done _ _ (no-fault _ (flags .before .before .if1 .left) (told (flags .before .bad-record .ensures) (flags .if2 .left))) (c .table-from .ensures)
+    let fault = c .before .before in
+    unpacked _ (fault .fault-of .result) _ _ (fault .fault-of .ensures) (c .written-by .ensures) (c .before .table-by .ensures)
 
 pub unpack-spec : {M : Type 1} → statement M
-unpack-spec =
-    tie.close
-    (tie.spec
-    refusal-requires
-    returns
-    bad-record-requires
-    refusal-requires-2
-    returns-2
-    table-from-requires
-    returns-3)
+unpack-spec = tie.close (tie.spec fault-of-requires table-by-requires written-by-requires returns)
