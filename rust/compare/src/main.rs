@@ -7,6 +7,7 @@
 mod af;
 mod block;
 mod call;
+mod field;
 mod places;
 mod receiver;
 mod record;
@@ -30,8 +31,8 @@ const CALLS: usize = 100_000;
 /// The calls of the receiver, which have many fragments to a packet.
 const RECEIVED: usize = 2 * CALLS;
 
-/// Every number of document 01 but 44, which is the field's and no call of the card gives.
-const NUMBERS: [std::ops::RangeInclusive<usize>; 4] = [1..=14, 20..=25, 30..=35, 40..=43];
+/// Every number of document 01.
+const NUMBERS: [std::ops::RangeInclusive<usize>; 4] = [1..=14, 20..=25, 30..=35, 40..=44];
 
 type Compared = fn(&mut Rng, &mut Tally);
 
@@ -52,6 +53,8 @@ const KINDS: [(&str, &[usize], Compared); 9] = [
 const WALK: &str = "walk_open";
 /// The receiver's three calls.
 const RECEIVE: &str = "receive";
+/// The field's questions to the console.
+const FIELD: &str = "field";
 
 fn main() -> ExitCode {
     let mut words = std::env::args().skip(1);
@@ -80,6 +83,9 @@ fn run(seed: u64, only: Option<&str>) -> Vec<Tally> {
     }
     if wanted(RECEIVE) {
         tallies.extend(receptions(seed));
+    }
+    if wanted(FIELD) {
+        tallies.push(questions(seed));
     }
     tallies
 }
@@ -115,6 +121,16 @@ fn receptions(seed: u64) -> [Tally; 3] {
     );
     println!("receive: {} calls from records that no calls leave, compared in part", desk.strays);
     [desk.received, desk.queried, desk.cleared]
+}
+
+fn questions(seed: u64) -> Tally {
+    let (mut rng, mut tally) = (Rng::new(seed, FIELD), Tally::new(FIELD, &[0, 44]));
+    timed(FIELD, || {
+        if let Err(fault) = field::compare(&mut rng, &mut tally, CALLS) {
+            println!("the console cannot be asked: {fault}");
+        }
+    });
+    tally
 }
 
 /// Prints the counts and what is wrong with them.
