@@ -88,8 +88,8 @@ size_t bailhammer_walk_step(const uint8_t *packet, size_t packet_len, const uint
  * may be lost, 5 at most, and 0 without FEC; mtu is the most bytes of a fragment, above h and 16,384 at most, where h is 14, two more with
  * FEC, four more with an address. The house default is FEC, m 2, mtu 1,400 and no address. */
 
-/* Plans the cut of an AF packet of l bytes. Tells 20 bytes, two each: c, k, z and n (0 without FEC), h, S, L, f, s, and how many
- * fragments may be lost whichever they are. Gives 0; else the first of 40, 20, 22 and 41 that is due. */
+/* Plans the cut of an AF packet of l bytes. Tells 20 bytes, two each: c, k, z and n (0 without FEC), h, S, L, f, s, and m, the
+ * losses that the cut is made to bear, whichever they are. Gives 0; else the first of 40, 20, 22 and 41 that is due. */
 size_t bailhammer_plan(size_t fec, size_t m, size_t mtu, size_t addressed, size_t l, uint8_t *told, size_t told_len);
 
 /* Writes fragment `index` of an AF packet at the front of out, under the packet's number. Tells its length, 2 bytes. Gives 0; else the
@@ -126,12 +126,14 @@ size_t bailhammer_clear(uint8_t *table, size_t table_len, const uint8_t *lent, s
 /* The code's block calls, for those who cut and join themselves. */
 
 /* Writes the block of a packet at the front of out: c chunks of k bytes (1 to 207), the packet and zeros behind it, each followed by
- * its 48 parity bytes. c * (k + 48) is 12,288 at most, and the packet ends in the last chunk. Gives 0, 1 or 8. */
+ * its 48 parity bytes. c * (k + 48) is 12,288 at most, and the packet ends in the last chunk (no packet in no chunk is no block). Gives 0;
+ * else the first of 8 and 1 that is due. */
 size_t bailhammer_encode(const uint8_t *packet, size_t packet_len, size_t k, size_t c, uint8_t *out, size_t out_len);
 
 /* Fills in the missing cells of a block: f fragments of s bytes were sent, cell q is of fragment q mod f, and fragment i is kept where
- * i is below kept_len and kept[i] is not 0. The block is f * s / (k + 48) chunks of k data and 48 parity bytes. Gives 0, 1, 7, 8, 256
- * or 257. */
+ * i is below kept_len and kept[i] is not 0. The block is f * s / (k + 48) chunks of k data and 48 parity bytes; f * s is 12,288 at most and
+ * at least k + 48, k is 1 to 207, and block has the chunks' bytes; those behind them stay. Gives 0; else the first of 7, 8 and 1 that is
+ * due; else 257 or 256. */
 size_t bailhammer_fill(const uint8_t *kept, size_t kept_len, size_t f, size_t s, size_t k, uint8_t *block, size_t block_len);
 
 #ifdef __cplusplus

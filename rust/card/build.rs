@@ -13,6 +13,10 @@ fn main() {
     let library = folder.join("libcard.a");
     println!("cargo:rerun-if-env-changed={OVERRIDE}");
     println!("cargo:rerun-if-changed={}", library.display());
+    if std::env::var("CARGO_CFG_TARGET_ARCH").as_deref() != Ok("x86_64") {
+        eprintln!("libcard.a is x86-64 code: build for x86-64");
+        std::process::exit(1);
+    }
     if !library.is_file() {
         eprintln!("{} is not there; run: rt staticlib card", library.display());
         std::process::exit(1);

@@ -74,7 +74,7 @@ minorOf s = arOf s % 16
 unfoldable pub payloadOf : List ℕ → List ℕ
 payloadOf s = take (length s - least-l) (drop headerBytes s)
 
--- clause 6.1: header and payload, which the CRC covers, and the CRC behind them
+-- clause 6.1: header and payload, which the CRC covers
 unfoldable pub coveredOf : List ℕ → List ℕ
 coveredOf s = take (length s - crcBytes) s
 

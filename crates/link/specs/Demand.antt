@@ -48,12 +48,12 @@ pub record Scene (g : Settings) (n : ℕ) (packet : List ℕ) (first : State) (e
   pub run : Run first es now
   pub own : All (Own g n packet) es
 
--- "at most three other numbers arrive": those of the datagrams that pass the checks are n and the others
+-- n is one of the list
 unfoldable pub among : ℕ → List ℕ → Bool
 among n [] = false
 among n (m ∷ ms) = eqb m n || among n ms
 
--- a datagram that passes the checks has the number n or one of the others
+-- "at most three other numbers arrive": a datagram that passes the checks has the number n or one of the others
 unfoldable pub Among : ℕ → List ℕ → Call → Type 0
 Among n others e = heard e ≡ true → (numberIn e ≡ n → ⊥) → among (numberIn e) others ≡ true
 

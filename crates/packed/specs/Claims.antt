@@ -32,7 +32,7 @@ pub record TypedTable (t : Table) : Type 0 where
 abbrev pub Unpacks : Type 0
 Unpacks = (t : Table) → TypedTable t → unpackCall (packedOf t) ≡ (granted [], t)
 
--- and what is unpacked has been packed so
+-- and bytes that are taken are those that packing their record gives
 abbrev pub Packs : Type 0
 Packs = (s : List ℕ) → Bytes s → unpackFault s ≡ 0 → packedOf (tableFrom s) ≡ s
 

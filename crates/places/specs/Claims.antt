@@ -14,7 +14,7 @@ use Rattle.places.specs.Faults.{badPlace, badTable, placeFault}
 abbrev pub FreshInRange : Type 0
 FreshInRange = badTable freshTable ≡ false
 
--- a place in range that keeps a fragment which passed the checks 2 to 12 stays in range, and so does one that such a fragment opens
+-- a place in range that keeps a fragment which passed the checks 2 to 12 stays in range
 abbrev pub KeptInRange : Type 0
 KeptInRange = (p : Place) (h : Header) → badPlace p ≡ false → Sound h → placeFault p h ≡ 0 → badPlace (keptIn p h) ≡ false
 

@@ -57,7 +57,7 @@ placeAt t i = getD (t .places) i freePlace
 unfoldable pub withPlace : Table → ℕ → Place → Table
 withPlace t i p = record { places = set (t .places) i p; oldest = t .oldest }
 
--- whose packet a fragment is of, and whose a place holds: the number
+-- whose packet a fragment is of: its number
 unfoldable pub keyOf : Header → ℕ
 keyOf h = h .number
 

@@ -24,6 +24,7 @@ OneOpened = (a b : Opened) → openedNumber a ≡ openedNumber b → a ≡ b
 abbrev pub OneSought : Type 0
 OneSought = (a b : Sought) → soughtNumber a ≡ soughtNumber b → a ≡ b
 
+-- and of where a name is
 abbrev pub OneLocated : Type 0
 OneLocated = (a b : Located) → locatedNumber a ≡ locatedNumber b → a ≡ b
 

@@ -22,7 +22,7 @@ pub struct Settings {
 pub const HOUSE: Settings = Settings { fec: true, m: 2, mtu: 1_400, address: None };
 
 /// The sizes of a cut under their names in document 01; `most` is S, `total` is L, and `losses` is
-/// how many fragments may be lost whichever they are. Without FEC c, k, z and n are 0.
+/// m, the losses that the cut is made to bear, whichever they are. Without FEC c, k, z and n are 0.
 #[derive(Clone, Copy, Debug, PartialEq, Eq)]
 pub struct Plan {
     pub c: u16,
