@@ -9,6 +9,9 @@ use lib.ListN.{length}
 use Rattle.base.specs.Bounds.{most-f}
 use Rattle.base.proofs.Logic.{either}
 use Rattle.cut.specs.declared.Address.{Address}
+use Rattle.cut.specs.Missing.{losses}
+use Rattle.cut.proofs.LossCounts.{count-le}
+use Rattle.form.specs.Agree.{lostIn, missingIn}
 use Rattle.header.specs.declared.Header.{Header}
 use Rattle.header.specs.Read.{fieldsOf, faultOf}
 use Rattle.header.proofs.Checks.{index-from, passing}
@@ -55,7 +58,17 @@ module _ (own : Address) (t : Table) (lent : ℕ) (datagram b payload : List ℕ
       (λ e. rw e (kept-few t held (placeAt t held) h (few-held held (ltb-true held four e))))
       (λ e. rw e (kept-few (turned t (openAt t)) (openAt t) (openedBy h) h few-opened))
 
-pub counts-few : (own : Address) (s : State) (datagram out : List ℕ) → dueFor own s datagram out ≡ 0
+counts-few : (own : Address) (s : State) (datagram out : List ℕ) → dueFor own s datagram out ≡ 0
     → placeAt (keptBy s datagram .table) (keptBy s datagram .at) .count ≤ most-f
 counts-few own s datagram out none =
     keep-few own (s .table) (length (s .bytes)) datagram (s .bytes) (payloadOf datagram) (length out) none
+
+missing-most : (p : Place) → Few p → missingIn p ≤ most-f
+unfolding missingIn losses
+missing-most p few = omega (arith, count-le (lostIn p) 0 (p .count))
+
+-- so no more can be missing
+pub missing-few : (own : Address) (s : State) (datagram out : List ℕ) → dueFor own s datagram out ≡ 0
+    → missingIn (placeAt (keptBy s datagram .table) (keptBy s datagram .at)) ≤ most-f
+missing-few own s datagram out none =
+    missing-most (placeAt (keptBy s datagram .table) (keptBy s datagram .at)) (counts-few own s datagram out none)

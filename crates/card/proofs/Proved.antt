@@ -1,6 +1,6 @@
 -- The claims of specs/Claims.antt, each by citation. Assumes nothing.
 use Rattle.card.specs.Claims.{PlanWhole, LengthWhole, SplitWhole}
-use Rattle.card.specs.Claims.{ZerosFresh, ClearedZeros, OneReceipt, RefusedUnchanged, DeliveryBounds}
+use Rattle.card.specs.Claims.{ZerosFresh, ClearedZeros, OneReceipt, RefusedUnchanged, ReceiptWhole}
 use Rattle.card.specs.Claims.{OpensTyped, StepsTyped, ReadBack, StepNumbers, FoundWhole, StepWhole}
 use Rattle.card.proofs.SendProved as sender
 use Rattle.card.proofs.ReceiveProved as receiver
@@ -28,8 +28,8 @@ one-receipt = receiver.one-receipt
 pub refused-unchanged : RefusedUnchanged
 refused-unchanged = receiver.refused-unchanged
 
-pub delivery-bounds : DeliveryBounds
-delivery-bounds = receiver.delivery-bounds
+pub receipt-whole : ReceiptWhole
+receipt-whole = receiver.receipt-whole
 
 pub opens-typed : OpensTyped
 opens-typed = walk.opens-typed

@@ -23,12 +23,12 @@ use Rattle.receiver.specs.Promise.{State, roomFault, Settled, waits, delivers, 
 use Rattle.receiver.specs.Claims.{dueFor}
 use Rattle.receiver.specs.declared.Received.{Received}
 use Rattle.receiver.specs.declared.Received.the-variants.{Delivered, Refused}
-use Rattle.receiver.proofs.Proved.{one-outcome, one-received, delivery-writes}
+use Rattle.receiver.proofs.Proved.{one-outcome, one-received, delivery-writes, count-told}
 use Rattle.receiver.proofs.Unique.{step-settled, step-refused}
 use Rattle.card.specs.Told.{refusalIn, answerIn, bytesIn}
 use Rattle.card.specs.Receiving.{onRecord, toldAfter, Held, ReceivedWith, CardReceived, clearFor}
-use Rattle.card.specs.Claims.{ZerosFresh, ClearedZeros, OneReceipt, RefusedUnchanged, DeliveryBounds}
-use Rattle.card.proofs.CountLaws.{counts-few}
+use Rattle.card.specs.Claims.{ZerosFresh, ClearedZeros, OneReceipt, RefusedUnchanged, ReceiptWhole}
+use Rattle.card.proofs.CountLaws.{missing-few}
 
 -- ---- a fresh record
 
@@ -174,13 +174,13 @@ refused-unchanged own datagram before after r bytes p p0 p13 =
 
 -- ---- what a delivery tells
 
-pub delivery-bounds : DeliveryBounds
+pub receipt-whole : ReceiptWhole
 unfolding promise.outcome
-delivery-bounds own s datagram out y step l m d q =
+receipt-whole own s datagram out y step l m d q =
     let due : ℕ = dueFor own s datagram out in (
       delivery-writes own s datagram out y step l m d q .most,
       either (eqb due 0)
-          (λ e. counts-few own s datagram out (eqb-true due 0 e))
+          (λ e. omega (arith, count-told own s datagram out y step l m d q .0, missing-few own s datagram out (eqb-true due 0 e)))
           (λ e.
           let is = ap (λ (o : promise.Outcome). o .answer) (step-refused own s datagram out (eqb-false due 0 e) step) in
           let same : Refused due ≡ Delivered l m d = one-received (Refused due) (Delivered l m d) (sym is ∙ q) in

@@ -12,10 +12,9 @@ use Rattle.cut.specs.declared.Address.{Address}
 use Rattle.cut.specs.declared.Settings.{Settings}
 use Rattle.sender.specs.Calls.{fragmentCall, fragmentsCall}
 use Rattle.packed.specs.Packed.{table-bytes, unpackCall}
-use Rattle.places.specs.Places.{freshTable, placeAt}
+use Rattle.places.specs.Places.{freshTable}
 use Rattle.places.specs.declared.Displaced.{Displaced}
 use Rattle.receiver.specs.Promise.{numberOf, Outcome, State, Step}
-use Rattle.receiver.specs.Claims.{keptBy}
 use Rattle.receiver.specs.declared.Received.the-variants.{Delivered}
 use Rattle.item.specs.declared.Item.{Item}
 use Rattle.item.specs.Item.{head}
@@ -75,12 +74,12 @@ RefusedUnchanged =
     (own : Address) (datagram : List ℕ) (before after : Held) (r : ℕ) → Bytes (before .record-bytes)
     → CardReceived own datagram before after r → (r ≡ 0 → ⊥) → (r ≡ 13 → ⊥) → after ≡ before
 
--- card.h, "its length (2)": at most 8,192, it is not cut off; and the place whose fragments not held are counted has at most 256
-abbrev pub DeliveryBounds : Type 0
-DeliveryBounds =
+-- card.h, "its length (2), how many of its fragments are not held (2)": at most 8,192 and 256, neither is cut off
+abbrev pub ReceiptWhole : Type 0
+ReceiptWhole =
     (own : Address) (s : State) (datagram out : List ℕ) (y : Outcome) → Step own s datagram out y
     → (l m : ℕ) (d : Displaced) → y .answer ≡ numberOf (Delivered l m d)
-    → (l ≤ most-l) × (placeAt (keptBy s datagram .table) (keptBy s datagram .at) .count ≤ most-f)
+    → (l ≤ most-l) × (m ≤ most-f)
 
 -- ---- a walk: what it keeps between its calls
 
