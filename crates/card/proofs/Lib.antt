@@ -5,7 +5,10 @@ pub mod PacketLaws
 pub mod ReceiveLaws
 pub mod QueryLaws
 pub mod ItemLaws
+pub mod CountLaws
+pub mod StepLaws
 pub mod SendProved
 pub mod ReceiveProved
 pub mod WalkProved
+pub mod ItemProved
 pub mod Proved

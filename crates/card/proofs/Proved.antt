@@ -1,10 +1,11 @@
 -- The claims of specs/Claims.antt, each by citation. Assumes nothing.
 use Rattle.card.specs.Claims.{PlanWhole, LengthWhole, SplitWhole}
-use Rattle.card.specs.Claims.{ZerosFresh, ClearedZeros, OneReceipt, RefusedUnchanged}
-use Rattle.card.specs.Claims.{ReadBack, StepNumbers}
+use Rattle.card.specs.Claims.{ZerosFresh, ClearedZeros, OneReceipt, RefusedUnchanged, ReceiptWhole}
+use Rattle.card.specs.Claims.{OpensTyped, StepsTyped, ReadBack, StepNumbers, FoundWhole, StepWhole}
 use Rattle.card.proofs.SendProved as sender
 use Rattle.card.proofs.ReceiveProved as receiver
 use Rattle.card.proofs.WalkProved as walk
+use Rattle.card.proofs.ItemProved as item
 
 pub plan-whole : PlanWhole
 plan-whole = sender.plan-whole
@@ -27,8 +28,23 @@ one-receipt = receiver.one-receipt
 pub refused-unchanged : RefusedUnchanged
 refused-unchanged = receiver.refused-unchanged
 
+pub receipt-whole : ReceiptWhole
+receipt-whole = receiver.receipt-whole
+
+pub opens-typed : OpensTyped
+opens-typed = walk.opens-typed
+
+pub steps-typed : StepsTyped
+steps-typed = walk.steps-typed
+
 pub read-back : ReadBack
 read-back = walk.read-back
 
 pub step-numbers : StepNumbers
 step-numbers = walk.step-numbers
+
+pub found-whole : FoundWhole
+found-whole = item.found-whole
+
+pub step-whole : StepWhole
+step-whole = item.step-whole

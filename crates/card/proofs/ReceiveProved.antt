@@ -22,12 +22,13 @@ use Rattle.receiver.specs.Promise as promise
 use Rattle.receiver.specs.Promise.{State, roomFault, Settled, waits, delivers, damaged}
 use Rattle.receiver.specs.Claims.{dueFor}
 use Rattle.receiver.specs.declared.Received.{Received}
-use Rattle.receiver.specs.declared.Received.the-variants.{Refused}
-use Rattle.receiver.proofs.Proved.{one-outcome, one-received}
+use Rattle.receiver.specs.declared.Received.the-variants.{Delivered, Refused}
+use Rattle.receiver.proofs.Proved.{one-outcome, one-received, delivery-writes, count-told}
 use Rattle.receiver.proofs.Unique.{step-settled, step-refused}
 use Rattle.card.specs.Told.{refusalIn, answerIn, bytesIn}
 use Rattle.card.specs.Receiving.{onRecord, toldAfter, Held, ReceivedWith, CardReceived, clearFor}
-use Rattle.card.specs.Claims.{ZerosFresh, ClearedZeros, OneReceipt, RefusedUnchanged}
+use Rattle.card.specs.Claims.{ZerosFresh, ClearedZeros, OneReceipt, RefusedUnchanged, ReceiptWhole}
+use Rattle.card.proofs.CountLaws.{missing-few}
 
 -- ---- a fresh record
 
@@ -170,3 +171,19 @@ refused-unchanged own datagram before after r bytes p p0 p13 =
     let none : unpackFault s ≡ 0 = eqb-true (unpackFault s) 0 e in
     unchanged own datagram before after r bytes none (with-record own datagram before after r p none) p0 p13)
     (λ e. no-record own datagram before after r p (eqb-false (unpackFault s) 0 e) .1)
+
+-- ---- what a delivery tells
+
+pub receipt-whole : ReceiptWhole
+unfolding promise.outcome
+receipt-whole own s datagram out y step l m d q =
+    let due : ℕ = dueFor own s datagram out in (
+      delivery-writes own s datagram out y step l m d q .most,
+      either (eqb due 0)
+          (λ e. omega (arith, count-told own s datagram out y step l m d q .0, missing-few own s datagram out (eqb-true due 0 e)))
+          (λ e.
+          let is = ap (λ (o : promise.Outcome). o .answer) (step-refused own s datagram out (eqb-false due 0 e) step) in
+          let same : Refused due ≡ Delivered l m d = one-received (Refused due) (Delivered l m d) (sym is ∙ q) in
+          let z : _≡_ {A = ℕ} 0 1 = cc in
+          absurd (omega arith)),
+    )

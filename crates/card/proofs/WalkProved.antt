@@ -1,28 +1,28 @@
 -- The claims of specs/Claims.antt on a walk. Assumes nothing.
 use mathlib.Core.Path.{_≡_, refl, sym, ap, _∙_, subst}
-use mathlib.Core.Bool.{Bool, true, false, cond}
+use mathlib.Core.Bool.{Bool, true, false, cond, _&&_}
 use mathlib.Core.List.{List, [], _∷_}
 use mathlib.Core.Logic.{_⊎_, inl, inr}
-use Prim.Native.Nat.{ℕ, zero, suc, _+_, _-_, _^_, _<_, min}
-use lib.Dec.{ltb, leb}
-use lib.ListN.{getD}
+use Prim.Native.Nat.{ℕ, zero, suc, _+_, _^_, _<_, _≤_, min}
+use native.Mathlib.Omega.{arith}
+use lib.Dec.{ltb, lit<}
+use lib.ListN.{length, getD, set, replicate, length-set}
 use Rattle.base.specs.Answer.{Answer}
-use Rattle.base.specs.Bytes.{numberAt, bytesOf}
+use Rattle.base.specs.Bytes.{bytesOf}
 use Rattle.base.proofs.Numbers.{back-at}
-use Rattle.item.specs.declared.Bytes.{Bytes}
 use Rattle.item.specs.declared.Item.{Item}
-use Rattle.item.specs.declared.Step.{Step}
-use Rattle.item.specs.declared.Step.the-variants as step
-use Rattle.item.specs.Item.{head, bytesFor, itemAt, stepIn}
+use Rattle.item.specs.Run.{nextOf, among}
+use Rattle.item.proofs.Steps.{refused-is}
 use Rattle.walk.specs.declared.Walked.{Walked}
 use Rattle.walk.specs.declared.Walker.{Walker}
 use Rattle.walk.specs.Names.{deepest, namesOf}
-use Rattle.walk.specs.Step.{endOf, stepFrom, walkStep}
-use Rattle.walk.proofs.StepCases.{step-item, step-end, step-refused}
+use Rattle.walk.specs.Step.{opens, goesOn, endOf, stepFrom, walkStep}
+use Rattle.walk.proofs.StepCases.{steps-on}
 use Rattle.card.specs.Told.{refusalIn, inWidths}
 use Rattle.card.specs.Items.{walker-widths, walkerBytes, walkerFrom, steppedNumber, stepped}
-use Rattle.card.specs.Claims.{ReadBack, StepNumbers}
+use Rattle.card.specs.Claims.{TypedWalk, OpensTyped, StepsTyped, ReadBack, StepNumbers}
 use Rattle.card.proofs.ItemLaws.{five, walker-read, answers}
+use Rattle.card.proofs.StepLaws.{by-steps, item-within, end-within}
 
 -- ---- reading back
 
@@ -53,19 +53,73 @@ read-back w h =
     ∙ ap (λ (m : List ℕ). record { refusal = 0; at = w .at; depth = w .depth; ends = m }) (sym is)
     ∙ ap (λ (n : ℕ). record { refusal = n; at = w .at; depth = w .depth; ends = w .ends }) (sym (h .unrefused))
 
+-- ---- what the code's types say of a walk
+
+-- every number of a list has 64 bits
+abbrev Below : List ℕ → Type 0
+Below l = (i : ℕ) → getD l i 0 < 2 ^ 64
+
+below-more : (x : ℕ) (l : List ℕ) → x < 2 ^ 64 → Below l → Below (x ∷ l)
+below-more x l small all zero = small
+below-more x l small all (suc i) = all i
+
+below-zeros : (n : ℕ) → Below (replicate n 0)
+below-zeros zero i = lit< tt
+below-zeros (suc n) i = below-more 0 (replicate n 0) (lit< tt) (below-zeros n) i
+
+below-set : (l : List ℕ) (j x : ℕ) → x < 2 ^ 64 → Below l → Below (set l j x)
+below-set [] j x small all = all
+below-set (y ∷ l) zero x small all = below-more x l small (λ i. all (suc i))
+below-set (y ∷ l) (suc j) x small all = below-more y (set l j x) (all 0) (below-set l j x small (λ i. all (suc i)))
+
+typed : (at depth : ℕ) (ends : List ℕ) → at < 2 ^ 64 → depth < 2 ^ 64 → length ends ≡ 5 → Below ends
+    → TypedWalk (record { refusal = 0; at = at; depth = depth; ends = ends })
+typed at depth ends a d long all = record { unrefused = refl; five = long; small = below-more at (depth ∷ ends) a (below-more depth ends d all) }
+
+pub opens-typed : OpensTyped
+unfolding opens
+opens-typed packet names long none =
+    let l : ℕ = length packet in
+    record {
+      unrefused = none;
+      five = refl;
+      small =
+          below-more 0 (0 ∷ l ∷ replicate 4 0) (lit< tt)
+          (below-more 0 (l ∷ replicate 4 0) (lit< tt) (below-more l (replicate 4 0) long (below-zeros 4)));
+    }
+
+one-of : {v w : Walker} (b : Bool) → TypedWalk v → TypedWalk w → TypedWalk (cond b v w)
+one-of true p q = p
+one-of false p q = q
+
+module _ (s cs ends : List ℕ) (long : length s < 2 ^ 64) (sized : length ends ≡ 5) (all : Below ends) where
+  -- where a step may stand
+  abbrev Here : ℕ → ℕ → Type 0
+  Here at d = (at < 2 ^ 64) × (d ≤ deepest)
+
+  goes-typed : (d : ℕ) (i : Item) → d ≤ deepest → nextOf i ≤ length s → TypedWalk (goesOn cs d ends i)
+  unfolding goesOn
+  goes-typed d i shallow inside =
+      one-of (ltb d deepest && among (i .name) cs)
+      (typed (i .from) (d + 1) (set ends (d + 1) (nextOf i)) (omega arith) (omega arith)
+      (length-set ends (d + 1) (nextOf i) ∙ sized) (below-set ends (d + 1) (nextOf i) (omega arith) all))
+      (typed (nextOf i) d ends (omega arith) (omega arith) sized all)
+
+  next-typed : (d at : ℕ) → Here at d → TypedWalk (stepFrom s cs at d ends .next)
+  next-typed =
+      by-steps s cs ends (λ (x : Walked). TypedWalk (x .next)) Here
+      (λ at d i here e. goes-typed d i (here .1) (item-within s ends at d i e))
+      (λ at p here e. typed at 0 ends (here .0) (lit< tt) sized all)
+      (λ at d n here e. typed at d ends (here .0) (omega (arith, here .1)) sized all)
+      (λ at d here. (omega (arith, end-within s ends (suc d)), omega (arith, here .1)))
+
+pub steps-typed : StepsTyped
+steps-typed packet names w long h =
+    subst (λ (x : Walked). TypedWalk (x .next)) (sym (steps-on packet names w (h .unrefused)))
+    (next-typed packet (namesOf names) (w .ends) long (h .five) (λ i. h .small (suc (suc i))) (min (w .depth) deepest) (w .at)
+    (h .small 0, omega arith))
+
 -- ---- the numbers of a step
-
--- an item that is refused where it stands passes the end of its packet
-refused-by : (short fits : Bool) (p : Bytes) (i : Item) (n : ℕ) → cond short (step.End p) (cond fits (step.Item i) (step.Refused 30)) ≡ step.Refused n
-    → n ≡ 30
-refused-by true fits p i n e = cc
-refused-by false true p i n e = cc
-refused-by false false p i n e = cc
-
-refused-there : (s : List ℕ) (at end n : ℕ) → stepIn s at end ≡ step.Refused n → n ≡ 30
-unfolding stepIn
-refused-there s at end n e =
-    refused-by (ltb (end - at) head) (leb (head + bytesFor (numberAt 4 s (at + 4))) (end - at)) (record { 0 = end - at }) (itemAt s at) n e
 
 abbrev number : Walked → ℕ
 number x = refusalIn (steppedNumber (x .handed))
@@ -73,27 +127,11 @@ number x = refusalIn (steppedNumber (x .handed))
 abbrev Numbered : Walked → Type 0
 Numbered x = (number x ≡ 0) ⊎ (number x ≡ 30)
 
-module _ (s cs ends : List ℕ) where
-  outer : (at : ℕ) (t : Step) → stepIn s at (endOf s ends 0) ≡ t → Numbered (stepFrom s cs at 0 ends)
-  unfolding refusalIn steppedNumber
-  outer at (step.Item i) e = inl (ap number (step-item s cs at ends 0 _ i _ refl e refl))
-  outer at (step.End p) e = inl (ap number (step-end s cs at ends 0 _ p refl e refl))
-  outer at (step.Refused n) e = inr (ap number (step-refused s cs at ends 0 _ n refl e) ∙ refused-there s at _ n e)
-
-  up : (at d : ℕ) (p : Bytes) → stepIn s at (endOf s ends (suc d)) ≡ step.End p → stepFrom s cs at (suc d) ends ≡ stepFrom s cs (endOf s ends (suc d)) d ends
-  unfolding stepFrom
-  up at d p e = simp e
-
-  inner : (at d : ℕ) (t : Step) → stepIn s at (endOf s ends (suc d)) ≡ t → Numbered (stepFrom s cs (endOf s ends (suc d)) d ends)
-      → Numbered (stepFrom s cs at (suc d) ends)
-  unfolding refusalIn steppedNumber
-  inner at d (step.Item i) e behind = inl (ap number (step-item s cs at ends (suc d) _ i _ refl e refl))
-  inner at d (step.End p) e behind = subst Numbered (sym (up at d p e)) behind
-  inner at d (step.Refused n) e behind = inr (ap number (step-refused s cs at ends (suc d) _ n refl e) ∙ refused-there s at _ n e)
-
-  numbered : (d at : ℕ) → Numbered (stepFrom s cs at d ends)
-  numbered zero at = outer at (stepIn s at (endOf s ends 0)) refl
-  numbered (suc d) at = inner at d (stepIn s at (endOf s ends (suc d))) refl (numbered d (endOf s ends (suc d)))
+numbered : (s cs ends : List ℕ) (d at : ℕ) → Numbered (stepFrom s cs at d ends)
+unfolding refusalIn steppedNumber
+numbered s cs ends d at =
+    by-steps s cs ends Numbered (λ (a b : ℕ). Unit {0}) (λ a b i q e. inl refl) (λ a p q e. inl refl)
+    (λ a b n q e. inr (refused-is s a (endOf s ends b) n e)) (λ a b q. tt) d at tt
 
 pub step-numbers : StepNumbers
 unfolding walkStep walkerFrom

@@ -2,9 +2,10 @@
 use mathlib.Core.Path.{_≡_}
 use mathlib.Core.List.{List, [], _∷_}
 use mathlib.Core.Logic.{_⊎_}
-use Prim.Native.Nat.{ℕ, _^_, _<_}
+use Prim.Native.Nat.{ℕ, _^_, _<_, _≤_}
 use lib.ListN.{length, getD, replicate}
 use Rattle.base.specs.Answer.{granted}
+use Rattle.base.specs.Bounds.{most-f, most-l}
 use Rattle.base.specs.Bytes.{Bytes}
 use Rattle.cut.specs.Plan.{planFault, figuresOf}
 use Rattle.cut.specs.declared.Address.{Address}
@@ -12,7 +13,19 @@ use Rattle.cut.specs.declared.Settings.{Settings}
 use Rattle.sender.specs.Calls.{fragmentCall, fragmentsCall}
 use Rattle.packed.specs.Packed.{table-bytes, unpackCall}
 use Rattle.places.specs.Places.{freshTable}
+use Rattle.places.specs.declared.Displaced.{Displaced}
+use Rattle.receiver.specs.Promise.{numberOf, Outcome, State, Step}
+use Rattle.receiver.specs.declared.Received.the-variants.{Delivered}
+use Rattle.item.specs.declared.Item.{Item}
+use Rattle.item.specs.Item.{head}
+use Rattle.tag.specs.declared.Located.{Located}
+use Rattle.tag.specs.declared.Located.the-variants as located
+use Rattle.tag.specs.Find.{locateOf}
+use Rattle.walk.specs.declared.Handed.{Handed}
+use Rattle.walk.specs.declared.Handed.the-variants as handed
 use Rattle.walk.specs.declared.Walker.{Walker}
+use Rattle.walk.specs.Names.{deepest}
+use Rattle.walk.specs.Step.{opens, walkStep}
 use Rattle.card.specs.Told.{refusalIn, answerIn, CardWritten}
 use Rattle.card.specs.Receiving.{Held, CardReceived, clearFor}
 use Rattle.card.specs.Items.{walker-bytes, walkerBytes, walkerFrom, walkStepCall}
@@ -61,6 +74,13 @@ RefusedUnchanged =
     (own : Address) (datagram : List ℕ) (before after : Held) (r : ℕ) → Bytes (before .record-bytes)
     → CardReceived own datagram before after r → (r ≡ 0 → ⊥) → (r ≡ 13 → ⊥) → after ≡ before
 
+-- card.h, "its length (2), how many of its fragments are not held (2)": at most 8,192 and 256, neither is cut off
+abbrev pub ReceiptWhole : Type 0
+ReceiptWhole =
+    (own : Address) (s : State) (datagram out : List ℕ) (y : Outcome) → Step own s datagram out y
+    → (l m : ℕ) (d : Displaced) → y .answer ≡ numberOf (Delivered l m d)
+    → (l ≤ most-l) × (m ≤ most-f)
+
 -- ---- a walk: what it keeps between its calls
 
 -- what the code's types say of a walk: five ends, and numbers of 64 bits; and it is not refused
@@ -68,6 +88,14 @@ pub record TypedWalk (w : Walker) : Type 0 where
   pub unrefused : w .refusal ≡ 0
   pub five : length (w .ends) ≡ 5
   pub small : (i : ℕ) → getD (w .at ∷ w .depth ∷ w .ends) i 0 < 2 ^ 64
+
+-- such a walk is opened,
+abbrev pub OpensTyped : Type 0
+OpensTyped = (packet names : List ℕ) → length packet < 2 ^ 64 → opens packet names .refusal ≡ 0 → TypedWalk (opens packet names)
+
+-- and a step leaves one, so that what is said of such a walk holds between any two calls:
+abbrev pub StepsTyped : Type 0
+StepsTyped = (packet names : List ℕ) (w : Walker) → length packet < 2 ^ 64 → TypedWalk w → TypedWalk (walkStep packet names w .next)
 
 -- what a step reads is what the last call wrote
 abbrev pub ReadBack : Type 0
@@ -77,3 +105,34 @@ ReadBack = (w : Walker) → TypedWalk w → walkerFrom (walkerBytes w) ≡ w
 abbrev pub StepNumbers : Type 0
 StepNumbers = (packet names walker : List ℕ) → length walker ≡ walker-bytes
     → (refusalIn (walkStepCall packet names walker) ≡ 0) ⊎ (refusalIn (walkStepCall packet names walker) ≡ 30)
+
+-- ---- items: what is told of them
+
+-- no figure of an item is cut off where its name, its bits and its value's bytes are told in four bytes each, and its value's place in eight
+pub record ItemWhole (i : Item) : Type 0 where
+  pub name : i .name < 2 ^ 32
+  pub bits : i .bits .0 < 2 ^ 32
+  pub from : i .from < 2 ^ 64
+  pub len : i .len .0 < 2 ^ 32
+
+-- so it is of an item that was found, wherever,
+abbrev pub LocatedWhole : Located → Type 0
+LocatedWhole (located.Packet i) = ItemWhole i
+LocatedWhole (located.Standing i) = ItemWhole i
+LocatedWhole (located.Refused n) = Unit {0}
+
+-- whatever the two packets are
+abbrev pub FoundWhole : Type 0
+FoundWhole =
+    (packet standing : List ℕ) (name : ℕ) → Bytes packet → Bytes standing → length packet < 2 ^ 64 → length standing < 2 ^ 64
+    → LocatedWhole (locateOf packet standing name)
+
+-- of an item that a step hands out, with its depth; the padding is less than an item's head
+abbrev pub HandedWhole : Handed → Type 0
+HandedWhole (handed.Item v) = (v .depth ≤ deepest) × ItemWhole (v .item)
+HandedWhole (handed.End p) = p .0 < head
+HandedWhole (handed.Refused n) = Unit {0}
+
+-- whatever the walk is
+abbrev pub StepWhole : Type 0
+StepWhole = (packet names : List ℕ) (w : Walker) → Bytes packet → length packet < 2 ^ 64 → HandedWhole (walkStep packet names w .handed)
