@@ -11,7 +11,7 @@
 #include "card.h"
 
 enum {
-    PACKET = 8192,      /* bytes of the packet */
+    PACKET = BAILHAMMER_PACKET, /* bytes of the packet: as many as it may have */
     AF_HEADER = 10,     /* those before its payload */
     AF_CRC = 2,         /* and behind it */
     K = 205,            /* data bytes of a chunk */
@@ -26,8 +26,6 @@ enum {
     H = 16,             /* bytes of a fragment's header */
     SENT = F * (H + S), /* bytes of all fragments */
     SPLIT = 8,          /* bytes that say how they are split */
-    RECORD = 1081,      /* bytes of the receiver's record */
-    LENT = 49152,       /* those of its four places */
     TOLD = 8,           /* those that it tells */
     COME = F - M,       /* fragments that come where M are lost */
     ENOUGH = 13,        /* of which so many suffice: three of F are PARITY bytes of a chunk at most */
@@ -60,12 +58,12 @@ static uint8_t our_split[SPLIT];
 static size_t our_answer;
 
 static int come[COME];                  /* the indices of the fragments that come, in their order */
-static uint8_t our_record[RECORD];      /* what the receiver is lent */
-static uint8_t our_lent[LENT];
+static uint8_t our_record[BAILHAMMER_RECORD];      /* what the receiver is lent */
+static uint8_t our_lent[BAILHAMMER_LENT];
 static uint8_t our_told[TOLD];
 static uint8_t our_packet[PACKET];
-static uint8_t waiting_record[RECORD];  /* the same when the fragment that completes the packet is still to come */
-static uint8_t waiting_lent[LENT];
+static uint8_t waiting_record[BAILHAMMER_RECORD];  /* the same when the fragment that completes the packet is still to come */
+static uint8_t waiting_lent[BAILHAMMER_LENT];
 
 static void fail(const char *what)
 {
@@ -212,7 +210,7 @@ static void their_fill(void)
 /* Hands the receiver a datagram. */
 static void receive(const uint8_t *datagram, size_t length)
 {
-    our_answer = bailhammer_receive(0, 0, 0, our_record, RECORD, our_lent, LENT, datagram, length, our_told, TOLD, our_packet, PACKET);
+    our_answer = bailhammer_receive(0, 0, 0, our_record, BAILHAMMER_RECORD, our_lent, BAILHAMMER_LENT, datagram, length, our_told, TOLD, our_packet, PACKET);
 }
 
 /* The fragment that comes as number i. */

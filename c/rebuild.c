@@ -10,18 +10,14 @@ enum {
     FEC = 1, M = 2, MTU = 1400, NO_ADDRESS = 0, /* the house default */
     NUMBER = 7,
     PAYLOAD = 8000,
-    PACKET = 8192,        /* the most bytes of an AF packet */
-    SENT = 12288 + 256 * 20, /* the most that all fragments take, with their headers */
-    RECORD = 1081,
-    LENT = 49152,
 };
 
 static uint8_t payload[PAYLOAD];
-static uint8_t packet[PACKET];
-static uint8_t sent[SENT];
-static uint8_t record[RECORD]; /* zeros: a fresh one */
-static uint8_t lent[LENT];
-static uint8_t out[PACKET];
+static uint8_t packet[BAILHAMMER_PACKET];
+static uint8_t sent[BAILHAMMER_SENT];
+static uint8_t record[BAILHAMMER_RECORD]; /* zeros: a fresh one */
+static uint8_t lent[BAILHAMMER_LENT];
+static uint8_t out[BAILHAMMER_PACKET];
 
 static void check(const char *what, size_t number)
 {

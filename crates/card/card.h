@@ -9,6 +9,13 @@
 extern "C" {
 #endif
 
+/* Bytes that the calls ask for. */
+#define BAILHAMMER_PACKET 8192 /* the most bytes of an AF packet, and the least of the buffer that one is handed out in */
+#define BAILHAMMER_RECORD 1081 /* the receiver's record */
+#define BAILHAMMER_LENT 49152  /* what the receiver keeps of the fragments in its four places */
+#define BAILHAMMER_WALKER 56   /* a walk through a packet's items */
+#define BAILHAMMER_SENT 17408  /* no packet's fragments take more: 12,288 bytes and 256 headers of 20 */
+
 /*
  * The numbers that the calls give:
  *     0   done
@@ -48,6 +55,10 @@ extern "C" {
  * and the bytes that are written may not overlap the bytes that are read, nor those of another slice that is written.
  * What a call tells stands at the front of `told`, numbers big-endian; where told_len is below what it takes, nothing is told, and all
  * else is done. What is 0 or not 0 counts as no or yes.
+ *
+ * The calls keep no pointer and no state of their own: those on different buffers may run at once, and a table is for one call at a time.
+ * A slice may stand at any address. Each call takes less than 64 KiB of stack, as c/run stack measures. The library is x86-64 code by the
+ * System V convention, with a size_t of 64 bits.
  */
 
 /* The AF layer. */
