@@ -21,6 +21,7 @@ fn encode_chunk(t: &[u8; TABLE], d: &[u8], out: &mut [u8])
     base::put(out, d.len(), &p);
 }
 
+// The chunk j of the block.
 fn encode_one(t: &[u8; TABLE], k: usize, c: usize, src: &[u8], out: &mut [u8], j: usize)
     requires { ⌜ EncSized k c (now src) (now out) × (j < c) × Made (now t) table-size ⌝ }
     ensures { λ _. ⌜ OneEncoded k c j (now (src .entry)) (now (out .entry)) (now (out .exit)) ⌝ }
@@ -33,7 +34,7 @@ fn encode_one(t: &[u8; TABLE], k: usize, c: usize, src: &[u8], out: &mut [u8], j
     encode_chunk(t, &src[a..b], &mut out[f..e]);
 }
 
-// THE BLOCK'S ENCODER: c chunks of k data bytes each.
+// The block's encoder: c chunks of k data bytes each.
 pub fn encode_block(t: &[u8; TABLE], k: usize, c: usize, src: &[u8], out: &mut [u8])
     requires { ⌜ EncSized k c (now src) (now out) × Made (now t) table-size ⌝ }
     ensures { λ _. ⌜ Encoded k c (now (src .entry)) (now (out .exit)) ⌝ }

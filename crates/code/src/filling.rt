@@ -56,6 +56,7 @@ fn solve(q: &[u8; COLUMNS], sc: &[u8; MULTIPLES], e: usize, s: [u8; PARITY]) -> 
     lanes(sc, y, none)
 }
 
+// Whether all 48 are zero.
 fn is_zero(r: [u8; PARITY]) -> bool
     ensures { λ b. ⌜ ZeroTest r b ⌝ }
 {
@@ -111,7 +112,7 @@ pub fn fill_shared(
     Answer::Nothing
 }
 
-// THE DECODER: the missing bytes of a chunk of k data bytes and 48 parity bytes, with the table t and the multiples rk of the roots.
+// The decoder: the missing bytes of a chunk of k data bytes and 48 parity bytes, with the table t and the multiples rk of the roots.
 pub fn fill_alone(
     t: &[u8; TABLE],
     rk: &[u8; MULTIPLES],

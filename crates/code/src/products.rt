@@ -10,6 +10,7 @@ ghost use Rattle.codeword.specs.Code.{plus};
 ghost use Rattle.code.specs.Kernel.{Chain, Doubles, Multiples, lane};
 ghost use Rattle.code.specs.Filling.{timesAll};
 
+// x doubled in the field: where the byte runs over, by the polynomial's low eight bits.
 pub fn twice(x: u8) -> u8
     ensures { λ r. ⌜ r ≡ times2 x ⌝ }
 {
@@ -54,6 +55,7 @@ pub fn dot(a: u8, k0: u8, k1: u8, k2: u8, k3: u8, k4: u8, k5: u8, k6: u8, k7: u8
     )
 }
 
+// The product of two numbers.
 fn product(a: u8, x: u8) -> u8
     ensures { λ r. ⌜ r ≡ x ⊗ a ⌝ }
 {

@@ -73,7 +73,7 @@ fn lay(d: &[u8]) -> [u8; LAID]
     w
 }
 
-// THE ENCODER: the parity of the data bytes, with the table t.
+// The encoder: the parity of the data bytes, with the table t.
 pub fn parity_of(t: &[u8; TABLE], d: &[u8]) -> [u8; PARITY]
     requires { ⌜ (length (now d) ≤ most-k) × Made (now t) table-size ⌝ }
     ensures { λ r. ⌜ r ≡ parityOf (now (d .entry)) ⌝ }
@@ -82,6 +82,7 @@ pub fn parity_of(t: &[u8; TABLE], d: &[u8]) -> [u8; PARITY]
     register(t, &w)
 }
 
+// The parity p and that which stands in the chunk c, added: zeros where they are the same.
 fn summed(p: [u8; PARITY], c: &[u8], k: usize) -> [u8; PARITY]
     requires { ⌜ (k ≤ most-k) × (length (now c) ≡ k + parity) ⌝ }
     ensures { λ r. ⌜ r ≡ sumOf p (drop k (now (c .entry))) ⌝ }
@@ -93,6 +94,7 @@ fn summed(p: [u8; PARITY], c: &[u8], k: usize) -> [u8; PARITY]
     q
 }
 
+// What the chunk c leaves when it is divided by the generator: zeros where it is a word of the code.
 pub fn remainder_of(t: &[u8; TABLE], k: usize, c: &[u8]) -> [u8; PARITY]
     requires { ⌜ (k ≤ most-k) × (length (now c) ≡ k + parity) × Made (now t) table-size ⌝ }
     ensures { λ r. ⌜ Left k (now (c .entry)) r ⌝ }

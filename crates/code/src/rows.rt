@@ -18,6 +18,7 @@ pub const HALF: usize = 16 * PARITY;
 
 pub const TABLE: usize = 8 * POWER;
 
+// The generator's coefficients below its first, which is 1, from x^47 down.
 const GENERATOR: [u8; PARITY] = [
     122,
     12,
@@ -81,6 +82,7 @@ pub fn shifted(p: [u8; PARITY], by: usize) -> [u8; PARITY]
     q
 }
 
+// The table of the generator's coefficients, which the proof compares with the product of its 48 factors.
 fn coefficients() -> [u8; PARITY]
     ensures { λ r. ⌜ r ≡ generator ⌝ }
 {
@@ -95,6 +97,7 @@ fn next_power(b: [u8; PARITY], g: [u8; PARITY]) -> [u8; PARITY]
     added(shifted(b, 1), b[0], g)
 }
 
+// The half of a byte that row u of a power is for: sixteen low halves and then sixteen high ones.
 fn factor(u: usize) -> u8
     requires { ⌜ u < 32 ⌝ }
     ensures { λ r. ⌜ r ≡ factorOf u ⌝ }
@@ -106,6 +109,7 @@ fn factor(u: usize) -> u8
     }
 }
 
+// Writes row r of the table.
 fn put_row(t: &mut [u8; TABLE], r: usize, row: [u8; PARITY])
     requires { ⌜ (r < 256) × (length (now t) ≡ table-size) × Made (now t) (r * parity) × RowOf row r ⌝ }
     ensures { λ _. ⌜ (length (now (t .exit)) ≡ table-size) × Made (now (t .exit)) (r * parity + parity) ⌝ }
@@ -130,6 +134,7 @@ fn put_rows(t: &mut [u8; TABLE], n: usize, b: [u8; PARITY])
     }
 }
 
+// Makes the whole table: the rows of the eight powers, each from the power before.
 pub fn make_table(t: &mut [u8; TABLE])
     requires { ⌜ length (now t) ≡ table-size ⌝ }
     ensures { λ _. ⌜ Made (now (t .exit)) table-size ⌝ }

@@ -18,6 +18,7 @@ ghost use Rattle.code.specs.Kernel.{Made, Multiples, rootsList};
 ghost use Rattle.code.specs.Sharing.{Shared};
 ghost use Rattle.code.specs.Block.{part, codeOf, Open, SameTest, Filling, Sized, Later, OneLater, AllDone};
 
+// A chunk's answer as a byte; 3 stands for one that is open.
 fn number(a: Answer) -> u8
     ensures { λ r. ⌜ r ≡ codeOf a ⌝ }
 {
@@ -85,6 +86,7 @@ fn same_at(mask: &[u8], a: usize, b: usize, n: usize) -> bool
     same
 }
 
+// Sets every answer open.
 fn mark(ans: &mut [u8])
     ensures { λ _. ⌜ Open (now (ans .entry)) (now (ans .exit)) ⌝ }
 {
@@ -152,6 +154,7 @@ fn next(j: usize, hop: usize, n: usize) -> usize
     if hop < n - j { j + hop } else { n }
 }
 
+// The chunk `from` and those behind it that share with it: what they share is made once. A chunk that misses too much is left open.
 fn fill_class(
     t: &[u8; TABLE],
     rk: &[u8; MULTIPLES],
@@ -177,6 +180,7 @@ fn fill_class(
     }
 }
 
+// The first `hop` chunks, each with those that share with it.
 fn classes(
     t: &[u8; TABLE],
     rk: &[u8; MULTIPLES],
@@ -220,6 +224,7 @@ fn rest(
     }
 }
 
+// The chunk j by itself, if its answer is open still.
 fn last_turn(
     t: &[u8; TABLE],
     rk: &[u8; MULTIPLES],
@@ -237,7 +242,7 @@ fn last_turn(
     }
 }
 
-// THE BLOCK'S DECODER: a number for each chunk's answer. Chunks that lie hop apart and miss the same places share what these need.
+// The block's decoder: a number for each chunk's answer. Chunks that lie hop apart and miss the same places share what these need.
 pub fn fill_block(
     t: &[u8; TABLE],
     rk: &[u8; MULTIPLES],

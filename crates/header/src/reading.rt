@@ -21,12 +21,14 @@ ghost use Rattle.cut.specs.declared.Address.the-variants.{Pair};
 // "PF" as a number.
 const SYNC: u16 = 0x5046;
 
+// Whether the flags call for RSk and RSz.
 fn has_fec(s: &[u8]) -> bool
     ensures { λ r. ⌜ r ≡ hasFec (now (s .entry)) ⌝ }
 {
     FEC_BIT <= base::read2(s, 10)
 }
 
+// Whether they call for an address.
 fn has_address(s: &[u8]) -> bool
     ensures { λ r. ⌜ r ≡ hasAddress (now (s .entry)) ⌝ }
 {
@@ -86,6 +88,7 @@ fn fields_of(s: &[u8]) -> Header
     }
 }
 
+// 2: whether there are fewer bytes than a header has.
 fn is_short(s: &[u8]) -> bool
     ensures { λ r. ⌜ r ≡ isShort (now (s .entry)) ⌝ }
 {
@@ -95,6 +98,7 @@ fn is_short(s: &[u8]) -> bool
     s.len() < body_length(s) + 2
 }
 
+// 4: whether HCRC is not the CRC of the bytes before it.
 fn bad_crc(s: &[u8]) -> bool
     requires { ⌜ lengthOf (now s) ≤ length (now s) ⌝ }
     ensures { λ r. ⌜ r ≡ badCrc (now (s .entry)) ⌝ }
@@ -103,6 +107,7 @@ fn bad_crc(s: &[u8]) -> bool
     base::read2(s, n) != crc::word(&s[..n])
 }
 
+// 5: whether the payload is none, or not Plen bytes.
 fn bad_length(s: &[u8], h: Header) -> bool
     ensures { λ r. ⌜ r ≡ badLength (now (s .entry)) h ⌝ }
 {
@@ -112,7 +117,7 @@ fn bad_length(s: &[u8], h: Header) -> bool
     s.len() != body_length(s) + 2 + h.plen as usize
 }
 
-// Whether the configured address is not that of a fragment that carries one.
+// 6: whether the configured address is not that of a fragment that carries one.
 fn bad_address(own: Address, a: Address) -> bool
     ensures { λ r. ⌜ r ≡ badAddress own a ⌝ }
 {
@@ -122,6 +127,7 @@ fn bad_address(own: Address, a: Address) -> bool
     }
 }
 
+// Whether another pair is configured, or none.
 fn other_pair(own: Address, source: u16, dest: u16) -> bool
     ensures { λ r. ⌜ r ≡ badAddress own (Pair source dest) ⌝ }
 {
@@ -136,6 +142,7 @@ fn other_pair(own: Address, source: u16, dest: u16) -> bool
     }
 }
 
+// 7: whether Fcount is no count, or Findex is not below it.
 fn bad_index(h: Header) -> bool
     ensures { λ r. ⌜ r ≡ badIndex h ⌝ }
 {
@@ -149,7 +156,7 @@ fn bad_index(h: Header) -> bool
     h.count <= h.index
 }
 
-// Whether k and z are no chunk's, or the f s cells hold none.
+// Of 8: whether k and z are no chunk's, or the f s cells hold none.
 fn bad_chunk(f: usize, s: usize, k: usize, z: usize) -> bool
     requires { ⌜ f * s ≤ place ⌝ }
     ensures { λ r. ⌜ r ≡ (badChunk f s k || leb k z) ⌝ }
@@ -166,6 +173,7 @@ fn bad_chunk(f: usize, s: usize, k: usize, z: usize) -> bool
     k <= z
 }
 
+// 8: whether the sizes cannot be.
 fn bad_size(h: Header) -> bool
     requires { ⌜ badCount (h .count) ≡ false ⌝ }
     ensures { λ r. ⌜ r ≡ badSize h ⌝ }

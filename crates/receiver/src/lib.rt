@@ -54,6 +54,7 @@ pub struct Shown {
     pub fourth: Seen,
 }
 
+// What a query answers.
 pub enum Queried {
     Places(Shown),
     Refused(u8),
