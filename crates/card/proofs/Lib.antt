@@ -9,6 +9,7 @@ pub mod CountLaws
 pub mod StepLaws
 pub mod SendProved
 pub mod ReceiveProved
+pub mod FillProved
 pub mod WalkProved
 pub mod ItemProved
 pub mod Proved

@@ -29,6 +29,7 @@ use Rattle.walk.specs.Step.{opens, walkStep}
 use Rattle.card.specs.Told.{refusalIn, answerIn, CardWritten}
 use Rattle.card.specs.Receiving.{Held, CardReceived, clearFor}
 use Rattle.card.specs.Items.{walker-bytes, walkerBytes, walkerFrom, walkStepCall}
+use Rattle.card.specs.Blocks.{CardFilled}
 
 -- ---- the sender: what it tells
 
@@ -80,6 +81,14 @@ ReceiptWhole =
     (own : Address) (s : State) (datagram out : List ℕ) (y : Outcome) → Step own s datagram out y
     → (l m : ℕ) (d : Displaced) → y .answer ≡ numberOf (Delivered l m d)
     → (l ≤ most-l) × (m ≤ most-f)
+
+-- ---- a filling
+
+-- document 01, "What a promise has to say here": no second answer fits the promise of a filling, neither the block after it nor its number
+abbrev pub OneFilling : Type 0
+OneFilling =
+    (kept : List ℕ) (f s k : ℕ) (block after after′ : List ℕ) (r r′ : ℕ)
+    → CardFilled kept f s k block after r → CardFilled kept f s k block after′ r′ → (after ≡ after′) × (r ≡ r′)
 
 -- ---- a walk: what it keeps between its calls
 
