@@ -12,8 +12,8 @@ use Rattle.field.specs.Field.{_⊕_, _⊗_, alpha}
 use Rattle.field.proofs.Sums.{add-0-r, add-self}
 use Rattle.codeword.specs.Code.{value, Codeword, Coded, full, parityOf, encode}
 use Rattle.base.specs.Bytes.{Bytes}
-use Rattle.codeword.specs.Erasure.{marks, erase, count}
-use Rattle.codeword.proofs.Erasure.{missing, fill, locators, syndromes, bytes-locators, positive-locators, distinct-locators, length-missing, bytes-missing, fill-missing, length-erase, syndromes-right}
+use Rattle.codeword.specs.Erasure.{marks, erase, count, fill, locators, syndromes}
+use Rattle.codeword.proofs.Erasure.{missing, bytes-locators, positive-locators, distinct-locators, length-missing, bytes-missing, fill-missing, length-erase, syndromes-right}
 use Rattle.codeword.proofs.Poly.{value-zeros}
 use Rattle.codeword.proofs.Proved.{r3, systematic}
 use Rattle.codeword.proofs.Encoder.{length-parity}

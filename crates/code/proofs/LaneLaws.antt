@@ -17,7 +17,7 @@ use Rattle.code.specs.Words.{table}
 use Rattle.base.specs.Bytes.{Bytes}
 use Rattle.base.specs.Table as tables
 use Rattle.base.proofs.Tables as table-laws
-use Rattle.codeword.proofs.Erasure.{syndromes}
+use Rattle.codeword.specs.Erasure.{syndromes}
 use Rattle.codeword.proofs.Poly.{raise, raise-add, raise-0, value-cons, value-nil, value-append, value-zeros}
 use Rattle.codeword.proofs.Encoder.{length-parity, length-step, step-at, padded-at, value-run, generator-root}
 use Rattle.codeword.proofs.Vandermonde.{getD-table}

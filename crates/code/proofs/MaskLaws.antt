@@ -11,8 +11,7 @@ use lib.Dec.{eqb}
 use lib.ListN.{length, take, drop, getD, set, length-set, length-append, length-drop, drop-of-length-le}
 use lib.Seq.{drop-cons, take-suc-set, take-all, take-suc, getD-drop, drop-drop, drop-set-lt, length-take-le}
 use Rattle.field.specs.Field.{alpha}
-use Rattle.codeword.specs.Erasure.{marks, erase, count}
-use Rattle.codeword.proofs.Erasure.{locators, fill}
+use Rattle.codeword.specs.Erasure.{marks, erase, count, fill, locators}
 
 pub length-marks : (l : List ℕ) → length (marks l) ≡ length l
 unfolding marks

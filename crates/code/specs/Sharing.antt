@@ -7,8 +7,7 @@ use lib.ListN.{length, replicate}
 use Rattle.base.specs.Bounds.{most-k, parity}
 use Rattle.base.specs.Bytes.{Bytes}
 use Rattle.codeword.specs.Code.{Coded, full}
-use Rattle.codeword.specs.Erasure.{marks, erase, count}
-use Rattle.codeword.proofs.Erasure.{locators}
+use Rattle.codeword.specs.Erasure.{marks, erase, count, locators}
 use Rattle.code.specs.Words.{table-size}
 use Rattle.code.specs.Kernel.{remainder, Made, Multiples, rootsList}
 use Rattle.code.specs.Filling.{Pattern}

@@ -8,8 +8,7 @@ ghost use lib.Dec.{eqb};
 ghost use lib.ListN.{length, take, getD};
 ghost use Rattle.base.specs.Bounds.{most-k, parity};
 ghost use Rattle.codeword.specs.Code.{full};
-ghost use Rattle.codeword.specs.Erasure.{marks, erase, count};
-ghost use Rattle.codeword.proofs.Erasure.{locators, fill};
+ghost use Rattle.codeword.specs.Erasure.{marks, erase, count, fill, locators};
 ghost use Rattle.code.specs.Sharing.{locs};
 
 // The bytes of a word of the code before it is shortened.

@@ -5,7 +5,7 @@ use crate::products::multiples;
 use crate::products::twice;
 use base::PARITY;
 ghost use mathlib.Core.Path.{_≡_};
-ghost use Rattle.codeword.proofs.Erasure.{syndromes};
+ghost use Rattle.codeword.specs.Erasure.{syndromes};
 ghost use Rattle.code.specs.Kernel.{Multiples, rootsList};
 
 fn roots() -> [u8; PARITY]

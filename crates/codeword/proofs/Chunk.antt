@@ -11,8 +11,8 @@ use Rattle.base.specs.Bounds.{most-k, parity}
 use Rattle.base.specs.Bytes.{Bytes}
 use Rattle.base.proofs.ByteLaws.{bytes-append, bytes-take, bytes-drop, bytes-zeros}
 use Rattle.codeword.specs.Code.{Codeword, full}
-use Rattle.codeword.specs.Erasure.{erase, count}
-use Rattle.codeword.proofs.Erasure.{locators, length-erase, one-word}
+use Rattle.codeword.specs.Erasure.{erase, count, locators}
+use Rattle.codeword.proofs.Erasure.{length-erase, one-word}
 use Rattle.codeword.proofs.Places.{full-inj}
 
 -- ---- masks and words by their parts

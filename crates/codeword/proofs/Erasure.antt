@@ -5,15 +5,14 @@ use mathlib.Core.List.{List, [], _∷_}
 use Prim.Native.Nat.{ℕ, suc, _+_, _≤_, _<_}
 use native.Mathlib.Nat.{suc-inj, suc-ne-zero}
 use native.Mathlib.Omega.{arith}
-use lib.ListN.{length, getD, drop}
+use lib.ListN.{length, getD}
 use Rattle.base.specs.Bounds.{parity}
 use Rattle.base.specs.Bytes.{Bytes}
-use Rattle.base.specs.Table.{table}
 use Rattle.field.specs.Field.{_⊕_, _⊗_, pow, alpha}
 use Rattle.field.proofs.Sums.{add-assoc, add-0-l, add-0-r, add-left-comm, eq-of-add-zero}
 use Rattle.field.proofs.Powers.{alpha-lt, alpha-pos, alpha-inj, pow-alpha}
 use Rattle.codeword.specs.Code.{value, Codeword}
-use Rattle.codeword.specs.Erasure.{erase}
+use Rattle.codeword.specs.Erasure.{erase, fill, locators, syndromes}
 use Rattle.codeword.specs.Locators.{Apart, Distinct, Positive, sumAt}
 use Rattle.codeword.proofs.Poly.{raise, raise-0, raise-pow, value-cons}
 use Rattle.codeword.proofs.Vandermonde.{unique, getD-table}
@@ -26,23 +25,6 @@ missing [] w = []
 missing (m ∷ ms) [] = []
 missing (true ∷ ms) (c ∷ w) = c ∷ missing ms w
 missing (false ∷ ms) (c ∷ w) = missing ms w
-
--- the word with the values vs at the missing places, and 0 past their end
-unfoldable pub fill : List Bool → List ℕ → List ℕ → List ℕ
-fill [] w vs = w
-fill (m ∷ ms) [] vs = []
-fill (true ∷ ms) (c ∷ w) vs = getD vs 0 0 ∷ fill ms w (drop 1 vs)
-fill (false ∷ ms) (c ∷ w) vs = c ∷ fill ms w vs
-
--- the locators of the missing places: α^n for the coefficient of x^n
-unfoldable pub locators : List Bool → List ℕ
-locators [] = []
-locators (true ∷ ms) = alpha (length ms) ∷ locators ms
-locators (false ∷ ms) = locators ms
-
--- the values of a word at the 48 roots
-unfoldable pub syndromes : List ℕ → List ℕ
-syndromes w = table (λ j. value (alpha (suc j)) w) 0 parity
 
 -- ---- the locators
 

@@ -3,6 +3,11 @@ use mathlib.Core.Bool.{Bool, true, false, not}
 use mathlib.Core.List.{List, [], _∷_}
 use Prim.Native.Nat.{ℕ, zero, suc}
 use lib.Dec.{eqb}
+use lib.ListN.{length, getD, drop}
+use Rattle.base.specs.Bounds.{parity}
+use Rattle.base.specs.Table.{table}
+use Rattle.field.specs.Field.{alpha}
+use Rattle.codeword.specs.Code.{value}
 
 -- clause 7.4.4: the word with 0 at each missing place
 unfoldable pub erase : List Bool → List ℕ → List ℕ
@@ -26,3 +31,20 @@ maskOf there a (suc n) = not (there a) ∷ maskOf there (suc a) n
 unfoldable pub marks : List ℕ → List Bool
 marks [] = []
 marks (b ∷ mask) = not (eqb b 0) ∷ marks mask
+
+-- clause 7.4.4, what a decoder puts in: the word with the values vs at the missing places, and 0 past their end
+unfoldable pub fill : List Bool → List ℕ → List ℕ → List ℕ
+fill [] w vs = w
+fill (m ∷ mask) [] vs = []
+fill (true ∷ mask) (c ∷ w) vs = getD vs 0 0 ∷ fill mask w (drop 1 vs)
+fill (false ∷ mask) (c ∷ w) vs = c ∷ fill mask w vs
+
+-- clause 7.3.1, the powers of x that the bytes belong to: the locators of the missing places, α^n for the coefficient of x^n
+unfoldable pub locators : List Bool → List ℕ
+locators [] = []
+locators (true ∷ mask) = alpha (length mask) ∷ locators mask
+locators (false ∷ mask) = locators mask
+
+-- clause 7.3.1: the values of a word at the 48 roots of G(x)
+unfoldable pub syndromes : List ℕ → List ℕ
+syndromes w = table (λ j. value (alpha (suc j)) w) 0 parity
