@@ -41,7 +41,7 @@ Made t n = (i : ℕ) → i < n → getD t i 0 ≡ entry i
 unfoldable pub RowOf : List ℕ → ℕ → Type 0
 RowOf row r = (j : ℕ) → j < parity → getD row j 0 ≡ entry (r * parity + j)
 
--- each is twice the one before (clause 7.4.4)
+-- each is twice the one before
 pub record Chain (k0 k1 k2 k3 k4 k5 k6 k7 : ℕ) : Type 0 where
   pub c1 : k1 ≡ times2 k0
   pub c2 : k2 ≡ times2 k1
@@ -55,29 +55,29 @@ pub record Chain (k0 k1 k2 k3 k4 k5 k6 k7 : ℕ) : Type 0 where
 unfoldable pub laid : List ℕ → List ℕ
 laid d = 0 ∷ (d ++ replicate (most-k - length d) 0)
 
--- two lists added place by place (clause 7.4.4)
+-- two lists added place by place
 unfoldable pub sumOf : List ℕ → List ℕ → List ℕ
 sumOf [] bs = []
 sumOf (a ∷ l) [] = []
 sumOf (a ∷ l) (b ∷ bs) = a ⊕ b ∷ sumOf l bs
 
--- what the generator leaves of a chunk of k data bytes and 48 parity bytes (clause 7.4.4)
+-- what the generator leaves of a chunk of k data bytes and 48 parity bytes
 unfoldable pub remainder : ℕ → List ℕ → List ℕ
 remainder k c = sumOf (parityOf (take k c)) (drop k c)
 
--- eight rows of 48, each twice the one before (clause 7.4.4)
+-- eight rows of 48, each twice the one before
 unfoldable pub Doubles : List ℕ → Type 0
 Doubles k = (i : ℕ) → i < 7 * parity → getD k (i + parity) 0 ≡ times2 (getD k i 0)
 
--- eight rows of 48 whose first is xs (clause 7.4.4)
+-- eight rows of 48 whose first is xs
 pub record Multiples (xs k : List ℕ) : Type 0 where
   pub firsts : (i : ℕ) → i < parity → getD k i 0 ≡ getD xs i 0
   pub twos : Doubles k
 
--- one step of Horner's rule in each of 48 lanes (clause 7.4.4)
+-- one step of Horner's rule in each of 48 lanes
 unfoldable pub lane : List ℕ → List ℕ → List ℕ → List ℕ
 lane xs s r = table parity (λ i. getD s i 0 ⊗ getD xs i 0 ⊕ getD r i 0)
 
--- the roots of the code (clause 7.4.4)
+-- the roots of the code (clause 7.3.1)
 unfoldable pub rootsList : List ℕ
 rootsList = table parity (λ j. alpha (suc j))

@@ -12,11 +12,11 @@ use Rattle.code.specs.Words.{table-size}
 use Rattle.code.specs.Kernel.{remainder, Made, Multiples, rootsList}
 use Rattle.code.specs.Filling.{Pattern}
 
--- the locators of the missing places (clause 7.4.4)
+-- the locators of the missing places
 unfoldable pub locs : ℕ → List ℕ → List ℕ
 locs k mask = locators (full Bool.false k (marks mask))
 
--- r is what the generator leaves of c, whose members are bytes (clause 7.4.4)
+-- r is what the generator leaves of c, whose members are bytes
 pub record Left (k : ℕ) (c r : List ℕ) : Type 0 where
   pub rest : r ≡ remainder k c
   pub bytes : Bytes c
@@ -27,12 +27,12 @@ pub record Guessed (k : ℕ) (mask c after : List ℕ) : Type 0 where
   pub keeps : erase (marks mask) after ≡ erase (marks mask) c
   pub right : (w : List ℕ) → Coded k w → erase (marks mask) w ≡ c → after ≡ w
 
--- whether 48 bytes are all 0 (clause 7.4.4)
+-- whether 48 bytes are all 0
 abbrev pub ZeroTest : List ℕ → Bool → Type 0
 ZeroTest r true = r ≡ replicate parity 0
 ZeroTest r false = r ≡ replicate parity 0 → ⊥
 
--- what the chunks that miss the same places share (clause 7.4.4)
+-- what the chunks that miss the same places share
 pub record Shared (t rk q sc mask : List ℕ) (e k : ℕ) : Type 0 where
   pub short : k ≤ most-k
   pub masked : length mask ≡ k + parity

@@ -32,7 +32,7 @@ unfoldable pub marks : List ℕ → List Bool
 marks [] = []
 marks (b ∷ mask) = not (eqb b 0) ∷ marks mask
 
--- clause 7.4.4, what a decoder puts in: the word with the values vs at the missing places, and 0 past their end
+-- clause 7.4.4, for "the remaining bytes": the word with the values vs at the missing places, and 0 past their end
 unfoldable pub fill : List Bool → List ℕ → List ℕ → List ℕ
 fill [] w vs = w
 fill (m ∷ mask) [] vs = []

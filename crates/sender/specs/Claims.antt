@@ -32,7 +32,7 @@ Received =
     → packetFault g packet ≡ 0 → number < 65536 → Fitting (g .address) → i < f g (length packet) → badAddress own (g .address) ≡ false
     → (faultOf own (fragmentFor g number packet i) ≡ 0) × (fieldsOf (fragmentFor g number packet i) ≡ headerFor g number packet i)
 
--- clause 7.3.2: with FEC, the payload bytes put back by q mod f and q div f are the block
+-- clause 7.3.1, "interleaved": with FEC, the payload bytes put back by q mod f and q div f are the block
 abbrev pub Joins : Type 0
 Joins =
     (g : Settings) (packet : List ℕ) → packetFault g packet ≡ 0 → g .fec ≡ true → (q : ℕ) → q < c (length packet) * n (length packet)
