@@ -143,7 +143,7 @@ run-eight s d i =
     next : i * 8 + 8 ≡ (i + 1) * 8
     next = omega arith
 
-module _ (p d : List ℕ) (at n : ℕ) (ep : length p ≡ 48) (ed : length d ≡ 208) (ha : at ≤ 200) where
+module _ (p d : List ℕ) (at n : ℕ) (ep : length p ≡ 48) (ed : length d ≡ 208) (ha : at + 8 ≤ 208) where
   bytes8 : length (take 8 (drop at d)) ≡ 8
   bytes8 = simp (length-take, length-drop) (omega arith)
 

@@ -17,6 +17,9 @@ ghost use Rattle.code.specs.Sharing.{Left};
 // The places of the data bytes and of a zero before them: eight go in at a step.
 const LAID: usize = MOST_K + 1;
 
+// The steps that take them all in.
+const STEPS: usize = LAID / 8;
+
 fn wide(x: u8) -> usize
     ensures { λ r. ⌜ r ≡ x ⌝ }
 {
@@ -37,7 +40,7 @@ fn byte_in(q: &mut [u8; PARITY], t: &[u8; TABLE], x: u8, n: usize)
 
 // The register takes in the eight bytes of d from at on.
 fn eight(t: &[u8; TABLE], p: [u8; PARITY], d: &[u8; LAID], at: usize) -> [u8; PARITY]
-    requires { ⌜ (at ≤ 200) × (length (now d) ≡ most-k + 1) × Made (now t) table-size ⌝ }
+    requires { ⌜ (at + 8 ≤ most-k + 1) × (length (now d) ≡ most-k + 1) × Made (now t) table-size ⌝ }
     ensures { λ r. ⌜ r ≡ run p (take 8 (drop at (now (d .entry)))) ⌝ }
 {
     let mut q = shifted(p, 8);
@@ -53,7 +56,7 @@ fn register(t: &[u8; TABLE], d: &[u8; LAID]) -> [u8; PARITY]
     ensures { λ r. ⌜ r ≡ run (replicate parity 0) (now (d .entry)) ⌝ }
 {
     let mut p = [0u8; PARITY];
-    for i in 0..26 {
+    for i in 0..STEPS {
         let next = eight(t, p, d, i * 8);
         p = next;
     }

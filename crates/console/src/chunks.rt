@@ -1,6 +1,7 @@
 // Questions on chunks: the parity bytes of one, and its missing bytes.
-ghost use Prim.Native.Nat.{_≤_};
+ghost use Prim.Native.Nat.{_+_, _≤_};
 ghost use lib.ListN.{length};
+ghost use Rattle.base.specs.Bounds.{most-k, parity};
 ghost use Rattle.console.specs.Wrote.{Wrote};
 use crate::replies;
 use crate::words;
@@ -53,7 +54,7 @@ fn answer_fill(line: &[u8], out: &mut [u8]) -> usize
 
 // The answer for the bytes of a chunk of k data bytes, of which those at the positions are missing.
 fn fill_and_write(out: &mut [u8], k: usize, positions: &[u8], chunk: &mut [u8]) -> usize
-    requires { ⌜ length (now chunk) ≤ 255 ⌝ }
+    requires { ⌜ length (now chunk) ≤ most-k + parity ⌝ }
     ensures { λ r. ⌜ Wrote (now (out .entry)) 0 r (now (out .exit)) ⌝ }
 {
     let n = chunk.len();

@@ -12,7 +12,7 @@ use Rattle.base.specs.Bytes.{Bytes}
 use Rattle.base.specs.Round.{ceil}
 use Rattle.base.proofs.Firsts.{due, skip, none-due}
 use Rattle.base.proofs.Logic.{clash, and-left, and-right}
-use Rattle.af.specs.Packet.{packetOf}
+use Rattle.af.specs.Packet.{most-payload, packetOf}
 use Rattle.af.specs.Calls.{afFault}
 use Rattle.af.specs.Claims.{Back}
 use Rattle.af.proofs.Proved.{a1}
@@ -39,7 +39,7 @@ bytes-same zero x h = tt
 bytes-same (suc n) x h = (h, bytes-same n x h)
 
 -- a packet that was wrapped round n bytes x
-wrapped : (seq n x : ℕ) → seq < 65536 → x < 256 → n ≤ 8180 → Back seq true (replicate n x)
+wrapped : (seq n x : ℕ) → seq < 65536 → x < 256 → n ≤ most-payload → Back seq true (replicate n x)
 wrapped seq n x a b c = a1 seq true (replicate n x) a (bytes-same n x b) (omega (arith, length-replicate n x))
 
 -- it is taken where the settings and its count of fragments are

@@ -1,6 +1,6 @@
 -- `eight` meets its contract: a row a turn, of the last byte first. Assumes nothing.
 use mathlib.Core.Path.{_≡_}
-use Prim.Native.Nat.{_-_, _≤_, _<_}
+use Prim.Native.Nat.{_+_, _-_, _≤_, _<_}
 use borrow.Author.Needs.{needs}
 use lib.ListN.{length, take, drop}
 use Rattle.code.specs.Kernel.{Made}
@@ -10,7 +10,7 @@ use Rattle.code.proofs.register.eight.Tie as tie
 
 abbrev Inv-loop : tie.InvT-loop
 Inv-loop t d at p q₀ n₀ q n =
-    (at ≤ 200) × (length d ≡ 208) × Made t 12288 × (length p ≡ 48) × (n ≤ 8) × (q ≡ behind p (take 8 (drop at d)) n)
+    (at + 8 ≤ 208) × (length d ≡ 208) × Made t 12288 × (length p ≡ 48) × (n ≤ 8) × (q ≡ behind p (take 8 (drop at d)) n)
 
 abbrev μ-loop : tie.MeasureT-loop
 μ-loop t d at p q₀ n₀ q n =
