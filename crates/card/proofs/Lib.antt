@@ -1,7 +1,6 @@
 pub mod ToldLaws
-pub mod SplitLaws
+pub mod TellLaws
 pub mod FlagLaws
-pub mod PacketLaws
 pub mod ReceiveLaws
 pub mod QueryLaws
 pub mod ItemLaws

@@ -1,5 +1,5 @@
 -- What the query's and the clearing's calls for C tell and leave. Assumes nothing.
-use mathlib.Core.Path.{_≡_, refl, sym, ap, _∙_}
+use mathlib.Core.Path.{_≡_, refl, sym, ap, ap₂, _∙_}
 use mathlib.Core.Bool.{Bool, cond}
 use mathlib.Core.List.{List, [], _∷_, _++_, append-nil, append-assoc}
 use Prim.Native.Nat.{ℕ, zero, suc}
@@ -9,7 +9,6 @@ use lib.Dec.{eqb}
 use lib.ListN.{length, getD, length-replicate}
 use Rattle.base.specs.Answer.{Answer, granted, refused, answered, outcome}
 use Rattle.base.specs.Bounds.{most-l}
-use Rattle.base.specs.Bytes.{bytesOf}
 use Rattle.base.specs.Written.{numberOf}
 use Rattle.base.specs.declared.Written.{Written}
 use Rattle.base.specs.declared.Written.the-variants.{Done, Refused}
@@ -27,8 +26,8 @@ use Rattle.receiver.specs.declared.Seen.the-variants as seen
 use Rattle.receiver.specs.declared.Shown.{Shown}
 use Rattle.receiver.specs.declared.Queried.{Queried}
 use Rattle.receiver.specs.declared.Queried.the-variants as queried
-use Rattle.card.specs.Told.{refusalIn, inWidths, CardWritten, CardTold}
-use Rattle.card.specs.Receiving.{placeTold, placesTold, places-widths, queryFor, seenTold, seenBytes, shownTold, queriedIn, clearFor}
+use Rattle.card.specs.Told.{refusalIn, CardWritten, CardTold}
+use Rattle.card.specs.Receiving.{placeTold, placesTold, places-widths, queryFor, seenTold, shownTold, queriedIn, clearFor}
 use Rattle.card.proofs.ReceiveLaws.{refused-record, good-record, taken-record, long-record, packed-there}
 use Rattle.card.proofs.ToldLaws.{handed-on, told-refused, told-as}
 
@@ -86,38 +85,24 @@ query-told (queried.Refused n) t lent e =
     let due = refused-by n (roomFault t lent most-l) _ e in
     refuses n (roomFault t lent most-l) (placesTold t) (due .1) (due .0)
 
--- ---- its bytes
+-- ---- the values, one by one
 
-seen-next : (s : Seen) (w v : List ℕ) → inWidths (1 ∷ 2 ∷ w) (seenTold s ++ v) ≡ seenBytes s ++ inWidths w v
-unfolding inWidths seenTold bytesOf
-seen-next seen.Free w v = refl
-seen-next (seen.Open n) w v = refl
-seen-next (seen.Delivered n) w v = refl
-seen-next (seen.Spoiled n) w v = refl
+pair : (s : Seen) (rest : List ℕ) → getD (seenTold s) 0 0 ∷ getD (seenTold s) 1 0 ∷ rest ≡ seenTold s ++ rest
+unfolding seenTold
+pair seen.Free rest = refl
+pair (seen.Open n) rest = refl
+pair (seen.Delivered n) rest = refl
+pair (seen.Spoiled n) rest = refl
 
-abbrev readThree : List ℕ → List ℕ → List ℕ
-readThree l rest = getD l 0 0 ∷ getD l 1 0 ∷ getD l 2 0 ∷ rest
+next : (s : Seen) {l rest more : List ℕ} → l ≡ seenTold s → rest ≡ more → getD l 0 0 ∷ getD l 1 0 ∷ rest ≡ seenTold s ++ more
+next s {more = more} e h = ap₂ (λ (x y : List ℕ). getD x 0 0 ∷ getD x 1 0 ∷ y) e h ∙ pair s more
 
-three-read : (s : Seen) (rest : List ℕ) → readThree (seenBytes s) rest ≡ seenBytes s ++ rest
-unfolding inWidths seenTold bytesOf
-three-read seen.Free rest = refl
-three-read (seen.Open n) rest = refl
-three-read (seen.Delivered n) rest = refl
-three-read (seen.Spoiled n) rest = refl
-
-next : (s : Seen) {l rest : List ℕ} (w v : List ℕ) → l ≡ seenBytes s → rest ≡ inWidths w v → readThree l rest ≡ inWidths (1 ∷ 2 ∷ w) (seenTold s ++ v)
-next s {rest = rest} w v e h =
-    ap (λ (x : List ℕ). readThree x rest) e ∙ three-read s rest ∙ ap (λ (x : List ℕ). seenBytes s ++ x) h ∙ sym (seen-next s w v)
-
-pub twelve : (p : Shown) {a b c d : List ℕ} → a ≡ seenBytes (p .first) → b ≡ seenBytes (p .second) → c ≡ seenBytes (p .third)
-    → d ≡ seenBytes (p .fourth) → readThree a (readThree b (readThree c (readThree d []))) ≡ inWidths places-widths (shownTold p)
-unfolding shownTold inWidths
-twelve p ea eb ec ed =
-    next (p .first) (1 ∷ 2 ∷ 1 ∷ 2 ∷ 1 ∷ 2 ∷ []) (seenTold (p .second) ++ (seenTold (p .third) ++ seenTold (p .fourth))) ea
-    (next (p .second) (1 ∷ 2 ∷ 1 ∷ 2 ∷ []) (seenTold (p .third) ++ seenTold (p .fourth)) eb
-    (next (p .third) (1 ∷ 2 ∷ []) (seenTold (p .fourth)) ec
-    (next (p .fourth) [] [] ed refl ∙ ap (inWidths (1 ∷ 2 ∷ [])) (append-nil (seenTold (p .fourth))))))
-    ∙ ap (inWidths places-widths) (sym (to-right (seenTold (p .first)) (seenTold (p .second)) (seenTold (p .third)) (seenTold (p .fourth))))
+pub eight : (p : Shown) {a b c d : List ℕ} → a ≡ seenTold (p .first) → b ≡ seenTold (p .second) → c ≡ seenTold (p .third) → d ≡ seenTold (p .fourth)
+    → getD a 0 0 ∷ getD a 1 0 ∷ getD b 0 0 ∷ getD b 1 0 ∷ getD c 0 0 ∷ getD c 1 0 ∷ getD d 0 0 ∷ getD d 1 0 ∷ [] ≡ shownTold p
+unfolding shownTold
+eight p ea eb ec ed =
+    next (p .first) ea (next (p .second) eb (next (p .third) ec (next (p .fourth) ed refl ∙ append-nil (seenTold (p .fourth)))))
+    ∙ sym (to-right (seenTold (p .first)) (seenTold (p .second)) (seenTold (p .third)) (seenTold (p .fourth)))
 
 -- ---- the query's ends
 

@@ -1,8 +1,8 @@
 -- The record that crosses to C as bytes: what is none is refused, and what is packed again is all of it. Assumes nothing.
 use mathlib.Core.Path.{_≡_, refl, sym, ap, _∙_, subst}
 use mathlib.Core.Bool.{Bool, not, cond}
-use mathlib.Core.List.{List, [], _∷_, _++_, map, append-nil}
-use Prim.Native.Nat.{ℕ, zero, suc, _+_, _<_}
+use mathlib.Core.List.{List, [], _∷_, map}
+use Prim.Native.Nat.{ℕ, zero, suc, _<_}
 use native.Mathlib.Nat.{le-of-suc-le-suc}
 use native.Mathlib.Omega.{arith}
 use base.Fml.{Fml}
@@ -10,7 +10,7 @@ use borrow.Author.Tests.{eqb-true, eq-eqb, ne-eqb, le-ltb, not-false}
 use denote.Array.{each}
 use denote.Shadow.{shadow}
 use lib.Dec.{ltb, eqb}
-use lib.ListN.{length, getD, drop-of-length-le}
+use lib.ListN.{length, getD}
 use mir.Val.{Val}
 use Rattle.base.specs.Answer.{Answer, answered, outcome}
 use Rattle.base.specs.Bytes.{splice}
@@ -32,7 +32,8 @@ use Rattle.receiver.specs.Promise.{Step}
 use Rattle.receiver.specs.declared.Received.{Received}
 use Rattle.card.specs.Told.{bytesIn}
 use Rattle.card.specs.Receiving.{onRecord, toldAfter, Held, ReceivedWith, CardReceived}
-use Rattle.card.proofs.SplitLaws.{chosen}
+use Rattle.card.proofs.ToldLaws.{chosen}
+use Rattle.card.proofs.TellLaws.{whole}
 
 -- ---- the record
 
@@ -68,11 +69,6 @@ typed-place l us s i b =
     i
     freePlace
     b
-
--- bytes that are as many as all
-pub whole : (d s : List ℕ) → length s ≡ length d → splice d 0 s ≡ s
-unfolding splice
-whole d s e = ap (λ (l : List ℕ). s ++ l) (drop-of-length-le d {i = 0 + length s} (omega arith)) ∙ append-nil s
 
 -- what is unpacked has the length of a record,
 pub long-record : (s : List ℕ) → unpackFault s ≡ 0 → length s ≡ table-bytes

@@ -1,8 +1,10 @@
 -- An answer or an outcome that a call hands on to C. Assumes nothing.
-use mathlib.Core.Path.{_≡_, sym, ap, _∙_}
-use mathlib.Core.List.{List}
+use mathlib.Core.Path.{_≡_, refl, sym, ap, _∙_}
+use mathlib.Core.Bool.{Bool, true, false, cond}
+use mathlib.Core.List.{List, [], _∷_}
 use Prim.Native.Nat.{ℕ}
-use Rattle.base.specs.Answer.{Answer, granted, refused, Outcome, outcome}
+use Rattle.base.specs.Answer.{Answer, granted, refused, Outcome, outcome, settled}
+use Rattle.base.specs.Tests.{first}
 use Rattle.card.specs.Told.{refusalIn, toldIn, inWidths, toldOf, answerIn, bytesIn, CardWritten, CardTold, SentAs}
 
 -- ---- a call that writes
@@ -15,6 +17,12 @@ bytes-in : {a : Answer} {after : List ℕ} {due : Outcome} → outcome a after �
 unfolding bytesIn
 bytes-in e = ap bytesIn e
 
+-- where the bytes that it is lent are too few, it leaves them as they were
+pub chosen : (short : Bool) (written before : List ℕ) → bytesIn (settled (first ((short, 1) ∷ [])) [] written before) ≡ cond short before written
+unfolding bytesIn settled first
+chosen true written before = refl
+chosen false written before = refl
+
 -- its outcome, handed on with the answer's number
 pub handed-on : {a : Answer} {after : List ℕ} {due : Outcome} {r : ℕ} → outcome a after ≡ due → r ≡ refusalIn a → CardWritten due after r
 handed-on e n = record { number = n ∙ ap refusalIn (answer-in e); out = bytes-in e }
@@ -22,12 +30,12 @@ handed-on e n = record { number = n ∙ ap refusalIn (answer-in e); out = bytes-
 -- ---- a call that tells
 
 -- the values of an answer that refuses nothing are told,
-pub told-granted : (widths values before : List ℕ) {a : Answer} {after bytes : List ℕ} → a ≡ granted values → bytes ≡ inWidths widths values
-    → after ≡ toldIn before bytes → CardTold widths a before after 0
+pub told-granted : (widths values before : List ℕ) {a : Answer} {given after : List ℕ} → a ≡ granted values → given ≡ values
+    → after ≡ toldIn before (inWidths widths given) → CardTold widths a before after 0
 unfolding refusalIn toldOf
 told-granted widths values before is e put = record {
   number = sym (ap refusalIn is);
-  told = put ∙ ap (toldIn before) e ∙ sym (ap (λ (x : Answer). toldOf widths x before) is);
+  told = put ∙ ap (λ (l : List ℕ). toldIn before (inWidths widths l)) e ∙ sym (ap (λ (x : Answer). toldOf widths x before) is);
 }
 
 -- and of a refusal nothing is

@@ -7,7 +7,6 @@ use lib.Dec.{eqb}
 use Rattle.base.specs.Answer.{Answer, granted, refused, answered, Outcome, settled}
 use Rattle.base.specs.Answer as answers
 use Rattle.base.specs.Bounds.{most-l}
-use Rattle.base.specs.Bytes.{bytesOf}
 use Rattle.cut.specs.declared.Address.{Address}
 use Rattle.places.specs.declared.Place.{Place}
 use Rattle.places.specs.declared.Table.{Table}
@@ -57,10 +56,6 @@ seenTold (seen.Open n) = open-now ∷ n ∷ []
 seenTold (seen.Delivered n) = delivered ∷ n ∷ []
 seenTold (seen.Spoiled n) = spoiled ∷ n ∷ []
 
--- the same as bytes
-abbrev pub seenBytes : Seen → List ℕ
-seenBytes s = inWidths (1 ∷ 2 ∷ []) (seenTold s)
-
 -- that of all four
 unfoldable pub shownTold : Shown → List ℕ
 shownTold p = seenTold (p .first) ++ seenTold (p .second) ++ seenTold (p .third) ++ seenTold (p .fourth)
@@ -79,19 +74,23 @@ clearFor bytes lent = onRecord bytes (λ n. answers.outcome (refused n) bytes) (
 -- ---- receive
 
 -- the displaced number: 1 and it, or zeros
-unfoldable pub displacedBytes : Displaced → List ℕ
-displacedBytes None = bytesOf 1 0 ++ bytesOf 2 0
-displacedBytes (Number n) = bytesOf 1 1 ++ bytesOf 2 n
+unfoldable pub displacedTold : Displaced → List ℕ
+displacedTold None = 0 ∷ 0 ∷ []
+displacedTold (Number n) = 1 ∷ n ∷ []
 
--- what an answer tells: 1 where a packet was handed out, its length, the count of fragments not held, the displaced number
-unfoldable pub toldBytes : ℕ → ℕ → ℕ → Displaced → List ℕ
-toldBytes handed length missing d = bytesOf 1 handed ++ bytesOf 2 length ++ bytesOf 2 missing ++ displacedBytes d
+-- what an answer tells: 1 where a packet was handed out, its length, the count of fragments not held, the displaced number;
+unfoldable pub receiptTold : ℕ → ℕ → ℕ → Displaced → List ℕ
+receiptTold handed length missing d = handed ∷ length ∷ missing ∷ displacedTold d
+
+-- in these widths
+abbrev pub receipt-widths : List ℕ
+receipt-widths = 1 ∷ 2 ∷ 2 ∷ 1 ∷ 2 ∷ []
 
 -- what stands afterwards in the bytes lent for what is told: that of the answer, where it has place; a refused datagram tells nothing
 unfoldable pub toldAfter : Received → List ℕ → List ℕ
-toldAfter (Kept d) before = toldIn before (toldBytes 0 0 0 d)
-toldAfter (Delivered length missing d) before = toldIn before (toldBytes 1 length missing d)
-toldAfter (Damaged d) before = toldIn before (toldBytes 0 0 0 d)
+toldAfter (Kept d) before = toldIn before (inWidths receipt-widths (receiptTold 0 0 0 d))
+toldAfter (Delivered length missing d) before = toldIn before (inWidths receipt-widths (receiptTold 1 length missing d))
+toldAfter (Damaged d) before = toldIn before (inWidths receipt-widths (receiptTold 0 0 0 d))
 toldAfter (Refused n) before = before
 
 -- what C lends and gets back: the packed record, the lent bytes, the bytes told, the packet buffer

@@ -1,11 +1,5 @@
 // The items of a packet for C: finding one by its name, and a walk, which C holds as bytes.
-use crate::numbers::bytes4;
-use crate::numbers::bytes8;
-use crate::numbers::low;
-use crate::numbers::put8;
-use crate::numbers::read8;
-use crate::tell_bytes;
-use item::Bits;
+use crate::telling::tell;
 use item::Item;
 use tag::Located;
 use walk::Handed;
@@ -13,40 +7,25 @@ use walk::Walker;
 ghost use mathlib.Core.Path.{_≡_};
 ghost use mathlib.Core.List.{_∷_};
 ghost use lib.ListN.{length};
+ghost use Rattle.base.specs.Bytes.{numberAt};
 ghost use Rattle.item.specs.Item.{valuesOf};
 ghost use Rattle.tag.specs.Calls.{locatedNumber, locateCall};
-ghost use Rattle.card.specs.Told.{inWidths, CardWritten, CardTold};
+ghost use Rattle.card.specs.Told.{CardWritten, CardTold};
 ghost use Rattle.card.specs.Items.{found-widths, walker-bytes, walkerBytes, walkerFrom, walkOpenCall, step-widths, steppedNumber, CardStepped};
 
 // The bytes of a walk: seven numbers of eight.
 const WALKER: usize = 56;
 
-// What is told of an item found: the packet that it is in, its bits, where its value begins, and the value's bytes.
-fn found_bytes(which: u8, i: Item) -> [u8; 17]
-    ensures { λ r. ⌜ r ≡ inWidths found-widths (which ∷ valuesOf i) ⌝ }
+// The widths of what finding tells, and of what a step tells; specs/Items.antt says of what.
+const FOUND_WIDTHS: [usize; 5] = [1, 0, 4, 8, 4];
+
+const STEP_WIDTHS: [usize; 6] = [1, 1, 4, 4, 8, 4];
+
+// What is told of an item found: the packet that it is in, and its values.
+fn found_values(which: usize, i: Item) -> [usize; 5]
+    ensures { λ r. ⌜ r ≡ which ∷ valuesOf i ⌝ }
 {
-    let b = base::bytes4(i.bits.0);
-    let f = bytes8(i.from);
-    let n = bytes4(i.len.0);
-    [
-        which,
-        b[0],
-        b[1],
-        b[2],
-        b[3],
-        f[0],
-        f[1],
-        f[2],
-        f[3],
-        f[4],
-        f[5],
-        f[6],
-        f[7],
-        n[0],
-        n[1],
-        n[2],
-        n[3],
-    ]
+    [which, i.name as usize, i.bits.0 as usize, i.from, i.len.0]
 }
 
 // Tells where a name was found, and gives the number of the answer.
@@ -55,11 +34,11 @@ fn tell_found(l: Located, told: &mut [u8]) -> usize
 {
     match l {
         Located::Packet(i) => {
-            tell_bytes(told, &found_bytes(0, i));
+            tell(told, 17, &FOUND_WIDTHS, &found_values(0, i));
             0
         }
         Located::Standing(i) => {
-            tell_bytes(told, &found_bytes(1, i));
+            tell(told, 17, &FOUND_WIDTHS, &found_values(1, i));
             0
         }
         Located::Refused(n) => n as usize,
@@ -87,13 +66,19 @@ fn write_walker(d: &mut [u8], w: Walker)
     ensures { λ _. ⌜ now (d .exit) ≡ walkerBytes w ⌝ }
 {
     let ends = w.ends;
-    put8(d, 0, w.at);
-    put8(d, 8, w.depth);
-    put8(d, 16, ends[0]);
-    put8(d, 24, ends[1]);
-    put8(d, 32, ends[2]);
-    put8(d, 40, ends[3]);
-    put8(d, 48, ends[4]);
+    let values = [w.at, w.depth, ends[0], ends[1], ends[2], ends[3], ends[4]];
+    tell(d, WALKER, &[8; 7], &values);
+}
+
+// The number in the eight bytes from i on; a byte past the end counts as 0.
+fn read8(s: &[u8], i: usize) -> usize
+    ensures { λ r. ⌜ r ≡ numberAt 8 (now (s .entry)) i ⌝ }
+{
+    if i < s.len() {
+        base::read4(s, i) as usize * 4294967296 + base::read4(s, i + 4) as usize
+    } else {
+        0
+    }
 }
 
 // The walk that bytes are.
@@ -132,57 +117,26 @@ pub extern "C" fn bailhammer_walk_open(packet: &[u8], names: &[u8], walker: &mut
     0
 }
 
-// What is told of a step: 1 and an item with its depth; or zeros, and the padding in the place of the value's bytes.
-fn step_bytes(first: u8, depth: usize, i: Item) -> [u8; 22]
-    ensures { λ r. ⌜ r ≡ inWidths step-widths (first ∷ depth ∷ valuesOf i) ⌝ }
-{
-    let a = base::bytes4(i.name);
-    let b = base::bytes4(i.bits.0);
-    let f = bytes8(i.from);
-    let n = bytes4(i.len.0);
-    [
-        first,
-        low(depth),
-        a[0],
-        a[1],
-        a[2],
-        a[3],
-        b[0],
-        b[1],
-        b[2],
-        b[3],
-        f[0],
-        f[1],
-        f[2],
-        f[3],
-        f[4],
-        f[5],
-        f[6],
-        f[7],
-        n[0],
-        n[1],
-        n[2],
-        n[3],
-    ]
-}
-
 // Tells what a step hands out, and gives the number of the answer.
 fn tell_step(h: Handed, told: &mut [u8]) -> usize
     ensures { λ r. ⌜ CardTold step-widths (steppedNumber h) (now (told .entry)) (now (told .exit)) r ⌝ }
 {
     match h {
         Handed::Item(v) => {
-            tell_bytes(told, &step_bytes(1, v.depth, v.item));
+            let i = v.item;
+            let values = [
+                1,
+                v.depth,
+                i.name as usize,
+                i.bits.0 as usize,
+                i.from,
+                i.len.0,
+            ];
+            tell(told, 22, &STEP_WIDTHS, &values);
             0
         }
         Handed::End(p) => {
-            let padding = Item {
-                name: 0,
-                bits: Bits(0),
-                from: 0,
-                len: p,
-            };
-            tell_bytes(told, &step_bytes(0, 0, padding));
+            tell(told, 22, &STEP_WIDTHS, &[0, 0, 0, 0, 0, p.0]);
             0
         }
         Handed::Refused(n) => n as usize,

@@ -1,10 +1,10 @@
 // The card for C: card.h declares the calls, and says what each number means. Here stands what several of them share.
 mod blocks;
 mod items;
-mod numbers;
 mod packets;
 mod receiving;
 mod sending;
+mod telling;
 
 use base::Written;
 pub use blocks::bailhammer_encode;
@@ -25,7 +25,7 @@ pub use sending::bailhammer_plan;
 ghost use mathlib.Core.Path.{_≡_};
 ghost use Rattle.base.specs.Written.{numberOf};
 ghost use Rattle.card.specs.Calls.{addressOf};
-ghost use Rattle.card.specs.Told.{refusalIn, toldIn};
+ghost use Rattle.card.specs.Told.{refusalIn};
 
 // The number of a writing's answer.
 fn written_number(w: Written) -> usize
@@ -45,11 +45,4 @@ fn address_of(addressed: usize, source: u16, dest: u16) -> Address
         return Address::None;
     }
     Address::Pair { source, dest }
-}
-
-// Tells bytes at the front of what is lent for them, where they have place.
-fn tell_bytes(told: &mut [u8], bytes: &[u8])
-    ensures { λ _. ⌜ now (told .exit) ≡ toldIn (now (told .entry)) (now (bytes .entry)) ⌝ }
-{
-    base::put(told, 0, bytes);
 }

@@ -1,17 +1,15 @@
 // AF packets and TAG items for C.
-use crate::tell_bytes;
+use crate::telling::tell;
 use crate::written_number;
 use af::Checked;
-use af::Figures;
 use item::Bits;
 ghost use mathlib.Core.Path.{_≡_};
 ghost use mathlib.Core.Bool.{not};
-ghost use mathlib.Core.List.{[], _∷_};
 ghost use lib.Dec.{eqb};
 ghost use Rattle.af.specs.Calls.{wrapCall, checkCall};
 ghost use Rattle.af.specs.Packet.{bit};
 ghost use Rattle.write.specs.Write.{writeCall};
-ghost use Rattle.card.specs.Told.{inWidths, CardWritten, CardTold};
+ghost use Rattle.card.specs.Told.{CardWritten, CardTold};
 ghost use Rattle.card.specs.Packets.{check-widths};
 
 // Writes the AF packet of a payload at the front of out, with a CRC where cf is not 0, and gives 0; else the number of the refusal.
@@ -23,20 +21,11 @@ pub extern "C" fn bailhammer_wrap(seq: u16, cf: usize, payload: &[u8], out: &mut
     written_number(w)
 }
 
-// CF as a byte.
-fn cf_byte(cf: bool) -> u8
+// CF as a number.
+fn cf_number(cf: bool) -> usize
     ensures { λ r. ⌜ r ≡ bit cf ⌝ }
 {
     if cf { 1 } else { 0 }
-}
-
-// What a check tells, as bytes.
-fn figure_bytes(p: Figures) -> [u8; 8]
-    ensures { λ r. ⌜ r ≡ inWidths check-widths (p .seq ∷ bit (p .cf) ∷ p .minor ∷ p .len ∷ []) ⌝ }
-{
-    let s = base::bytes2(p.seq);
-    let l = base::bytes4(p.len);
-    [s[0], s[1], cf_byte(p.cf), p.minor, l[0], l[1], l[2], l[3]]
 }
 
 // Checks an AF packet, tells SEQ, CF, the minor revision and LEN, and gives 0; else the number of the refusal.
@@ -47,7 +36,9 @@ pub extern "C" fn bailhammer_check(packet: &[u8], told: &mut [u8]) -> usize
     let checked = af::check(packet);
     match checked {
         Checked::Packet(p) => {
-            tell_bytes(told, &figure_bytes(p));
+            let cf = cf_number(p.cf);
+            let figures = [p.seq as usize, cf, p.minor as usize, p.len as usize];
+            tell(told, 8, &[2, 1, 1, 4], &figures);
             0
         }
         Checked::Refused(n) => n as usize,

@@ -1,7 +1,6 @@
 // The receiver for C: the record crosses the boundary as bytes.
 use crate::address_of;
-use crate::numbers::low;
-use crate::tell_bytes;
+use crate::telling::tell;
 use base::Written;
 use places::DELIVERED;
 use places::Displaced;
@@ -13,48 +12,32 @@ use receiver::Received;
 use receiver::Seen;
 use receiver::Shown;
 ghost use mathlib.Core.Path.{_≡_};
-ghost use mathlib.Core.List.{[], _∷_};
 ghost use lib.ListN.{length};
-ghost use Rattle.card.specs.Told.{inWidths, CardWritten, CardTold};
+ghost use Rattle.card.specs.Told.{CardWritten, CardTold};
 ghost use Rattle.card.specs.Calls.{addressOf};
-ghost use Rattle.card.specs.Receiving.{places-widths, queryFor, seenBytes, shownTold, queriedIn, clearFor, toldBytes, toldAfter, CardReceived};
+ghost use Rattle.card.specs.Receiving.{places-widths, queryFor, seenTold, shownTold, queriedIn, clearFor, receiptTold, toldAfter, CardReceived};
 ghost use Rattle.receiver.specs.Promise.{numberOf};
 
-// What is told of an answer, as bytes.
-fn told_bytes(handed: u8, length: usize, missing: usize, d: Displaced) -> [u8; 8]
-    ensures { λ r. ⌜ r ≡ toldBytes handed length missing d ⌝ }
+// The widths of what an answer tells; specs/Receiving.antt says of what.
+const RECEIPT_WIDTHS: [usize; 5] = [1, 2, 2, 1, 2];
+
+// What is told of an answer.
+fn receipt_values(handed: usize, length: usize, missing: usize, d: Displaced) -> [usize; 5]
+    ensures { λ r. ⌜ r ≡ receiptTold handed length missing d ⌝ }
 {
     match d {
-        Displaced::None => [
-            handed,
-            low(length / 256),
-            low(length),
-            low(missing / 256),
-            low(missing),
-            0,
-            0,
-            0,
-        ],
-        Displaced::Number(n) => [
-            handed,
-            low(length / 256),
-            low(length),
-            low(missing / 256),
-            low(missing),
-            1,
-            low(n as usize / 256),
-            low(n as usize),
-        ],
+        Displaced::None => [handed, length, missing, 0, 0],
+        Displaced::Number(n) => [handed, length, missing, 1, n as usize],
     }
 }
 
 // Tells an answer, where its bytes have place, and gives its number.
-fn tell(a: Received, told: &mut [u8]) -> usize
+fn tell_receipt(a: Received, told: &mut [u8]) -> usize
     ensures { λ r. ⌜ (r ≡ numberOf a .0) × (now (told .exit) ≡ toldAfter a (now (told .entry))) ⌝ }
 {
     match a {
         Received::Kept(d) => {
-            tell_bytes(told, &told_bytes(0, 0, 0, d));
+            tell(told, 8, &RECEIPT_WIDTHS, &receipt_values(0, 0, 0, d));
             0
         }
         Received::Delivered {
@@ -62,11 +45,16 @@ fn tell(a: Received, told: &mut [u8]) -> usize
             missing,
             displaced,
         } => {
-            tell_bytes(told, &told_bytes(1, length, missing, displaced));
+            tell(
+                told,
+                8,
+                &RECEIPT_WIDTHS,
+                &receipt_values(1, length, missing, displaced),
+            );
             0
         }
         Received::Damaged(d) => {
-            tell_bytes(told, &told_bytes(0, 0, 0, d));
+            tell(told, 8, &RECEIPT_WIDTHS, &receipt_values(0, 0, 0, d));
             13
         }
         Received::Refused(n) => n as usize,
@@ -96,57 +84,36 @@ pub extern "C" fn bailhammer_receive(
             let reply = receiver::receive(own, unpacked.table, lent, datagram, out);
             packed::pack(reply.table, table);
             let answer = reply.answer;
-            tell(answer, told)
+            tell_receipt(answer, told)
         }
     }
 }
 
-// A condition and a number, as bytes.
-fn three_bytes(condition: u8, number: u16) -> [u8; 3]
-    ensures { λ r. ⌜ r ≡ inWidths (1 ∷ 2 ∷ []) (condition ∷ number ∷ []) ⌝ }
-{
-    let n = base::bytes2(number);
-    [condition, n[0], n[1]]
-}
-
-// What is told of a place, as bytes.
-fn seen_bytes(s: Seen) -> [u8; 3]
-    ensures { λ r. ⌜ r ≡ seenBytes s ⌝ }
+// What is told of a place.
+fn seen_values(s: Seen) -> [usize; 2]
+    ensures { λ r. ⌜ r ≡ seenTold s ⌝ }
 {
     match s {
-        Seen::Free => three_bytes(FREE, 0),
-        Seen::Open(n) => three_bytes(OPEN, n),
-        Seen::Delivered(n) => three_bytes(DELIVERED, n),
-        Seen::Spoiled(n) => three_bytes(SPOILED, n),
+        Seen::Free => [FREE as usize, 0],
+        Seen::Open(n) => [OPEN as usize, n as usize],
+        Seen::Delivered(n) => [DELIVERED as usize, n as usize],
+        Seen::Spoiled(n) => [SPOILED as usize, n as usize],
     }
 }
 
 // That of all four.
-fn shown_bytes(p: Shown) -> [u8; 12]
-    ensures { λ r. ⌜ r ≡ inWidths places-widths (shownTold p) ⌝ }
+fn shown_values(p: Shown) -> [usize; 8]
+    ensures { λ r. ⌜ r ≡ shownTold p ⌝ }
 {
     let first = p.first;
     let second = p.second;
     let third = p.third;
     let fourth = p.fourth;
-    let a = seen_bytes(first);
-    let b = seen_bytes(second);
-    let c = seen_bytes(third);
-    let d = seen_bytes(fourth);
-    [
-        a[0],
-        a[1],
-        a[2],
-        b[0],
-        b[1],
-        b[2],
-        c[0],
-        c[1],
-        c[2],
-        d[0],
-        d[1],
-        d[2],
-    ]
+    let a = seen_values(first);
+    let b = seen_values(second);
+    let c = seen_values(third);
+    let d = seen_values(fourth);
+    [a[0], a[1], b[0], b[1], c[0], c[1], d[0], d[1]]
 }
 
 // Tells what a query shows, where its bytes have place, and gives the number of its answer.
@@ -155,7 +122,7 @@ fn tell_places(q: Queried, told: &mut [u8]) -> usize
 {
     match q {
         Queried::Places(p) => {
-            tell_bytes(told, &shown_bytes(p));
+            tell(told, 12, &[1, 2, 1, 2, 1, 2, 1, 2], &shown_values(p));
             0
         }
         Queried::Refused(n) => n as usize,

@@ -1,18 +1,14 @@
 // The sender for C: the plan of a cut, one fragment, and all of them.
 use crate::address_of;
-use crate::numbers::low;
-use crate::tell_bytes;
-use cut::Figures;
+use crate::telling::tell;
 use cut::Planned;
 use cut::Settings;
 use sender::Sent;
 use sender::SentAll;
-use sender::Split;
 ghost use mathlib.Core.Path.{_≡_};
-ghost use mathlib.Core.List.{[], _∷_};
-ghost use Rattle.cut.specs.Plan.{planOf, numberOf, valuesOf};
+ghost use Rattle.cut.specs.Plan.{planOf, numberOf};
 ghost use Rattle.sender.specs.Calls.{sentNumber, fragmentCall, allNumber, fragmentsCall};
-ghost use Rattle.card.specs.Told.{inWidths, CardTold, SentAs};
+ghost use Rattle.card.specs.Told.{CardTold, SentAs};
 ghost use Rattle.card.specs.Sending.{settingsOf, twos};
 
 // The settings.
@@ -34,41 +30,25 @@ fn settings_of(
     }
 }
 
-// The figures of a plan as bytes.
-fn plan_bytes(plan: Figures) -> [u8; 20]
-    ensures { λ r. ⌜ r ≡ inWidths (twos 10) (valuesOf plan) ⌝ }
-{
-    [
-        low(plan.c / 256),
-        low(plan.c),
-        low(plan.k / 256),
-        low(plan.k),
-        low(plan.z / 256),
-        low(plan.z),
-        low(plan.n / 256),
-        low(plan.n),
-        low(plan.h / 256),
-        low(plan.h),
-        low(plan.room / 256),
-        low(plan.room),
-        low(plan.total / 256),
-        low(plan.total),
-        low(plan.f / 256),
-        low(plan.f),
-        low(plan.s / 256),
-        low(plan.s),
-        low(plan.assured / 256),
-        low(plan.assured),
-    ]
-}
-
 // Tells the figures of a plan, and gives the number of the answer.
 fn tell_plan(a: Planned, told: &mut [u8]) -> usize
     ensures { λ r. ⌜ CardTold (twos 10) (numberOf a) (now (told .entry)) (now (told .exit)) r ⌝ }
 {
     match a {
-        Planned::Cut(plan) => {
-            tell_bytes(told, &plan_bytes(plan));
+        Planned::Cut(p) => {
+            let figures = [
+                p.c,
+                p.k,
+                p.z,
+                p.n,
+                p.h,
+                p.room,
+                p.total,
+                p.f,
+                p.s,
+                p.assured,
+            ];
+            tell(told, 20, &[2; 10], &figures);
             0
         }
         Planned::Refused(n) => n as usize,
@@ -91,20 +71,13 @@ pub extern "C" fn bailhammer_plan(
     tell_plan(a, told)
 }
 
-// A fragment's length as bytes.
-fn length_bytes(n: usize) -> [u8; 2]
-    ensures { λ r. ⌜ r ≡ inWidths (twos 1) (n ∷ []) ⌝ }
-{
-    [low(n / 256), low(n)]
-}
-
 // Tells the length of a fragment that was written, and gives the number of the answer.
 fn tell_length(a: Sent, told: &mut [u8]) -> usize
     ensures { λ r. ⌜ CardTold (twos 1) (sentNumber a) (now (told .entry)) (now (told .exit)) r ⌝ }
 {
     match a {
         Sent::Fragment(n) => {
-            tell_bytes(told, &length_bytes(n));
+            tell(told, 2, &[2], &[n]);
             0
         }
         Sent::Refused(n) => n as usize,
@@ -133,29 +106,13 @@ pub extern "C" fn bailhammer_fragment(
     tell_length(a, told)
 }
 
-// The split as bytes.
-fn split_bytes(p: Split) -> [u8; 8]
-    ensures { λ r. ⌜ r ≡ inWidths (twos 4) (p .f ∷ p .h ∷ p .s ∷ p .last ∷ []) ⌝ }
-{
-    [
-        low(p.f / 256),
-        low(p.f),
-        low(p.h / 256),
-        low(p.h),
-        low(p.s / 256),
-        low(p.s),
-        low(p.last / 256),
-        low(p.last),
-    ]
-}
-
 // Tells how what was written is split, and gives the number of the answer.
 fn tell_split(a: SentAll, told: &mut [u8]) -> usize
     ensures { λ r. ⌜ CardTold (twos 4) (allNumber a) (now (told .entry)) (now (told .exit)) r ⌝ }
 {
     match a {
         SentAll::Fragments(p) => {
-            tell_bytes(told, &split_bytes(p));
+            tell(told, 8, &[2; 4], &[p.f, p.h, p.s, p.last]);
             0
         }
         SentAll::Refused(n) => n as usize,

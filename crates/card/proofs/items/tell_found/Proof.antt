@@ -1,6 +1,8 @@
 -- `tell_found` meets its contract, case by case: a refusal tells nothing. Assumes nothing.
-use mathlib.Core.Path.{ap}
+use mathlib.Core.Path.{refl, ap}
+use Rattle.base.specs.Bytes.{bytesOf}
 use Rattle.tag.specs.Calls.{locatedNumber}
+use Rattle.card.specs.Told.{inWidths}
 use Rattle.card.specs.Items.{found-widths}
 use Rattle.card.proofs.ToldLaws.{told-granted, told-refused}
 use borrow.Author.Needs.{needs}
@@ -10,26 +12,34 @@ use Rattle.card.proofs.items.tell_found.Tie as tie
 enum-known-l : tie.Need-enum-known-l
 enum-known-l c = search needs
 
-found-bytes-requires : tie.Need-found-bytes-requires
-found-bytes-requires c κs = search needs
+slice-aggregate-tell : tie.Need-slice-aggregate-tell
+slice-aggregate-tell c = search needs
 
-slice-aggregate-tell-bytes : tie.Need-slice-aggregate-tell-bytes
-slice-aggregate-tell-bytes c = search needs
+found-values-requires : tie.Need-found-values-requires
+found-values-requires c κs = search needs
 
-tell-bytes-requires : tie.Need-tell-bytes-requires
-tell-bytes-requires c κs = search needs
+slice-aggregate-tell-2 : tie.Need-slice-aggregate-tell-2
+slice-aggregate-tell-2 c = search needs
+
+tell-requires : tie.Need-tell-requires
+unfolding inWidths bytesOf
+tell-requires c κs = rw (c .before .found-values .ensures) (refl, refl)
 
 enum-known-l-2 : tie.Need-enum-known-l-2
 enum-known-l-2 c = search needs
 
-found-bytes-requires-2 : tie.Need-found-bytes-requires-2
-found-bytes-requires-2 c κs = search needs
+slice-aggregate-tell-3 : tie.Need-slice-aggregate-tell-3
+slice-aggregate-tell-3 c = search needs
 
-slice-aggregate-tell-bytes-2 : tie.Need-slice-aggregate-tell-bytes-2
-slice-aggregate-tell-bytes-2 c = search needs
+found-values-requires-2 : tie.Need-found-values-requires-2
+found-values-requires-2 c κs = search needs
 
-tell-bytes-requires-2 : tie.Need-tell-bytes-requires-2
-tell-bytes-requires-2 c κs = search needs
+slice-aggregate-tell-4 : tie.Need-slice-aggregate-tell-4
+slice-aggregate-tell-4 c = search needs
+
+tell-requires-2 : tie.Need-tell-requires-2
+unfolding inWidths bytesOf
+tell-requires-2 c κs = rw (c .before .found-values2 .ensures) (refl, refl)
 
 enum-known-l-3 : tie.Need-enum-known-l-3
 enum-known-l-3 c = search needs
@@ -44,9 +54,9 @@ returns : tie.Need-returns
 unfolding locatedNumber
 returns c =
     let said = c .before .before in
-    let written = said .before .before in
-    let known = written .before .before .before in
-    told-granted found-widths _ (known .before .before .before .args .told .now) (ap locatedNumber (known .l .given .1)) (written .found-bytes .ensures) (said .tell-bytes .ensures)
+    let listed = said .before .before in
+    let known = listed .before .before .before .before in
+    told-granted found-widths _ (known .before .before .before .args .told .now) (ap locatedNumber (known .l .given .1)) (listed .found-values .ensures) (said .tell .ensures)
 
 same-length-2 : tie.Need-same-length-2
 same-length-2 c = search needs
@@ -55,28 +65,28 @@ returns-2 : tie.Need-returns-2
 unfolding locatedNumber
 returns-2 c =
     let said = c .before .before in
-    let written = said .before .before in
-    let known = written .before .before .before in
-    told-granted found-widths _ (known .before .before .before .args .told .now) (ap locatedNumber (known .l2 .given .1)) (written .found-bytes2 .ensures) (said .tell-bytes2 .ensures)
+    let listed = said .before .before in
+    let known = listed .before .before .before .before in
+    told-granted found-widths _ (known .before .before .before .args .told .now) (ap locatedNumber (known .l2 .given .1)) (listed .found-values2 .ensures) (said .tell2 .ensures)
 
 returns-3 : tie.Need-returns-3
 unfolding locatedNumber
-returns-3 c =
-    let known = c .before in
-    told-refused found-widths (known .before .before .before .args .told .now) (ap locatedNumber (known .l3 .given .1))
+returns-3 c = told-refused found-widths (c .before .before .before .before .args .told .now) (ap locatedNumber (c .before .l3 .given .1))
 
 pub tell-found-spec : {M : Type 1} → statement M
 tell-found-spec =
     tie.close
     (tie.spec
     enum-known-l
-    found-bytes-requires
-    slice-aggregate-tell-bytes
-    tell-bytes-requires
+    slice-aggregate-tell
+    found-values-requires
+    slice-aggregate-tell-2
+    tell-requires
     enum-known-l-2
-    found-bytes-requires-2
-    slice-aggregate-tell-bytes-2
-    tell-bytes-requires-2
+    slice-aggregate-tell-3
+    found-values-requires-2
+    slice-aggregate-tell-4
+    tell-requires-2
     enum-known-l-3
     cast-result
     same-length

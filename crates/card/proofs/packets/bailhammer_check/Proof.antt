@@ -1,6 +1,10 @@
 -- `bailhammer_check` meets its contract: the answer of crate af's call, and what it tells. Assumes nothing.
-use mathlib.Core.Path.{sym, ap, _∙_}
+use mathlib.Core.Path.{refl, sym, ap, _∙_}
+use mathlib.Core.List.{[], _∷_}
+use Prim.Native.Nat.{ℕ}
 use Rattle.af.specs.Calls.{numberOf}
+use Rattle.base.specs.Bytes.{bytesOf}
+use Rattle.card.specs.Told.{inWidths}
 use Rattle.card.specs.Packets.{check-widths}
 use Rattle.card.proofs.ToldLaws.{told-granted, told-refused}
 use borrow.Author.Needs.{needs}
@@ -13,14 +17,27 @@ check-requires c κs = search needs
 enum-known-checked : tie.Need-enum-known-checked
 enum-known-checked c = search needs
 
-figure-bytes-requires : tie.Need-figure-bytes-requires
-figure-bytes-requires c κs = search needs
+cf-number-requires : tie.Need-cf-number-requires
+cf-number-requires c κs = search needs
 
-slice-aggregate-tell-bytes : tie.Need-slice-aggregate-tell-bytes
-slice-aggregate-tell-bytes c = search needs
+cast-t10 : tie.Need-cast-t10
+cast-t10 c = search needs
 
-tell-bytes-requires : tie.Need-tell-bytes-requires
-tell-bytes-requires c κs = search needs
+cast-t11 : tie.Need-cast-t11
+cast-t11 c = search needs
+
+cast-t12 : tie.Need-cast-t12
+cast-t12 c = search needs
+
+slice-aggregate-tell : tie.Need-slice-aggregate-tell
+slice-aggregate-tell c = search needs
+
+slice-aggregate-tell-2 : tie.Need-slice-aggregate-tell-2
+slice-aggregate-tell-2 c = search needs
+
+tell-requires : tie.Need-tell-requires
+unfolding inWidths bytesOf
+tell-requires c κs = (refl, refl)
 
 enum-known-checked-2 : tie.Need-enum-known-checked-2
 enum-known-checked-2 c = search needs
@@ -34,18 +51,17 @@ same-length c = search needs
 returns : tie.Need-returns
 unfolding numberOf
 returns c =
-    let told = c .before .before in
-    let laid = told .before .before in
-    let known = laid .before .before .before in
-    let call = known .before .before .check in
-    told-granted check-widths _ _ (sym (call .ensures) ∙ ap numberOf (known .checked .given .1)) (laid .figure-bytes .ensures) (told .tell-bytes .ensures)
+    let said = c .before .before in
+    let listed = said .before .before .before .before .before .before .before in
+    let known = listed .before .before in
+    let given = known .checked .given in
+    let p = given .0 .0 in
+    told-granted check-widths _ _ (sym (known .before .before .check .ensures) ∙ ap numberOf (given .1))
+    (ap (λ (x : ℕ). p .seq ∷ x ∷ p .minor ∷ p .len ∷ []) (listed .cf-number .ensures)) (said .tell .ensures)
 
 returns-2 : tie.Need-returns-2
 unfolding numberOf
-returns-2 c =
-    let known = c .before in
-    let call = known .before .before .check in
-    told-refused check-widths _ (sym (call .ensures) ∙ ap numberOf (known .checked2 .given .1))
+returns-2 c = told-refused check-widths _ (sym (c .before .before .before .check .ensures) ∙ ap numberOf (c .before .checked2 .given .1))
 
 pub bailhammer-check-spec : {M : Type 1} → statement M
 bailhammer-check-spec =
@@ -53,9 +69,13 @@ bailhammer-check-spec =
     (tie.spec
     check-requires
     enum-known-checked
-    figure-bytes-requires
-    slice-aggregate-tell-bytes
-    tell-bytes-requires
+    cf-number-requires
+    cast-t10
+    cast-t11
+    cast-t12
+    slice-aggregate-tell
+    slice-aggregate-tell-2
+    tell-requires
     enum-known-checked-2
     cast-result
     same-length

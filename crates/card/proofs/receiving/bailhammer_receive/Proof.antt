@@ -35,8 +35,8 @@ receive-requires c κs = search needs
 pack-requires : tie.Need-pack-requires
 pack-requires c κs = search needs
 
-tell-requires : tie.Need-tell-requires
-tell-requires c κs = search needs
+tell-receipt-requires : tie.Need-tell-receipt-requires
+tell-receipt-requires c κs = search needs
 
 same-length : tie.Need-same-length
 same-length c = search needs
@@ -79,9 +79,9 @@ returns-2 c =
       each = λ i (b : i < four). typed-place (t .places) _ (ok .0 .1 .1) i (omega arith);
       oldest = omega (arith, ok .1 .0);
     } in
-    received-there (addressOf (a .addressed) (a .source) (a .dest)) (a .datagram .now) _ _ (said .tell .result) (opened .unpack .result .answer)
+    received-there (addressOf (a .addressed) (a .source) (a .dest)) (a .datagram .now) _ _ (said .tell-receipt .result) (opened .unpack .result .answer)
     (opened .unpack .result .table) (opened .unpack .ensures) (addressed .address-of .result) (packed .pack .result) t (got .receive .result .answer)
-    (told .enum-told .given .1) (addressed .address-of .ensures) (got .receive .ensures) (packed-length t typed) (packed .pack .ensures) (said .tell .ensures)
+    (told .enum-told .given .1) (addressed .address-of .ensures) (got .receive .ensures) (packed-length t typed) (packed .pack .ensures) (said .tell-receipt .ensures)
 
 pub bailhammer-receive-spec : {M : Type 1} → statement M
 bailhammer-receive-spec =
@@ -94,7 +94,7 @@ bailhammer-receive-spec =
     address-of-requires
     receive-requires
     pack-requires
-    tell-requires
+    tell-receipt-requires
     same-length
     returns
     same-length-2

@@ -1,7 +1,10 @@
 -- `tell_places` meets its contract: a refusal tells nothing. Assumes nothing.
 use mathlib.Core.Path.{ap}
+use Rattle.base.specs.Bytes.{bytesOf}
+use Rattle.card.specs.Told.{inWidths}
 use Rattle.card.specs.Receiving.{places-widths, queriedIn}
 use Rattle.card.proofs.ToldLaws.{told-granted, told-refused}
+use Rattle.card.proofs.TellLaws.{as-wide}
 use borrow.Author.Needs.{needs}
 use Rattle.card.proofs.receiving.tell_places.Statement.{statement}
 use Rattle.card.proofs.receiving.tell_places.Tie as tie
@@ -9,14 +12,18 @@ use Rattle.card.proofs.receiving.tell_places.Tie as tie
 enum-known-q : tie.Need-enum-known-q
 enum-known-q c = search needs
 
-shown-bytes-requires : tie.Need-shown-bytes-requires
-shown-bytes-requires c κs = search needs
+slice-aggregate-tell : tie.Need-slice-aggregate-tell
+slice-aggregate-tell c = search needs
 
-slice-aggregate-tell-bytes : tie.Need-slice-aggregate-tell-bytes
-slice-aggregate-tell-bytes c = search needs
+shown-values-requires : tie.Need-shown-values-requires
+shown-values-requires c κs = search needs
 
-tell-bytes-requires : tie.Need-tell-bytes-requires
-tell-bytes-requires c κs = search needs
+slice-aggregate-tell-2 : tie.Need-slice-aggregate-tell-2
+slice-aggregate-tell-2 c = search needs
+
+tell-requires : tie.Need-tell-requires
+unfolding inWidths bytesOf
+tell-requires c κs = as-wide places-widths (c .before .shown-values .result) (search needs)
 
 enum-known-q-2 : tie.Need-enum-known-q-2
 enum-known-q-2 c = search needs
@@ -31,9 +38,9 @@ returns : tie.Need-returns
 unfolding queriedIn
 returns c =
     let said = c .before .before in
-    let made = said .before .before in
-    let known = made .before .before .before in
-    told-granted places-widths _ (known .before .before .before .args .told .now) (ap queriedIn (known .q .given .1)) (made .shown-bytes .ensures) (said .tell-bytes .ensures)
+    let listed = said .before .before in
+    let known = listed .before .before .before .before in
+    told-granted places-widths _ (known .before .before .before .args .told .now) (ap queriedIn (known .q .given .1)) (listed .shown-values .ensures) (said .tell .ensures)
 
 returns-2 : tie.Need-returns-2
 unfolding queriedIn
@@ -44,9 +51,10 @@ tell-places-spec =
     tie.close
     (tie.spec
     enum-known-q
-    shown-bytes-requires
-    slice-aggregate-tell-bytes
-    tell-bytes-requires
+    slice-aggregate-tell
+    shown-values-requires
+    slice-aggregate-tell-2
+    tell-requires
     enum-known-q-2
     cast-result
     same-length

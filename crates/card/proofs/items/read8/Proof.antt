@@ -2,8 +2,8 @@
 use Rattle.base.proofs.Numbers.{number-past}
 use Rattle.card.proofs.ItemLaws.{eight-read}
 use borrow.Author.Needs.{needs}
-use Rattle.card.proofs.numbers.read8.Statement.{statement}
-use Rattle.card.proofs.numbers.read8.Tie as tie
+use Rattle.card.proofs.items.read8.Statement.{statement}
+use Rattle.card.proofs.items.read8.Tie as tie
 
 read4-requires : tie.Need-read4-requires
 read4-requires c κs = search needs
