@@ -1,9 +1,11 @@
 -- The claims of specs/Claims.antt, each by citation. Assumes nothing.
 use Rattle.card.specs.Claims.{PlanWhole, LengthWhole, SplitWhole}
 use Rattle.card.specs.Claims.{ZerosFresh, ClearedZeros, OneReceipt, RefusedUnchanged, ReceiptWhole}
+use Rattle.card.specs.Claims.{OneFilling}
 use Rattle.card.specs.Claims.{OpensTyped, StepsTyped, ReadBack, StepNumbers, FoundWhole, StepWhole}
 use Rattle.card.proofs.SendProved as sender
 use Rattle.card.proofs.ReceiveProved as receiver
+use Rattle.card.proofs.FillProved as filler
 use Rattle.card.proofs.WalkProved as walk
 use Rattle.card.proofs.ItemProved as item
 
@@ -30,6 +32,9 @@ refused-unchanged = receiver.refused-unchanged
 
 pub receipt-whole : ReceiptWhole
 receipt-whole = receiver.receipt-whole
+
+pub one-filling : OneFilling
+one-filling = filler.one-filling
 
 pub opens-typed : OpensTyped
 opens-typed = walk.opens-typed
