@@ -21,7 +21,7 @@ place = 12288
 abbrev pub most-k : ℕ
 most-k = 207
 
--- parity bytes of a chunk (clause 7.3.1: p = 48)
+-- parity bytes of a chunk (clause 7.2.1: p = 48)
 abbrev pub parity : ℕ
 parity = 48
 

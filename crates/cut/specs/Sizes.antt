@@ -1,5 +1,5 @@
--- The sizes of a cut of an AF packet of l bytes at the settings g (clause 7.2; document 01, "PFT layer"). The letters are the standard's;
--- its s max is document 01's S, and its l + cp + z document 01's L.
+-- The sizes of a cut of an AF packet of l bytes at the settings g (clause 7.2; document 01, "PFT layer"). The letters are the standard's, but
+-- n, S and L are document 01's: S is the standard's s max, and L with FEC its l + cp + z, where the standard's own L is fs.
 use mathlib.Core.Bool.{cond}
 use Prim.Native.Nat.{ℕ, _+_, _-_, _*_, _/_, min}
 use lib.Dec.{eqb}
@@ -31,7 +31,7 @@ n l = k l + parity
 abbrev pub most-c : ℕ
 most-c = (most-l + (most-k - 1)) / most-k
 
--- the bytes of the longest block
+-- no block is longer
 abbrev pub most-L : ℕ
 most-L = most-l + (most-k - 1) + parity * most-c
 

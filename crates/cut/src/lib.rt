@@ -19,7 +19,7 @@ pub struct Settings {
     pub address: Address,
 }
 
-// The figures of a cut, by the standard's letters: `room` is S, `total` is L; c, k, z, n are 0 without FEC.
+// The figures of a cut, by the standard's letters: `room` is document 01's S, `total` its L; c, k, z, n are 0 without FEC.
 pub struct Figures {
     pub c: usize,
     pub k: usize,

@@ -1,4 +1,4 @@
--- A TAG item (clause 5.1): a name of 4 bytes, a length in bits of 4 bytes, and the value.
+-- A TAG item (clause 5.2): a name of 4 bytes, a length in bits of 4 bytes, and the value.
 use mathlib.Core.Bool.{cond}
 use mathlib.Core.List.{List, [], _∷_}
 use Prim.Native.Nat.{ℕ, _+_, _-_}
@@ -12,15 +12,15 @@ use Rattle.item.specs.declared.Item.{Item}
 use Rattle.item.specs.declared.Step.{Step}
 use Rattle.item.specs.declared.Step.the-variants as step
 
--- clause 5.1: the bytes before a value, its name and its length
+-- clause 5.2: the bytes before a value, its name and its length
 abbrev pub head : ℕ
 head = 8
 
--- clause 5.1: the bytes of a value of so many bits
+-- clause 5.2: the bytes of a value of so many bits
 unfoldable pub bytesFor : ℕ → ℕ
 bytesFor bits = ceil bits 8
 
--- clause 5.1: the item whose name begins at `at`
+-- clause 5.2: the item whose name begins at `at`
 unfoldable pub itemAt : List ℕ → ℕ → Item
 itemAt s at = record {
   name = numberAt 4 s at;

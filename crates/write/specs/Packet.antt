@@ -24,7 +24,7 @@ unfoldable pub namesOf : List Entry → List ℕ
 namesOf [] = []
 namesOf (e ∷ es) = e .name ∷ namesOf es
 
--- clause 5.1: name and length are numbers of 4 bytes; document 01: neither 43 BITS nor 33 PTR
+-- clause 5.2: name and length are numbers of 4 bytes; document 01: neither 43 BITS nor 33 PTR
 pub record Fits (e : Entry) : Type 0 where
   pub name-held : e .name < 2 ^ 32
   pub bits-held : e .bits < 2 ^ 32

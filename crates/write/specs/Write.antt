@@ -1,4 +1,4 @@
--- Writing a TAG item (clause 5.1; document 01, "TAG layer" and "Numbers given back").
+-- Writing a TAG item (clause 5.2; document 01, "TAG layer" and "Numbers given back").
 use mathlib.Core.Bool.{not}
 use mathlib.Core.List.{List, [], _∷_, _++_}
 use Prim.Native.Nat.{ℕ, _+_, _-_, _*_, _%_, _^_}
@@ -10,7 +10,7 @@ use Rattle.base.specs.Tests.{first}
 use Rattle.item.specs.Item.{head, bytesFor}
 use Rattle.item.specs.Run.{badPtr}
 
--- clause 5.1: the low bits of the last byte that a value of so many bits leaves unused
+-- clause 5.2: the low bits of the last byte that a value of so many bits leaves unused
 unfoldable pub unusedOf : ℕ → ℕ
 unusedOf bits = 8 * bytesFor bits - bits
 
@@ -22,7 +22,7 @@ trimmedBy p v = set v (length v - 1) (getD v (length v - 1) 0 - getD v (length v
 unfoldable pub trimmed : ℕ → List ℕ → List ℕ
 trimmed bits v = trimmedBy (2 ^ unusedOf bits) v
 
--- clause 5.1: the item: its name, its length in bits, its value
+-- clause 5.2: the item: its name, its length in bits, its value
 unfoldable pub itemBytes : ℕ → ℕ → List ℕ → List ℕ
 itemBytes name bits v = (bytesOf 4 name ++ bytesOf 4 bits) ++ trimmed bits v
 
