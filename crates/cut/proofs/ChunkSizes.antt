@@ -6,7 +6,7 @@ use native.Mathlib.Omega.{arith}
 use Rattle.base.specs.Bounds.{most-l, most-k, parity}
 use Rattle.base.specs.Round.{ceil}
 use Rattle.base.proofs.Ceil as ceils
-use Rattle.cut.specs.Sizes.{most-c, c, k, z, n}
+use Rattle.cut.specs.Sizes.{c, k, z, n}
 
 module _ (l : ℕ) (some : 0 < l) where
   pub c-some : 0 < c l
@@ -24,6 +24,10 @@ module _ (l : ℕ) (some : 0 < l) where
   k-up : l ≤ c l * k l
   unfolding k
   k-up = ceils.up l (c l) c-some
+
+  -- a chunk has a byte of the packet
+  pub c-few : c l ≤ l
+  c-few = omega (arith, c-near, some)
 
   pub k-some : 0 < k l
   unfolding k
@@ -50,6 +54,7 @@ module _ (l : ℕ) (some : 0 < l) where
   unfolding n
   n-least = omega (arith, k-some)
 
-pub c-most : (l : ℕ) → l ≤ most-l → c l ≤ most-c
+-- the longest packet has 40 chunks
+pub c-most : (l : ℕ) → l ≤ most-l → c l ≤ 40
 unfolding c ceil
 c-most l to = omega arith

@@ -8,14 +8,14 @@ use native.Mathlib.Omega.{arith}
 use borrow.Author.Tests.{leb-true, ltb-true, ltb-false, eqb-true, eq-eqb, ne-eqb, lt-ltb, le-ltb, le-leb, lt-leb, not-false}
 use lib.Dec.{leb, ltb, eqb, lit<}
 use lib.ListN.{getD}
-use Rattle.base.specs.Bounds.{least-l, most-l, most-f, most-m, most-mtu, parity}
+use Rattle.base.specs.Bounds.{least-l, most-l, most-f, most-m, most-mtu, most-k, parity}
 use Rattle.base.specs.Answer.{granted, refused}
 use Rattle.base.specs.Round.{ceil}
 use Rattle.base.specs.Tests.{first}
 use Rattle.base.proofs.Logic.{either, and-left, and-right}
 use Rattle.base.proofs.Firsts.{due, skip, none-due, clear, clear-rest}
 use Rattle.base.proofs.Answers.{grants, refuses}
-use Rattle.cut.specs.Sizes.{most-L, c, k, z, n, addressBytes, h, divisor, S, L, f, s, assured}
+use Rattle.cut.specs.Sizes.{c, k, z, n, addressBytes, h, divisor, S, L, f, s, assured}
 use Rattle.cut.specs.Plan.{fit, planFault, withFec, figuresOf, planOf, valuesOf, numberOf}
 use Rattle.cut.specs.declared.Settings.{Settings}
 use Rattle.cut.specs.declared.Figures.{Figures}
@@ -143,7 +143,7 @@ module _ (g : Settings) (l : ℕ) where
       omega (arith, L-fec e, mul-pos (chunk.c-some l (omega arith)) cells))
       (λ e. omega (arith, L-plain e))
 
-  pub L-most : least-l ≤ l → l ≤ most-l → L g l ≤ most-L
+  pub L-most : least-l ≤ l → l ≤ most-l → L g l ≤ most-l + most-k + parity * 40
   unfolding n
   L-most from to =
       let some : 0 < l = omega arith in

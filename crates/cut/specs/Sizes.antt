@@ -3,7 +3,7 @@
 use mathlib.Core.Bool.{cond}
 use Prim.Native.Nat.{ℕ, _+_, _-_, _*_, _/_, min}
 use lib.Dec.{eqb}
-use Rattle.base.specs.Bounds.{most-l, most-k, parity}
+use Rattle.base.specs.Bounds.{most-k, parity}
 use Rattle.base.specs.Round.{ceil}
 use Rattle.cut.specs.declared.Address.{Address}
 use Rattle.cut.specs.declared.Address.the-variants.{None, Pair}
@@ -26,14 +26,6 @@ z l = c l * k l - l
 -- document 01: "write n = k + 48"
 unfoldable pub n : ℕ → ℕ
 n l = k l + parity
-
--- what follows of the bounds: the chunks of the longest packet
-abbrev pub most-c : ℕ
-most-c = (most-l + (most-k - 1)) / most-k
-
--- no block is longer
-abbrev pub most-L : ℕ
-most-L = most-l + (most-k - 1) + parity * most-c
 
 -- ---- of the settings too
 

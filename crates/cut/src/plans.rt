@@ -14,9 +14,9 @@ ghost use mathlib.Core.Path.{_≡_};
 ghost use mathlib.Core.Bool.{true, cond, _&&_};
 ghost use Prim.Native.Nat.{_+_, _≤_, _<_};
 ghost use lib.Dec.{ltb, leb};
-ghost use Rattle.base.specs.Bounds.{least-l, most-l, most-f, most-k, most-mtu};
+ghost use Rattle.base.specs.Bounds.{least-l, most-l, most-f, most-k, place, most-mtu};
 ghost use Rattle.base.specs.Round.{ceil};
-ghost use Rattle.cut.specs.Sizes.{most-c, most-L, c, k, h, addressBytes, divisor, S, L, assured};
+ghost use Rattle.cut.specs.Sizes.{c, k, h, addressBytes, divisor, S, L, assured};
 ghost use Rattle.cut.specs.Sizes.{f as Sizes·f};
 ghost use Rattle.cut.specs.Plan.{houseOf, fit, planOf, figuresOf, valuesOf, numberOf};
 
@@ -86,7 +86,7 @@ fn fits(g: Settings) -> bool
 // c: the chunks of a packet.
 fn chunks(l: usize) -> usize
     requires { ⌜ (0 < l) × (l ≤ most-l) ⌝ }
-    ensures { λ r. ⌜ (r ≡ c l) × (0 < r) × (r ≤ most-c) ⌝ }
+    ensures { λ r. ⌜ (r ≡ c l) × (0 < r) × (r ≤ l) ⌝ }
 {
     round_up(l, MOST_K)
 }
@@ -102,7 +102,7 @@ fn per_chunk(l: usize) -> usize
 // L: the bytes that are cut.
 fn total(g: Settings, l: usize) -> usize
     requires { ⌜ (least-l ≤ l) × (l ≤ most-l) ⌝ }
-    ensures { λ r. ⌜ (r ≡ L g l) × (0 < r) × (r ≤ most-L) ⌝ }
+    ensures { λ r. ⌜ (r ≡ L g l) × (0 < r) × (r ≤ place) ⌝ }
 {
     if g.fec {
         chunks(l) * (per_chunk(l) + PARITY)
@@ -149,7 +149,7 @@ fn with_fec(g: Settings, x: usize) -> usize
 
 // The figures of a cut into f fragments of at most `most` bytes.
 fn figures(g: Settings, l: usize, most: usize, all: usize, f: usize) -> Figures
-    requires { ⌜ (least-l ≤ l) × (l ≤ most-l) × (most ≡ S g l) × (all ≡ L g l) × (all ≤ most-L) × (f ≡ Sizes·f g l) × (0 < f) × (f ≤ most-f) ⌝ }
+    requires { ⌜ (least-l ≤ l) × (l ≤ most-l) × (most ≡ S g l) × (all ≡ L g l) × (all ≤ place) × (f ≡ Sizes·f g l) × (0 < f) × (f ≤ most-f) ⌝ }
     ensures { λ r. ⌜ valuesOf r ≡ figuresOf g l ⌝ }
 {
     let c = chunks(l);

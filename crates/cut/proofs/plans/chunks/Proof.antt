@@ -14,7 +14,7 @@ unfolding size.c
 returns c = let l = c .before .args .l in (
   c .round-up .ensures,
   omega (arith, c .round-up .ensures, chunk.c-some l (omega arith)),
-  omega (arith, c .round-up .ensures, chunk.c-most l (omega arith)),
+  omega (arith, c .round-up .ensures, chunk.c-few l (omega arith)),
 )
 
 pub chunks-spec : {M : Type 1} → statement M

@@ -4,7 +4,7 @@ use Prim.Native.Nat.{ℕ, _*_, _≤_}
 use native.Mathlib.Nat.{mul-le-mul}
 use native.Mathlib.Omega.{arith}
 use borrow.Author.Needs.{needs}
-use Rattle.base.specs.Bounds.{most-k}
+use Rattle.base.specs.Bounds.{most-l, most-k}
 use Rattle.cut.proofs.plans.figures.Statement.{statement}
 use Rattle.cut.specs.Sizes as size
 use Rattle.cut.proofs.ChunkSizes as chunk
@@ -24,7 +24,7 @@ with-fec-requires-2 : tie.Need-with-fec-requires-2
 with-fec-requires-2 c κs = search needs
 
 mul-with-fec : tie.Need-mul-with-fec
-mul-with-fec c = let a : c .before .before .before .chunks .result ≤ size.most-c = omega arith in
+mul-with-fec c = let a : c .before .before .before .chunks .result ≤ most-l = omega arith in
     let b : c .before .before .per-chunk .result ≤ most-k = omega arith in
     omega (arith, mul-le-mul a b)
 

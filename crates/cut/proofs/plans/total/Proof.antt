@@ -4,7 +4,7 @@ use Prim.Native.Nat.{ℕ, _+_, _*_, _≤_}
 use native.Mathlib.Omega.{arith}
 use native.Mathlib.Nat.{mul-le-mul}
 use borrow.Author.Needs.{needs}
-use Rattle.base.specs.Bounds.{most-k, parity}
+use Rattle.base.specs.Bounds.{most-l, most-k, parity}
 use Rattle.cut.proofs.plans.total.Statement.{statement}
 use Rattle.cut.specs.Sizes as size
 use Rattle.cut.proofs.PlanCases as cases
@@ -20,7 +20,7 @@ add-result : tie.Need-add-result
 add-result c = search needs
 
 mul-result : tie.Need-mul-result
-mul-result c = let a : c .before .chunks .result ≤ size.most-c = omega arith in
+mul-result c = let a : c .before .chunks .result ≤ most-l = omega arith in
     let b : c .per-chunk .result + parity ≤ most-k + parity = omega arith in
     omega (arith, mul-le-mul a b)
 
