@@ -34,9 +34,13 @@ unfoldable pub addressBytes : Address → ℕ
 addressBytes None = 0
 addressBytes (Pair source dest) = 4
 
--- document 01: the bytes of a header, HCRC's two among them: 14, two more with FEC, four more with an address
+-- document 01: the bytes of the least header, HCRC's two among them
+abbrev pub least-h : ℕ
+least-h = 14
+
+-- document 01: the bytes of a header: the least, two more with FEC, four more with an address
 unfoldable pub h : Settings → ℕ
-h g = 14 + cond (g .fec) 2 0 + addressBytes (g .address)
+h g = least-h + cond (g .fec) 2 0 + addressBytes (g .address)
 
 -- clause 7.2.2: by what 48 c is divided, m + 1
 unfoldable pub divisor : Settings → ℕ

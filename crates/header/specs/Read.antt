@@ -10,7 +10,7 @@ use Rattle.base.specs.Tests.{first}
 use Rattle.crc.specs.Crc.{wordOf}
 use Rattle.cut.specs.declared.Address.{Address}
 use Rattle.cut.specs.declared.Address.the-variants.{None, Pair}
-use Rattle.cut.specs.Sizes.{addressBytes}
+use Rattle.cut.specs.Sizes.{least-h, addressBytes}
 use Rattle.weave.specs.Calls.{badCount, tooMuch, badChunk}
 use Rattle.header.specs.declared.Header.{Header}
 use Rattle.header.specs.declared.Parsed.{Parsed}
@@ -60,7 +60,7 @@ lengthOf s = bodyLength s + 2
 
 -- 2 SHORT: under 14 bytes or under the header its flags call for
 unfoldable pub isShort : List ℕ → Bool
-isShort s = ltb (length s) 14 || ltb (length s) (lengthOf s)
+isShort s = ltb (length s) least-h || ltb (length s) (lengthOf s)
 
 -- 3 SYNC: not "PF"
 unfoldable pub notSync : List ℕ → Bool
