@@ -19,6 +19,7 @@ use Rattle.weave.specs.Calls.{badCount, tooMuch, badChunk}
 use Rattle.weave.proofs.CallCases.{f-most, fits-place, chunk-some}
 use Rattle.header.specs.declared.Header.{Header}
 use Rattle.header.specs.Read.{addressOf, fieldsOf, bodyLength, lengthOf, isShort, notSync, badCrc, badLength, badAddress, badIndex, badSize, faultOf}
+use Rattle.header.specs.Header.{sync}
 use Rattle.header.proofs.Fields.{no-chunk}
 
 -- ---- the tests from each number on
@@ -61,15 +62,15 @@ module _ (s : List ℕ) where
   fit-short long whole = rw (le-ltb (length s) 14 long, le-ltb (length s) (lengthOf s) whole)
 
   module _ (x : ℕ) (is-x : x ≡ numberAt 2 s 0) where
-    pub fit-sync : x ≡ 20550 → notSync s ≡ false
+    pub fit-sync : x ≡ sync → notSync s ≡ false
     unfolding notSync
     fit-sync e = same (sym is-x ∙ e)
 
-    pub other-sync : (x ≡ 20550 → ⊥) → notSync s ≡ true
+    pub other-sync : (x ≡ sync → ⊥) → notSync s ≡ true
     unfolding notSync
-    other-sync ne = other (λ (e : numberAt 2 s 0 ≡ 20550). ne (is-x ∙ e))
+    other-sync ne = other (λ (e : numberAt 2 s 0 ≡ sync). ne (is-x ∙ e))
 
-  sync-from : notSync s ≡ false → numberAt 2 s 0 ≡ 20550
+  sync-from : notSync s ≡ false → numberAt 2 s 0 ≡ sync
   unfolding notSync
   sync-from e = same-from e
 
@@ -153,7 +154,7 @@ told-by test is-h is-b e = ap test (sym is-h) ∙ sym is-b ∙ e
 pub record Passing (own : Address) (s : List ℕ) : Type 0 where
   pub long : 14 ≤ length s
   pub whole : lengthOf s ≤ length s
-  pub synced : numberAt 2 s 0 ≡ 20550
+  pub synced : numberAt 2 s 0 ≡ sync
   pub summed : numberAt 2 s (bodyLength s) ≡ wordOf (take (bodyLength s) s)
   pub some : 0 < fieldsOf s .plen
   pub sized : length s ≡ lengthOf s + fieldsOf s .plen

@@ -16,7 +16,7 @@ use Rattle.cut.specs.Sizes.{addressBytes}
 use Rattle.cut.specs.declared.Address.{Address}
 use Rattle.cut.specs.declared.Address.the-variants.{None, Pair}
 use Rattle.header.specs.declared.Header.{Header}
-use Rattle.header.specs.Header.{fecBit, addrBit, addrFlag, flagsOf, fecPart, addressPart, frontOf, bodyOf, headerBytes}
+use Rattle.header.specs.Header.{sync, fecBit, addrBit, addrFlag, flagsOf, fecPart, addressPart, frontOf, bodyOf, headerBytes}
 use Rattle.header.specs.Read.{flagsAt, hasFec, hasAddress, addressAt, addressOf, fieldsOf, bodyLength, lengthOf, badAddress}
 use Rattle.header.specs.Claims.{Fitting, Written, Sound}
 use Rattle.header.proofs.Checks.{Passing, fit-index, fit-size}
@@ -95,7 +95,7 @@ module _ (h : Header) (w : Written h) (rest : List ℕ) where
   abbrev crc : List ℕ
   crc = bytesOf 2 (wordOf (bodyOf h))
 
-  sync-back : numberAt 2 s 0 ≡ 20550
+  sync-back : numberAt 2 s 0 ≡ sync
   unfolding headerBytes bodyOf frontOf numberAt bytesOf
   sync-back = refl
 

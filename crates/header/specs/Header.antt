@@ -12,9 +12,9 @@ use Rattle.cut.specs.declared.Address.{Address}
 use Rattle.cut.specs.declared.Address.the-variants.{None, Pair}
 use Rattle.header.specs.declared.Header.{Header}
 
--- clause 7.1: "PF"
-abbrev pub sync : List ℕ
-sync = 80 ∷ 70 ∷ []
+-- clause 7.1: "PF" in ASCII, 5046 hex
+abbrev pub sync : ℕ
+sync = 0x5046
 
 -- clause 7.1: the FEC bit, the Addr bit and the 14 bits of Plen stand in two bytes
 abbrev pub fecBit : ℕ
@@ -44,7 +44,7 @@ addressPart (Pair source dest) = bytesOf 2 source ++ bytesOf 2 dest
 
 -- clause 7.1: "PF", Pseq, Findex, Fcount, the flags with Plen
 unfoldable pub frontOf : Header → List ℕ
-frontOf h = sync ++ (bytesOf 2 (h .number) ++ (bytesOf 3 (h .index) ++ (bytesOf 3 (h .count) ++ bytesOf 2 (flagsOf h))))
+frontOf h = bytesOf 2 sync ++ (bytesOf 2 (h .number) ++ (bytesOf 3 (h .index) ++ (bytesOf 3 (h .count) ++ bytesOf 2 (flagsOf h))))
 
 -- clause 7.1: all header bytes before HCRC
 unfoldable pub bodyOf : Header → List ℕ

@@ -15,7 +15,7 @@ use Rattle.weave.specs.Calls.{badCount, tooMuch, badChunk}
 use Rattle.header.specs.declared.Header.{Header}
 use Rattle.header.specs.declared.Parsed.{Parsed}
 use Rattle.header.specs.declared.Parsed.the-variants as parsed
-use Rattle.header.specs.Header.{fecBit, addrBit}
+use Rattle.header.specs.Header.{sync, fecBit, addrBit}
 
 -- clause 7.1: the two bytes of the flags and Plen
 unfoldable pub flagsAt : List ℕ → ℕ
@@ -64,7 +64,7 @@ isShort s = ltb (length s) least-h || ltb (length s) (lengthOf s)
 
 -- 3 SYNC: not "PF"
 unfoldable pub notSync : List ℕ → Bool
-notSync s = not (eqb (numberAt 2 s 0) 0x5046)
+notSync s = not (eqb (numberAt 2 s 0) sync)
 
 -- 4 HCRC: header CRC wrong
 unfoldable pub badCrc : List ℕ → Bool

@@ -2,7 +2,6 @@
 use mathlib.Core.Path.{refl, ap}
 use mathlib.Core.List.{List, [], _∷_, _++_}
 use Prim.Native.Nat.{ℕ, zero, suc, _+_, _*_, _<_}
-use lib.Dec.{lit<}
 use lib.ListN.{length, getD, take, drop}
 use Rattle.base.specs.Bytes.{Bytes, bytesOf}
 use Rattle.base.specs.Table.{table}
@@ -55,7 +54,7 @@ module _ (h : Header) (w : Written h) where
       let flags : List ℕ = bytesOf 2 (flagsOf h) in
       let counts : List ℕ = bytesOf 3 (h .count) ++ flags in
       let indices : List ℕ = bytesOf 3 (h .index) ++ counts in
-      bytes-append sync (bytesOf 2 (h .number) ++ indices) (lit< tt, (lit< tt, tt))
+      bytes-then 2 sync (bytesOf 2 (h .number) ++ indices)
       (bytes-then 2 (h .number) indices (bytes-then 3 (h .index) counts (bytes-then 3 (h .count) flags (bytes-bytes 2 (flagsOf h)))))
 
   bytes-body : Bytes (bodyOf h)
