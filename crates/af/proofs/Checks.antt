@@ -10,11 +10,11 @@ use lib.Dec.{ltb, eqb}
 use lib.ListN.{length}
 use Rattle.base.specs.Answer.{granted, refused}
 use Rattle.base.specs.Bounds.{least-l, most-l}
-use Rattle.base.specs.Tests.{first}
+use Rattle.base.specs.Tests.{first, bit}
 use Rattle.base.proofs.Answers.{grants, refuses}
 use Rattle.base.proofs.Firsts.{skip, none-due, clear, clear-rest}
-use Rattle.base.proofs.Logic.{or-left, or-right, same, same-from}
-use Rattle.af.specs.Packet.{sync, major, packetType, syncOf, lenOf, seqOf, arOf, majorOf, minorOf, ptOf, cfOf, coveredOf, crcOf, crcFor, bit}
+use Rattle.base.proofs.Logic.{or-left, or-right, same, same-from, bit-one}
+use Rattle.af.specs.Packet.{sync, major, packetType, syncOf, lenOf, seqOf, arOf, majorOf, minorOf, ptOf, cfOf, coveredOf, crcOf, crcFor}
 use Rattle.af.specs.Calls.{badLength, badCrc, afFault, checkCall, numberOf}
 use Rattle.af.specs.declared.Figures.{Figures}
 use Rattle.af.specs.declared.Checked.{Checked}
@@ -132,12 +132,6 @@ module _ (s : List ℕ) where
       ap granted values ∙ grants (afFault s) _ e
 
 -- no second answer fits
-bit-one : (a b : Bool) → bit a ≡ bit b → a ≡ b
-bit-one true true e = refl
-bit-one true false e = absurd (omega arith)
-bit-one false true e = absurd (omega arith)
-bit-one false false e = refl
-
 made : ℕ → Bool → ℕ → ℕ → Figures
 made seq cf minor len = record { seq = seq; cf = cf; minor = minor; len = len }
 

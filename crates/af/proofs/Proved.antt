@@ -8,8 +8,9 @@ use lib.ListN.{length, drop}
 use Rattle.base.specs.Answer.{granted, outcome}
 use Rattle.base.specs.Bounds.{least-l}
 use Rattle.base.specs.Bytes.{splice}
+use Rattle.base.specs.Tests.{bit}
 use Rattle.base.proofs.Answers.{grants}
-use Rattle.af.specs.Packet.{minor, most-payload, bit, packetOf}
+use Rattle.af.specs.Packet.{minor, most-payload, packetOf}
 use Rattle.af.specs.Calls.{checkCall, wrapCall}
 use Rattle.af.specs.Claims.{A1, A2, A3}
 use Rattle.af.proofs.Checks.{passes, passing}

@@ -5,10 +5,10 @@ use Prim.Native.Nat.{ℕ, _+_}
 use lib.Dec.{ltb, eqb}
 use lib.ListN.{length}
 use Rattle.base.specs.Bounds.{least-l, most-l}
-use Rattle.base.specs.Tests.{first}
+use Rattle.base.specs.Tests.{first, bit}
 use Rattle.base.specs.Answer.{Answer, granted, refused, answered, Outcome, settled}
 use Rattle.base.specs.Bytes.{splice}
-use Rattle.af.specs.Packet.{sync, major, packetType, most-payload, syncOf, lenOf, seqOf, ptOf, cfOf, majorOf, minorOf, coveredOf, crcOf, crcFor, bit, packetOf}
+use Rattle.af.specs.Packet.{sync, major, packetType, most-payload, syncOf, lenOf, seqOf, ptOf, cfOf, majorOf, minorOf, coveredOf, crcOf, crcFor, packetOf}
 use Rattle.af.specs.declared.Checked.{Checked}
 use Rattle.af.specs.declared.Checked.the-variants.{Packet, Refused}
 

@@ -7,7 +7,8 @@ use lib.ListN.{length, drop}
 use Rattle.base.specs.Answer.{granted, outcome}
 use Rattle.base.specs.Bounds.{least-l, most-l}
 use Rattle.base.specs.Bytes.{Bytes}
-use Rattle.af.specs.Packet.{minor, most-payload, seqOf, cfOf, minorOf, payloadOf, bit, packetOf}
+use Rattle.base.specs.Tests.{bit}
+use Rattle.af.specs.Packet.{minor, most-payload, seqOf, cfOf, minorOf, payloadOf, packetOf}
 use Rattle.af.specs.Calls.{afFault, checkCall, wrapCall}
 
 -- A1: what is wrapped passes the AF checks, and SEQ, CF and the payload are read back

@@ -6,6 +6,7 @@ use lib.Dec.{eqb}
 use lib.ListN.{length, take, drop}
 use Rattle.base.specs.Bounds.{least-l, most-l}
 use Rattle.base.specs.Bytes.{numberAt, bytesOf}
+use Rattle.base.specs.Tests.{bit}
 use Rattle.crc.specs.Crc.{wordOf}
 
 -- clause 6.1: "AF" in ASCII, 4146 hex
@@ -83,10 +84,6 @@ abbrev pub crcOf : List ℕ → ℕ
 crcOf s = numberAt crcBytes s (length s - crcBytes)
 
 -- ---- how a packet is written
-
--- clause 6.1, AR: one bit, as a number
-abbrev pub bit : Bool → ℕ
-bit b = cond b 1 0
 
 -- clause 6.1: AR of the revision that is written
 unfoldable pub arWith : Bool → ℕ

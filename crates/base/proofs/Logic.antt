@@ -1,10 +1,11 @@
--- Cases on a truth value, what tests joined by `&&` and `||` tell, and the test that two numbers differ. Assumes nothing.
+-- Cases on a truth value, a flag by its number, what tests joined by `&&` and `||` tell, and the test that two numbers differ. Assumes nothing.
 use mathlib.Core.Path.{_≡_, refl, sym, _∙_}
 use mathlib.Core.Bool.{Bool, true, false, not, _&&_, _||_}
 use Prim.Native.Nat.{ℕ}
 use native.Mathlib.Omega.{arith}
 use borrow.Author.Tests.{eqb-true, not-false, eq-eqb, ne-eqb}
 use lib.Dec.{eqb}
+use Rattle.base.specs.Tests.{bit}
 
 -- a decision on a truth value
 pub either {ℓ} : {P : Type ℓ} (b : Bool) → (b ≡ true → P) → (b ≡ false → P) → P
@@ -18,6 +19,13 @@ clash p q = let z : _≡_ {A = ℕ} 0 1 = cc (p, q) in absurd (omega arith)
 -- a flag that is a test's value, and what a branch says of the flag
 pub told : {b x y : Bool} → b ≡ x → b ≡ y → x ≡ y
 told p q = sym p ∙ q
+
+-- no two flags have one number
+pub bit-one : (a b : Bool) → bit a ≡ bit b → a ≡ b
+bit-one true true e = refl
+bit-one true false e = absurd (omega arith)
+bit-one false true e = absurd (omega arith)
+bit-one false false e = refl
 
 pub and-left : (a b : Bool) → (a && b) ≡ true → a ≡ true
 and-left true b e = refl

@@ -9,9 +9,10 @@ use lib.Dec.{ltb, lit<}
 use lib.ListN.{length, getD, set, replicate, length-set}
 use Rattle.base.specs.Answer.{Answer}
 use Rattle.base.specs.Bytes.{bytesOf}
+use Rattle.base.specs.Tests.{among}
 use Rattle.base.proofs.Numbers.{back-at}
 use Rattle.item.specs.declared.Item.{Item}
-use Rattle.item.specs.Run.{nextOf, among}
+use Rattle.item.specs.Run.{nextOf}
 use Rattle.item.proofs.Steps.{refused-is}
 use Rattle.walk.specs.declared.Walked.{Walked}
 use Rattle.walk.specs.declared.Walker.{Walker}

@@ -13,15 +13,15 @@ use lib.Seq.{ext-getD, length-take-le, take-append-le, drop-append-le, drop-at}
 use Rattle.base.specs.Bounds.{parity}
 use Rattle.base.specs.Table.{table}
 use Rattle.base.specs.Bytes.{splice}
-use Rattle.base.specs.Tests.{first}
+use Rattle.base.specs.Tests.{first, bit}
 use Rattle.base.specs.Answer.{granted, refused}
 use Rattle.base.proofs.Answers.{grants, refuses}
 use Rattle.base.proofs.Firsts.{due, skip, none-due, clear, clear-rest}
-use Rattle.base.proofs.Logic.{clash}
+use Rattle.base.proofs.Logic.{clash, bit-one}
 use Rattle.base.proofs.Splice.{splice-next}
 use Rattle.base.proofs.Tables.{length-table, at-table, table-add}
 use Rattle.cut.specs.Block.{chunkOf}
-use Rattle.cut.specs.Missing.{bit, gone, missing, suffice}
+use Rattle.cut.specs.Missing.{gone, missing, suffice}
 use Rattle.cut.specs.Sizes.{receivedC}
 use Rattle.cut.proofs.Sufficing.{suffice-no}
 use Rattle.weave.specs.Calls.{badCount, tooMuch, badChunk, notKept, enoughFault, enoughOf}
@@ -312,18 +312,12 @@ module _ (kept : List Bool) (f s k : ℕ) where
       let q = clear-rest (tooMuch f s) 8 ((badChunk f s k, 8) ∷ []) (λ z. omega arith) r in
       (clear (badCount f) 7 ((tooMuch f s, 8) ∷ (badChunk f s k, 8) ∷ []) (λ z. omega arith) e, clear (tooMuch f s) 8 ((badChunk f s k, 8) ∷ []) (λ z. omega arith) r, clear (badChunk f s k) 8 [] (λ z. omega arith) q)
 
-  bit-back : (a b : Bool) → bit a ≡ bit b → b ≡ a
-  bit-back true true e = refl
-  bit-back false false e = refl
-  bit-back true false e = absurd (omega arith)
-  bit-back false true e = absurd (omega arith)
-
   pub standing : (b : Bool) → granted (bit b ∷ []) ≡ enoughOf kept f s k → Standing kept f s k b
   unfolding enoughOf receivedC
   standing b e =
       let g = granted-by (enoughFault f s k) (bit b ∷ []) (bit (suffice (notKept kept) f (k + parity) (f * s / (k + parity))) ∷ []) e in
       let t = sound-by (sym (g .0)) in
-      record { counted = t .0; placed = t .1; sound = t .2; told = bit-back b (suffice (notKept kept) f (k + parity) (f * s / (k + parity))) (ap (λ (l : List ℕ). getD l 0 0) (g .1)) }
+      record { counted = t .0; placed = t .1; sound = t .2; told = bit-one (suffice (notKept kept) f (k + parity) (f * s / (k + parity))) b (sym (ap (λ (l : List ℕ). getD l 0 0) (g .1))) }
 
   same-fault : (n len : ℕ) → n ≡ enoughFault f s k → 0 < n → enoughFault f s k ≡ fillFault f s k len
   unfolding enoughFault fillFault

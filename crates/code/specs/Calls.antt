@@ -6,12 +6,12 @@ use Prim.Native.Nat.{ℕ, _+_, _-_, _*_, _<_}
 use lib.Dec.{leb, ltb, eqb}
 use lib.ListN.{length, drop}
 use Rattle.base.specs.Bounds.{most-k, place, parity}
-use Rattle.base.specs.Tests.{first}
+use Rattle.base.specs.Tests.{first, bit}
 use Rattle.base.specs.Answer.{Answer, granted, refused, answered, Outcome, settled}
 use Rattle.base.specs.Bytes.{splice}
 use Rattle.base.specs.Table.{table}
 use Rattle.cut.specs.Block.{padded, chunkOf, blockOf}
-use Rattle.cut.specs.Missing.{bit, gone, suffice}
+use Rattle.cut.specs.Missing.{gone, suffice}
 use Rattle.cut.specs.Sizes.{receivedC}
 use Rattle.weave.specs.Calls.{badCount, tooMuch, badChunk, notKept}
 use Rattle.codeword.specs.Code.{parityOf}

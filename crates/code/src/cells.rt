@@ -6,7 +6,7 @@ ghost use Prim.Native.Nat.{_+_, _%_, _≤_, _<_};
 ghost use lib.ListN.{length};
 ghost use Rattle.base.specs.Bounds.{most-f};
 ghost use Rattle.base.specs.Bytes.{splice};
-ghost use Rattle.cut.specs.Missing.{bit};
+ghost use Rattle.base.specs.Tests.{bit};
 ghost use Rattle.code.specs.Calls.{lostCells};
 
 // 1 for a fragment that is not kept.

@@ -8,8 +8,9 @@ use native.Mathlib.Omega.{arith}
 use borrow.Author.Tests.{lt-ltb, le-ltb}
 use Rattle.base.specs.Bounds.{parity}
 use Rattle.base.specs.Round.{ceil}
+use Rattle.base.specs.Tests.{bit}
 use Rattle.base.proofs.Ceil as ceils
-use Rattle.cut.specs.Missing.{bit, count, losses, gone, missing, worst, firsts}
+use Rattle.cut.specs.Missing.{count, losses, gone, missing, worst, firsts}
 use Rattle.cut.proofs.FragmentSizes.{f′, f-some}
 
 bit-le : (b : Bool) → bit b ≤ 1

@@ -1,14 +1,10 @@
 -- What a set of lost fragments takes from a chunk (document 01, "The four places"; clause 7.4.4). A set is a test: lost i is true where
 -- fragment i is lost.
-use mathlib.Core.Bool.{Bool, true, false, _&&_}
+use mathlib.Core.Bool.{Bool, true, _&&_}
 use Prim.Native.Nat.{ℕ, zero, suc, _+_, _*_, _/_, _%_, min}
 use lib.Dec.{ltb, leb}
 use Rattle.base.specs.Bounds.{parity}
-
--- 1 for a test that passes
-abbrev pub bit : Bool → ℕ
-bit true = 1
-bit false = 0
+use Rattle.base.specs.Tests.{bit}
 
 -- how many of the t numbers from a on pass the test
 unfoldable pub count : (ℕ → Bool) → ℕ → ℕ → ℕ

@@ -1,6 +1,6 @@
 -- Powers of an element, the powers of α, logarithms and inverses. Assumes nothing.
 use mathlib.Core.Path.{_≡_, refl, sym, ap, ap₂, _∙_, subst}
-use mathlib.Core.Bool.{Bool, false, _||_}
+use mathlib.Core.Bool.{Bool}
 use mathlib.Core.List.{List, [], _∷_}
 use Prim.Native.Nat.{ℕ, zero, suc, _+_, _-_, _*_, _/_, _%_, _≤_, _<_}
 use native.Mathlib.Nat.{zero-add, suc-add, add-zero, add-suc, not-suc-le-zero, le-of-suc-le-suc, div-add-mod'}
@@ -9,6 +9,7 @@ use native.Mathlib.Omega.{arith}
 use borrow.Author.Tests.{eqb-true, eq-eqb}
 use lib.Dec.{T, eqb, lit<}
 use lib.ListN.{getD}
+use Rattle.base.specs.Tests.{among}
 use Rattle.base.proofs.Every.{below, at}
 use Rattle.base.proofs.Logic.{either, clash}
 use Rattle.field.specs.Field.{_⊕_, times2, _⊗_, pow, alpha, inv, logFrom, logOf}
@@ -109,11 +110,6 @@ unfolding powers alpha
 powers-at zero l i h = absurd (not-suc-le-zero h)
 powers-at (suc n) l zero h = ap alpha (sym (add-zero l))
 powers-at (suc n) l (suc i) h = powers-at n (suc l) i (le-of-suc-le-suc h) ∙ ap alpha (suc-add l i ∙ sym (add-suc l i))
-
--- whether a is one of a list
-among : ℕ → List ℕ → Bool
-among a [] = false
-among a (x ∷ xs) = eqb x a || among a xs
 
 -- each power is one of them
 among-powers : (n l i a : ℕ) → i < n → alpha (l + i) ≡ a → T (among a (powers n (alpha l)))

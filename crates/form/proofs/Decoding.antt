@@ -10,10 +10,11 @@ use lib.Seq.{take-at, take-append-le, drop-append-le}
 use Rattle.base.specs.Answer.{Answer, granted, outcome}
 use Rattle.base.specs.Bounds.{place, parity}
 use Rattle.base.specs.Bytes.{splice}
+use Rattle.base.specs.Tests.{bit}
 use Rattle.base.proofs.Logic.{clash}
 use Rattle.base.proofs.Splice.{splice-length}
 use Rattle.cut.specs.Cells.{cellsOf}
-use Rattle.cut.specs.Missing.{bit, suffice}
+use Rattle.cut.specs.Missing.{suffice}
 use Rattle.cut.specs.Sizes.{receivedC}
 use Rattle.weave.specs.Calls.{notKept, enoughOf, deinterleaveOf}
 use Rattle.weave.specs.Calls as held-calls

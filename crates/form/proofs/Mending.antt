@@ -11,10 +11,11 @@ use lib.Seq.{ext-getD, getD-take, getD-drop, take-take, take-all, drop-at, lengt
 use Rattle.base.specs.Bounds.{most-k, parity}
 use Rattle.base.proofs.ByteLaws.{bytes-append, bytes-take, bytes-drop, bytes-zeros}
 use Rattle.base.specs.Bytes.{Bytes}
+use Rattle.base.specs.Tests.{bit}
 use Rattle.base.proofs.Tables.{at-table}
 use Rattle.cut.specs.Block.{padded, chunkOf, wordOf, blockOf}
 use Rattle.cut.specs.Cells.{cellOf}
-use Rattle.cut.specs.Missing.{bit, gone, suffice}
+use Rattle.cut.specs.Missing.{gone, suffice}
 use Rattle.cut.specs.Sizes.{receivedC}
 use Rattle.cut.proofs.Blocks.{window, unpadded, length-padded}
 use Rattle.weave.specs.Calls.{notKept}

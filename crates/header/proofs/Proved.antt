@@ -9,6 +9,7 @@ use lib.Dec.{lit<}
 use lib.ListN.{getD}
 use Rattle.base.specs.Bytes.{Bytes}
 use Rattle.base.proofs.ByteLaws.{bytes-at}
+use Rattle.base.proofs.Logic.{bit-one}
 use Rattle.base.proofs.Numbers.{number-lt}
 use Rattle.cut.specs.declared.Address.{Address}
 use Rattle.cut.specs.declared.Address.the-variants.{None, Pair}
@@ -72,12 +73,6 @@ pub header-lengths : HeaderLength
 header-lengths h = omega (arith, header-length h, body-length h, fec-length h, address-length (h .address))
 
 -- ---- no second answer
-
-bit-one : (a b : Bool) → _≡_ {A = ℕ} (cond a 1 0) (cond b 1 0) → a ≡ b
-bit-one true true e = refl
-bit-one true false e = absurd (omega arith)
-bit-one false true e = absurd (omega arith)
-bit-one false false e = refl
 
 address-one : (a b : Address) → addressValues a ≡ addressValues b → a ≡ b
 unfolding addressValues

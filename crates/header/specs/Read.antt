@@ -6,7 +6,7 @@ use lib.Dec.{ltb, leb, eqb}
 use lib.ListN.{length, getD, take}
 use Rattle.base.specs.Answer.{Answer, granted, refused}
 use Rattle.base.specs.Bytes.{numberAt}
-use Rattle.base.specs.Tests.{first}
+use Rattle.base.specs.Tests.{first, bit}
 use Rattle.crc.specs.Crc.{wordOf}
 use Rattle.cut.specs.declared.Address.{Address}
 use Rattle.cut.specs.declared.Address.the-variants.{None, Pair}
@@ -113,5 +113,5 @@ addressValues (Pair source dest) = source ∷ dest ∷ []
 -- document 01's number and values for each case
 unfoldable pub numberOf : Parsed → Answer
 numberOf (parsed.Fragment h) =
-    granted (h .number ∷ h .index ∷ h .count ∷ cond (h .fec) 1 0 ∷ h .rsk ∷ h .rsz ∷ h .plen ∷ addressValues (h .address))
+    granted (h .number ∷ h .index ∷ h .count ∷ bit (h .fec) ∷ h .rsk ∷ h .rsz ∷ h .plen ∷ addressValues (h .address))
 numberOf (parsed.Refused n) = refused n

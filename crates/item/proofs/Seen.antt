@@ -9,13 +9,14 @@ use lib.ListN.{length, getD, set, length-set}
 use lib.Seq.{getD-set-same, getD-set-other}
 use lib.Dec.{eqb}
 use borrow.Author.Tests.{ne-eqb, eqb-true, eqb-false, ltb-true, lt-ltb, le-ltb}
+use Rattle.base.specs.Tests.{among}
 use Rattle.base.proofs.Logic.{clash, and-false}
 use Rattle.item.specs.declared.Item.{Item}
 use Rattle.item.specs.declared.Step.the-variants as step
 use Rattle.item.specs.declared.Found.{Found}
 use Rattle.item.specs.declared.Found.the-variants as found
 use Rattle.item.specs.Item.{head, stepIn}
-use Rattle.item.specs.Run.{Run, item, nextOf, orElse, runOf, firstOf, among, isBefore, slots}
+use Rattle.item.specs.Run.{Run, item, nextOf, orElse, runOf, firstOf, isBefore, slots}
 use Rattle.item.proofs.Runs.{item-begins, run-item, first-here, first-next}
 
 -- For a number F that is found item by item: `names` are those of the items before `at`. A name among them is found there and has its slot

@@ -1,9 +1,9 @@
 -- A packet is a run of items (document 01, "TAG layer"): what is found in it, and when an item is at fault.
-use mathlib.Core.Bool.{Bool, true, false, cond, not, _&&_, _||_}
+use mathlib.Core.Bool.{Bool, false, cond, not, _&&_}
 use mathlib.Core.List.{List, [], _∷_}
 use Prim.Native.Nat.{ℕ, zero, suc, _+_, _-_}
 use lib.Dec.{ltb, eqb}
-use Rattle.base.specs.Tests.{first}
+use Rattle.base.specs.Tests.{first, among}
 use Rattle.item.specs.declared.Item.{Item}
 use Rattle.item.specs.declared.Step.{Step}
 use Rattle.item.specs.declared.Step.the-variants as step
@@ -53,11 +53,6 @@ ptr = 0x2A707472
 -- "has exactly 64 bits"
 abbrev pub ptr-bits : ℕ
 ptr-bits = 64
-
--- whether n is one of a list
-unfoldable pub among : ℕ → List ℕ → Bool
-among n [] = false
-among n (m ∷ ms) = eqb m n || among n ms
 
 -- document 01: a "*ptr" whose bits are not 64
 unfoldable pub badPtr : ℕ → ℕ → Bool

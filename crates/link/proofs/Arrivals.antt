@@ -10,6 +10,7 @@ use lib.ListN.{length, replicate, length-replicate}
 use Rattle.base.specs.Bounds.{most-l, most-f}
 use Rattle.base.specs.Bytes.{Bytes}
 use Rattle.base.specs.Round.{ceil}
+use Rattle.base.specs.Tests.{among}
 use Rattle.base.proofs.Firsts.{due, skip, none-due}
 use Rattle.base.proofs.Logic.{clash, and-left, and-right}
 use Rattle.af.specs.Packet.{most-payload, packetOf}
@@ -26,7 +27,7 @@ use Rattle.header.specs.Claims.{Fitting}
 use Rattle.sender.specs.Calls.{packetFault}
 use Rattle.sender.specs.Fragments.{fragmentFor}
 use Rattle.link.specs.Run.{Call, freshWith, heard, numberIn, come, All}
-use Rattle.link.specs.Demand.{Takes, count, Own, among, Among, Begins}
+use Rattle.link.specs.Demand.{Takes, count, Own, Among, Begins}
 use Rattle.link.specs.Examples.{Input, inputOf, Lawful, packet, number, other, Arrival, Its, Of, Broken, datagramOf, Playable}
 use Rattle.link.proofs.Heard.{Brings, Foreign, brings, brings-number, come-none, come-own, come-foreign}
 use Rattle.link.proofs.Runs.{some-run, bytes-fragment}

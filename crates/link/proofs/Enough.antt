@@ -10,9 +10,10 @@ use borrow.Author.Tests.{eqb-true, eq-eqb, ne-eqb, leb-true, le-leb}
 use lib.Dec.{leb, eqb}
 use lib.ListN.{length}
 use Rattle.base.specs.Bounds.{parity}
+use Rattle.base.specs.Tests.{bit}
 use Rattle.base.proofs.Logic.{either, and-left, and-right}
 use Rattle.cut.specs.declared.Settings.{Settings}
-use Rattle.cut.specs.Missing.{bit, count, losses, gone, missing, suffice}
+use Rattle.cut.specs.Missing.{count, losses, gone, missing, suffice}
 use Rattle.cut.specs.Plan.{withFec}
 use Rattle.cut.specs.Sizes as cut
 use Rattle.cut.proofs.ChunkSizes.{c-some}

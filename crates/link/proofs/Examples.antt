@@ -7,6 +7,7 @@ use native.Mathlib.Omega.{arith}
 use borrow.Author.Tests.{eq-eqb}
 use lib.Dec.{T, eqb, lit<, lit≤}
 use lib.ListN.{length, getD}
+use Rattle.base.specs.Tests.{among}
 use Rattle.base.proofs.Every.{below, at}
 use Rattle.cut.specs.Plan.{houseOf}
 use Rattle.cut.specs.Missing as missing
@@ -16,7 +17,7 @@ use Rattle.header.specs.Read.{badAddress}
 use Rattle.receiver.specs.declared.Received.the-variants.{Delivered}
 use Rattle.receiver.specs.Promise.{numberOf, State}
 use Rattle.link.specs.Run.{Call, after, Run, start, next, Holds, lost, All}
-use Rattle.link.specs.Demand.{T1, count, among, Among, Begins, Scene, enoughAfter, Promised, HandedOut}
+use Rattle.link.specs.Demand.{T1, count, Among, Begins, Scene, enoughAfter, Promised, HandedOut}
 use Rattle.link.specs.Examples.{packet, number, Arrival, Played, opening, three-others, HandedOutLast, ThreeOthers, four-others, DisplacedLast, FourOthers}
 use Rattle.link.proofs.View.{Good}
 use Rattle.link.proofs.Frame.{good-fresh, good-run}

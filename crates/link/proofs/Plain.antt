@@ -10,9 +10,10 @@ use lib.Dec.{leb}
 use lib.ListN.{length, take, drop, length-drop, take-append-drop}
 use lib.Seq.{take-add, take-all}
 use Rattle.base.specs.Bounds.{place}
+use Rattle.base.specs.Tests.{bit}
 use Rattle.cut.specs.declared.Settings.{Settings}
 use Rattle.cut.specs.Cells.{partOf}
-use Rattle.cut.specs.Missing.{bit, losses}
+use Rattle.cut.specs.Missing.{losses}
 use Rattle.cut.specs.Missing as missing
 use Rattle.cut.proofs.PlanCases.{L-plain}
 use Rattle.form.specs.Agree.{enough, joined}

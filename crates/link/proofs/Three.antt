@@ -8,6 +8,7 @@ use native.Mathlib.Omega.{arith}
 use borrow.Author.Tests.{eqb-true, ne-eqb, eq-eqb}
 use lib.Dec.{eqb}
 use lib.ListN.{length}
+use Rattle.base.specs.Tests.{among}
 use Rattle.base.proofs.Logic.{either, clash}
 use Rattle.header.specs.declared.Header.{Header}
 use Rattle.places.specs.declared.Place.{Place}
@@ -17,7 +18,7 @@ use Rattle.places.specs.Claims.{Opened}
 use Rattle.places.proofs.Proved.{opens-in-turn}
 use Rattle.receiver.specs.Promise.{Outcome, outcome, State}
 use Rattle.link.specs.Run.{Call, after, Made, Run, start, next, Reached, Holds, heard, numberIn, All}
-use Rattle.link.specs.Demand.{among, Among, Begins}
+use Rattle.link.specs.Demand.{Among, Begins}
 use Rattle.link.proofs.Basic.{same-or-not, held-found, held-some, holds-yes, holds-number, holds-some}
 use Rattle.link.proofs.View.{Good, View, unheard, refuses, keeps, opens}
 use Rattle.link.proofs.Frame.{leftBy, Wrote, wrote-held, wrote-opened, see, good-run, good-reached}

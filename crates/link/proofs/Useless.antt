@@ -11,6 +11,7 @@ use lib.ListN.{length, getD, take, drop, replicate, length-replicate}
 use lib.Seq.{getD-take, getD-drop}
 use Rattle.base.specs.Bounds.{most-l, place}
 use Rattle.base.specs.Bytes.{Bytes, splice}
+use Rattle.base.specs.Tests.{bit}
 use Rattle.base.proofs.Logic.{clash}
 use Rattle.cut.specs.declared.Address.the-variants.{None}
 use Rattle.cut.specs.declared.Settings.{Settings}
@@ -143,7 +144,7 @@ module _ (R : Receiver) (keeps : Keeps R) where
       enough : enoughAfter g n packet (e ∷ []) ≡ true
       unfolding enoughAfter missing.losses missing.count
       enough =
-          ap (λ (f : ℕ). eqb (missing.losses (lost n (e ∷ [])) f) 0) one ∙ ap (λ (v : Bool). eqb (missing.bit (not v) + 0) 0) came
+          ap (λ (f : ℕ). eqb (missing.losses (lost n (e ∷ [])) f) 0) one ∙ ap (λ (v : Bool). eqb (bit (not v) + 0) 0) came
 
       served : Delivers (R None s (fragmentFor g n packet 0) room) × (R None s (fragmentFor g n packet 0) room .out ≡ splice room 0 packet)
       unfolding All e badAddress
@@ -168,7 +169,7 @@ module _ (R : Receiver) (keeps : Keeps R) where
       unfolding enoughAfter missing.losses missing.count come
       not-enough =
           ap (λ (f : ℕ). eqb (missing.losses (lost n (e ∷ [])) f) 0) two
-          ∙ ap₂ (λ (u v : Bool). eqb (missing.bit (not u) + (missing.bit (not v) + 0)) 0) came
+          ∙ ap₂ (λ (u v : Bool). eqb (bit (not u) + (bit (not v) + 0)) 0) came
           (ap (λ (c : ℕ → Bool). c 1) (come-own g n packet e [] 0 brought))
 
       stands : (a : ℕ) × (take (length (payloadFor g packet 0)) (drop a (after e .bytes)) ≡ payloadFor g packet 0)

@@ -1,11 +1,12 @@
 -- DEMAND 3: a packet that our sender cut, in any run of the receiver, from any reached state. The proofs are cited in proofs/Proved.antt.
 use mathlib.Core.Path.{_≡_}
-use mathlib.Core.Bool.{Bool, true, false, cond, _||_}
+use mathlib.Core.Bool.{Bool, true, false, cond}
 use mathlib.Core.List.{List, [], _∷_, _++_}
 use Prim.Native.Nat.{ℕ, _≤_, _<_}
 use lib.Dec.{eqb}
 use lib.ListN.{length}
 use Rattle.base.specs.Bytes.{Bytes, splice}
+use Rattle.base.specs.Tests.{among}
 use Rattle.cut.specs.declared.Settings.{Settings}
 use Rattle.cut.specs.Missing.{losses, suffice}
 use Rattle.cut.specs.Sizes as cut
@@ -47,11 +48,6 @@ pub record Scene (g : Settings) (n : ℕ) (packet : List ℕ) (first : State) (e
   -- "each call lends full room", "nobody clears it"
   pub run : Run first es now
   pub own : All (Own g n packet) es
-
--- n is one of the list
-unfoldable pub among : ℕ → List ℕ → Bool
-among n [] = false
-among n (m ∷ ms) = eqb m n || among n ms
 
 -- "at most three other numbers arrive": a datagram that passes the checks has the number n or one of the others
 unfoldable pub Among : ℕ → List ℕ → Call → Type 0

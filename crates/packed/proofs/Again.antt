@@ -10,22 +10,23 @@ use lib.ListN.{length, getD, take, drop, length-drop}
 use lib.Seq.{take-add, take-all, drop-cons}
 use Rattle.base.specs.Bounds.{most-f}
 use Rattle.base.specs.Bytes.{Bytes}
+use Rattle.base.specs.Tests.{bit}
 use Rattle.base.proofs.ByteLaws.{bytes-drop}
 use Rattle.base.proofs.Firsts.{clear, clear-rest}
 use Rattle.base.proofs.Logic.{or-left, or-right}
 use Rattle.base.proofs.Numbers.{bytes-back}
 use Rattle.places.specs.Places.{four, placeAt}
-use Rattle.packed.specs.Packed.{flagOf, figuresOf, packedPlace, place-bytes, table-bytes, packedOf, isSet, flagBytes, placeFrom, tableFrom, badFlag, badFlags, badPlaceAt, badRecord, unpackFault}
+use Rattle.packed.specs.Packed.{figuresOf, packedPlace, place-bytes, table-bytes, packedOf, isSet, flagBytes, placeFrom, tableFrom, badFlag, badFlags, badPlaceAt, badRecord, unpackFault}
 use Rattle.packed.proofs.Back.{place-part, bad-part}
 
 -- ---- flags
 
-flag-again : (x : ℕ) → badFlag x ≡ false → flagOf (isSet x) ≡ x
+flag-again : (x : ℕ) → badFlag x ≡ false → bit (isSet x) ≡ x
 flag-again zero e = refl
 flag-again (suc zero) e = refl
 flag-again (suc (suc x)) e = absurd (omega (arith, ltb-false 1 (suc (suc x)) e))
 
-flags-again : (s : List ℕ) → badFlags s ≡ false → map flagOf (map isSet s) ≡ s
+flags-again : (s : List ℕ) → badFlags s ≡ false → map bit (map isSet s) ≡ s
 unfolding badFlags
 flags-again [] e = refl
 flags-again (x ∷ s) e =
@@ -59,7 +60,7 @@ module _ (s : List ℕ) (bytes : Bytes s) (long : place-bytes ≤ length s) (goo
   place-again : take place-bytes s ≡ packedPlace (placeFrom s 0)
   unfolding packedPlace figuresOf placeFrom
   place-again =
-      let flag : flagOf (isSet (getD s 7 0)) ∷ getD s 8 0 ∷ getD s 9 0 ∷ [] ≡ getD s 7 0 ∷ getD s 8 0 ∷ getD s 9 0 ∷ [] =
+      let flag : bit (isSet (getD s 7 0)) ∷ getD s 8 0 ∷ getD s 9 0 ∷ [] ≡ getD s 7 0 ∷ getD s 8 0 ∷ getD s 9 0 ∷ [] =
       ap (λ (x : ℕ). x ∷ getD s 8 0 ∷ getD s 9 0 ∷ []) (flag-again (getD s 7 0) flag-7) in
       more s 14 most-f
       (more s 12 2

@@ -10,42 +10,43 @@ use lib.ListN.{length, getD, take, drop, length-append, length-map}
 use lib.Seq.{take-at, drop-at, drop-drop, getD-drop}
 use Rattle.base.specs.Bounds.{most-f}
 use Rattle.base.specs.Bytes.{Bytes, numberAt, bytesOf}
+use Rattle.base.specs.Tests.{bit}
 use Rattle.base.proofs.ByteLaws.{bytes-append}
 use Rattle.base.proofs.Numbers.{number-drop, number-back}
 use Rattle.places.specs.declared.Place.{Place}
 use Rattle.places.specs.declared.Table.{Table}
 use Rattle.places.specs.Places.{four, freePlace, placeAt}
-use Rattle.packed.specs.Packed.{flagOf, figuresOf, packedPlace, place-bytes, table-bytes, packedOf, isSet, placeFrom, tableFrom, badFlags, badPlaceAt, badRecord}
+use Rattle.packed.specs.Packed.{figuresOf, packedPlace, place-bytes, table-bytes, packedOf, isSet, placeFrom, tableFrom, badFlags, badPlaceAt, badRecord}
 use Rattle.packed.specs.Claims.{Typed, TypedTable}
 use Rattle.packed.proofs.Lays.{length-place}
 
 -- ---- flags
 
-set-back : (b : Bool) → isSet (flagOf b) ≡ b
+set-back : (b : Bool) → isSet (bit b) ≡ b
 set-back true = refl
 set-back false = refl
 
-flags-back : (bs : List Bool) → map isSet (map flagOf bs) ≡ bs
+flags-back : (bs : List Bool) → map isSet (map bit bs) ≡ bs
 flags-back [] = refl
 flags-back (b ∷ bs) = ap₂ (λ (x : Bool) (l : List Bool). x ∷ l) (set-back b) (flags-back bs)
 
-flag-good : (b : Bool) → ltb 1 (flagOf b) ≡ false
+flag-good : (b : Bool) → ltb 1 (bit b) ≡ false
 flag-good true = refl
 flag-good false = refl
 
-flags-good : (bs : List Bool) → badFlags (map flagOf bs) ≡ false
+flags-good : (bs : List Bool) → badFlags (map bit bs) ≡ false
 unfolding badFlags
 flags-good [] = refl
 flags-good (b ∷ bs) = rw (flag-good b) (flags-good bs)
 
-flag-byte : (b : Bool) → flagOf b < 256
+flag-byte : (b : Bool) → bit b < 256
 flag-byte true = lit< tt
 flag-byte false = lit< tt
 
 low : (x : ℕ) → x % 256 < 256
 low x = mod-lt x (zero-lt-suc 255)
 
-flags-bytes : (bs : List Bool) → Bytes (map flagOf bs)
+flags-bytes : (bs : List Bool) → Bytes (map bit bs)
 flags-bytes [] = tt
 flags-bytes (b ∷ bs) = (flag-byte b, flags-bytes bs)
 
@@ -89,13 +90,13 @@ module _ (p : Place) (h : Typed p) (rest : List ℕ) where
   unfolding packedPlace figuresOf numberAt bytesOf
   last-2 = number-back 2 (p .last) [] (h .last)
 
-  bytes-1 : (getD s 0 0 ≡ p .condition) × (getD s 7 0 ≡ flagOf (p .fec)) × (getD s 8 0 ≡ p .rsk) × (getD s 9 0 ≡ p .rsz)
+  bytes-1 : (getD s 0 0 ≡ p .condition) × (getD s 7 0 ≡ bit (p .fec)) × (getD s 8 0 ≡ p .rsk) × (getD s 9 0 ≡ p .rsz)
   unfolding packedPlace figuresOf bytesOf
   bytes-1 = (refl, refl, refl, refl)
 
-  flags-here : take most-f (drop 14 s) ≡ map flagOf (p .kept)
+  flags-here : take most-f (drop 14 s) ≡ map bit (p .kept)
   unfolding packedPlace figuresOf bytesOf
-  flags-here = take-at (map flagOf (p .kept)) rest most-f (length-map (p .kept) flagOf ∙ h .kept)
+  flags-here = take-at (map bit (p .kept)) rest most-f (length-map (p .kept) bit ∙ h .kept)
 
   pub place-back : placeFrom s 0 ≡ p
   unfolding placeFrom
@@ -114,7 +115,7 @@ module _ (p : Place) (h : Typed p) (rest : List ℕ) where
       let numbers : Bytes (bytesOf 2 (p .size) ++ bytesOf 2 (p .last)) = (low _, (low _, (low _, (low _, tt)))) in
       let figures : Bytes (figuresOf p) =
       (h .condition, (low _, (low _, (low _, (low _, (low _, (low _, (flag-byte (p .fec), (h .rsk, (h .rsz, numbers)))))))))) in
-      bytes-append (packedPlace p) rest (bytes-append (figuresOf p) (map flagOf (p .kept)) figures (flags-bytes (p .kept))) r
+      bytes-append (packedPlace p) rest (bytes-append (figuresOf p) (map bit (p .kept)) figures (flags-bytes (p .kept))) r
 
 -- ---- the four places, one behind the other
 

@@ -9,6 +9,7 @@ use lib.ListN.{length, getD, length-append, length-map}
 use Rattle.base.specs.Answer.{Answer, outcome}
 use Rattle.base.specs.Bounds.{most-f}
 use Rattle.base.specs.Bytes.{splice, bytesOf}
+use Rattle.base.specs.Tests.{bit}
 use Rattle.base.specs.Written.{numberOf, putOf}
 use Rattle.base.specs.declared.Written.{Written}
 use Rattle.base.specs.declared.Written.the-variants.{Refused}
@@ -18,12 +19,12 @@ use Rattle.base.proofs.Splice.{splice-length, splice-next, splice-then}
 use Rattle.places.specs.declared.Place.{Place}
 use Rattle.places.specs.declared.Table.{Table}
 use Rattle.places.specs.Places.{four, placeAt}
-use Rattle.packed.specs.Packed.{flagOf, figuresOf, packedPlace, place-bytes, table-bytes, packedOf, packCall}
+use Rattle.packed.specs.Packed.{figuresOf, packedPlace, place-bytes, table-bytes, packedOf, packCall}
 
 -- ---- the figures
 
 pub figures-are : (p : Place) {n f s l : List ℕ} {fec : ℕ} → n ≡ bytesOf 2 (p .number) → f ≡ bytesOf 4 (p .count) → s ≡ bytesOf 2 (p .size)
-    → l ≡ bytesOf 2 (p .last) → fec ≡ flagOf (p .fec)
+    → l ≡ bytesOf 2 (p .last) → fec ≡ bit (p .fec)
     → p .condition ∷ getD n 0 0 ∷ getD n 1 0 ∷ getD f 0 0 ∷ getD f 1 0 ∷ getD f 2 0 ∷ getD f 3 0 ∷ fec ∷ p .rsk ∷ p .rsz
     ∷ getD s 0 0 ∷ getD s 1 0 ∷ getD l 0 0 ∷ getD l 1 0 ∷ [] ≡ figuresOf p
 unfolding figuresOf bytesOf
@@ -35,7 +36,7 @@ length-figures p = refl
 
 pub length-place : (p : Place) → length (p .kept) ≡ most-f → length (packedPlace p) ≡ place-bytes
 unfolding packedPlace
-length-place p e = omega (arith, length-append (figuresOf p) (map flagOf (p .kept)), length-figures p, length-map (p .kept) flagOf)
+length-place p e = omega (arith, length-append (figuresOf p) (map bit (p .kept)), length-figures p, length-map (p .kept) bit)
 
 -- ---- a place
 
@@ -45,12 +46,12 @@ Laid t i at x y = (length (packedPlace (placeAt t i)) ≡ place-bytes) × (y ≡
 
 -- the figures, and behind them the flags
 pub place-laid : (t : Table) (i : ℕ) (p : Place) (out x y f k : List ℕ) (at : ℕ) (a b : Answer) → p ≡ placeAt t i → at + place-bytes ≤ length out
-    → length (p .kept) ≡ most-f → f ≡ figuresOf p → k ≡ map flagOf (p .kept) → outcome a x ≡ putOf out at f → outcome b y ≡ putOf x (at + 14) k
+    → length (p .kept) ≡ most-f → f ≡ figuresOf p → k ≡ map bit (p .kept) → outcome a x ≡ putOf out at f → outcome b y ≡ putOf x (at + 14) k
     → Laid t i at out y
 unfolding packedPlace
 place-laid t i p out x y f k at a b is-p room long is-f is-k e₁ e₂ =
     let long-f : length f ≡ 14 = ap length is-f ∙ length-figures p in
-    let long-k : length k ≡ most-f = ap length is-k ∙ length-map (p .kept) flagOf ∙ long in
+    let long-k : length k ≡ most-f = ap length is-k ∙ length-map (p .kept) bit ∙ long in
     let is-x : x ≡ splice out at f = put-is out f x at a (omega arith) e₁ in
     let same : length x ≡ length out = ap length is-x ∙ splice-length out at f (omega arith) in
     let is-y : y ≡ splice out at (packedPlace p) =

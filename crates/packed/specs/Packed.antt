@@ -7,26 +7,22 @@ use lib.ListN.{length, getD, take, drop}
 use Rattle.base.specs.Answer.{Answer, answered, Outcome, settled}
 use Rattle.base.specs.Bounds.{most-f}
 use Rattle.base.specs.Bytes.{splice, numberAt, bytesOf}
-use Rattle.base.specs.Tests.{first}
+use Rattle.base.specs.Tests.{first, bit}
 use Rattle.places.specs.declared.Place.{Place}
 use Rattle.places.specs.declared.Table.{Table}
 use Rattle.places.specs.Places.{four, freshTable, placeAt}
 
 -- ---- written
 
--- a flag is a byte, 1 or 0
-abbrev pub flagOf : Bool → ℕ
-flagOf b = cond b 1 0
-
 -- the figures of a place: condition 1 byte, number 2, f 4, FEC 1, k 1, z 1, s 2, the last Plen 2
 unfoldable pub figuresOf : Place → List ℕ
 figuresOf p =
-    (p .condition ∷ []) ++ bytesOf 2 (p .number) ++ bytesOf 4 (p .count) ++ (flagOf (p .fec) ∷ p .rsk ∷ p .rsz ∷ [])
+    (p .condition ∷ []) ++ bytesOf 2 (p .number) ++ bytesOf 4 (p .count) ++ (bit (p .fec) ∷ p .rsk ∷ p .rsz ∷ [])
     ++ bytesOf 2 (p .size) ++ bytesOf 2 (p .last)
 
--- and then a flag for each fragment, set where it is kept
+-- and then a flag for each fragment, a byte, set where it is kept
 unfoldable pub packedPlace : Place → List ℕ
-packedPlace p = figuresOf p ++ map flagOf (p .kept)
+packedPlace p = figuresOf p ++ map bit (p .kept)
 
 -- the bytes of a place's record
 abbrev pub place-bytes : ℕ

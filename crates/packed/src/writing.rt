@@ -13,20 +13,21 @@ ghost use Prim.Native.Nat.{_+_, _≤_};
 ghost use lib.ListN.{length};
 ghost use Rattle.base.specs.Answer.{outcome};
 ghost use Rattle.base.specs.Bytes.{splice};
+ghost use Rattle.base.specs.Tests.{bit};
 ghost use Rattle.base.specs.Written.{numberOf};
 ghost use Rattle.places.specs.Places.{placeAt};
-ghost use Rattle.packed.specs.Packed.{flagOf, figuresOf, packedPlace, place-bytes, packCall};
+ghost use Rattle.packed.specs.Packed.{figuresOf, packedPlace, place-bytes, packCall};
 
 // A flag as a byte.
 fn flag(b: bool) -> u8
-    ensures { λ r. ⌜ r ≡ flagOf b ⌝ }
+    ensures { λ r. ⌜ r ≡ bit b ⌝ }
 {
     if b { 1 } else { 0 }
 }
 
 // The flags as bytes.
 fn flags(kept: [bool; MOST_F]) -> [u8; MOST_F]
-    ensures { λ r. ⌜ r ≡ map flagOf kept ⌝ }
+    ensures { λ r. ⌜ r ≡ map bit kept ⌝ }
 {
     let mut bytes = [0u8; MOST_F];
     for i in 0..MOST_F {

@@ -8,11 +8,12 @@ use native.Mathlib.Omega.{arith}
 use lib.Dec.{eqb}
 use lib.ListN.{length}
 use borrow.Author.Tests.{eqb-false}
+use Rattle.base.specs.Tests.{among}
 use Rattle.item.specs.declared.Item.{Item}
 use Rattle.item.specs.declared.Step.{Step}
 use Rattle.item.specs.declared.Step.the-variants as step
 use Rattle.item.specs.Item.{stepIn}
-use Rattle.item.specs.Run.{nextOf, runOf, among, faultOf, faultsOf}
+use Rattle.item.specs.Run.{nextOf, runOf, faultOf, faultsOf}
 use Rattle.item.proofs.Steps.{end-few, refused-is}
 use Rattle.item.proofs.Runs.{falls, run-item, run-end, run-refused}
 use Rattle.tag.specs.Find.{checkOf}

@@ -9,8 +9,8 @@ use lib.ListN.{length}
 use borrow.Author.Tests.{eq-eqb, ne-eqb, lt-ltb, le-ltb}
 use Rattle.base.specs.Bytes.{numberAt}
 use Rattle.base.specs.Table.{table}
+use Rattle.base.specs.Tests.{among}
 use Rattle.base.proofs.Firsts.{due, skip, none-due}
-use Rattle.item.specs.Run.{among}
 use Rattle.walk.specs.Names.{most-names, name-bytes, namesOf, namesFault}
 
 -- the names from number j on

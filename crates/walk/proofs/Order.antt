@@ -10,13 +10,14 @@ use lib.ListN.{length, set, take, replicate, length-set}
 use lib.Seq.{getD-set-same, getD-set-other}
 use lib.Dec.{eqb, ltb}
 use borrow.Author.Tests.{eqb-true, eqb-false, ltb-true, ltb-false}
+use Rattle.base.specs.Tests.{among}
 use Rattle.base.proofs.Logic.{either}
 use Rattle.item.specs.declared.Bytes.{Bytes}
 use Rattle.item.specs.declared.Item.{Item}
 use Rattle.item.specs.declared.Step.{Step}
 use Rattle.item.specs.declared.Step.the-variants as step
 use Rattle.item.specs.Item.{stepIn}
-use Rattle.item.specs.Run.{Run, item, nextOf, runOf, among}
+use Rattle.item.specs.Run.{Run, item, nextOf, runOf}
 use Rattle.item.proofs.Steps.{item-fits, refused-is}
 use Rattle.item.proofs.Runs.{item-begins, run-item, run-end, run-refused}
 use Rattle.walk.specs.declared.Handed.{Handed}

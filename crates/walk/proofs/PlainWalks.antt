@@ -6,9 +6,10 @@ use mathlib.Core.Bool.{Bool, true, false, cond, not, _&&_}
 use native.Mathlib.Omega.{arith}
 use lib.Dec.{eqb, ltb}
 use borrow.Author.Tests.{eq-eqb, eqb-true, eqb-false, ltb-false}
+use Rattle.base.specs.Tests.{among}
 use Rattle.base.proofs.Firsts.{clear, clear-rest}
 use Rattle.item.specs.declared.Item.{Item}
-use Rattle.item.specs.Run.{Run, item, padding, refused, nextOf, runOf, among, orElse, faultOf}
+use Rattle.item.specs.Run.{Run, item, padding, refused, nextOf, runOf, orElse, faultOf}
 use Rattle.walk.specs.Names.{deepest}
 use Rattle.walk.specs.Walk.{Tour, visit, ends, stops, unless, andThen, walkFault, tourBy, tourAt, refusal}
 use Rattle.walk.proofs.Refusals.{then-refusal, unless-refusal}

@@ -7,13 +7,13 @@ use native.Mathlib.Omega.{arith}
 use lib.ListN.{length, set}
 use lib.Dec.{eqb, ltb}
 use borrow.Author.Tests.{eq-eqb, ne-eqb, lt-ltb, le-ltb, eqb-true}
-use Rattle.base.specs.Tests.{first}
+use Rattle.base.specs.Tests.{first, among}
 use Rattle.base.proofs.Firsts.{due, skip, none-due}
 use Rattle.item.specs.declared.Item.{Item}
 use Rattle.item.specs.declared.Bytes.{Bytes}
 use Rattle.item.specs.declared.Step.the-variants as step
 use Rattle.item.specs.Item.{stepIn}
-use Rattle.item.specs.Run.{Run, item, padding, refused, nextOf, runOf, among, faultOf, orElse, slots}
+use Rattle.item.specs.Run.{Run, item, padding, refused, nextOf, runOf, faultOf, orElse, slots}
 use Rattle.item.proofs.Runs.{run-end, run-refused}
 use Rattle.item.proofs.Seen.{Seen, ByItem, again, turn, stops}
 use Rattle.walk.specs.Names.{deepest, namesOf, namesFault}

@@ -7,11 +7,12 @@ use native.Mathlib.Numerals.{sub-one}
 use native.Mathlib.Omega.{arith}
 use lib.ListN.{set}
 use borrow.Author.Tests.{lt-ltb, le-ltb, eq-eqb, ne-eqb}
+use Rattle.base.specs.Tests.{among}
 use Rattle.item.specs.declared.Bytes.{Bytes}
 use Rattle.item.specs.declared.Item.{Item}
 use Rattle.item.specs.declared.Step.the-variants as step
 use Rattle.item.specs.Item.{stepIn}
-use Rattle.item.specs.Run.{nextOf, among}
+use Rattle.item.specs.Run.{nextOf}
 use Rattle.walk.specs.declared.Handed.the-variants as handed
 use Rattle.walk.specs.declared.Walker.{Walker}
 use Rattle.walk.specs.Names.{deepest, namesOf}

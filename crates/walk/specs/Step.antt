@@ -5,9 +5,10 @@ use Prim.Native.Nat.{ℕ, zero, suc, _+_, min}
 use lib.Dec.{eqb, ltb}
 use lib.ListN.{length, getD, set}
 use Rattle.base.specs.Answer.{Answer, granted, refused}
+use Rattle.base.specs.Tests.{among}
 use Rattle.item.specs.declared.Item.{Item}
 use Rattle.item.specs.Item.{stepIn, valuesOf}
-use Rattle.item.specs.Run.{nextOf, among, onStep}
+use Rattle.item.specs.Run.{nextOf, onStep}
 use Rattle.walk.specs.declared.Handed.{Handed}
 use Rattle.walk.specs.declared.Handed.the-variants as handed
 use Rattle.walk.specs.declared.Walker.{Walker}

@@ -4,9 +4,9 @@ use mathlib.Core.List.{List, [], _∷_}
 use Prim.Native.Nat.{ℕ, zero, suc, _+_, _%_}
 use lib.Dec.{eqb, ltb}
 use lib.ListN.{length}
-use Rattle.base.specs.Tests.{first}
+use Rattle.base.specs.Tests.{first, among}
 use Rattle.item.specs.declared.Item.{Item}
-use Rattle.item.specs.Run.{Run, item, padding, refused, nextOf, runOf, among, faultOf, orElse}
+use Rattle.item.specs.Run.{Run, item, padding, refused, nextOf, runOf, faultOf, orElse}
 use Rattle.walk.specs.Names.{deepest, namesOf, namesFault}
 
 -- the items in the order in which they are handed out, each with its depth, and how the walk ends: with the outer packet's padding, or refused

@@ -2,8 +2,9 @@
 use mathlib.Core.Bool.{Bool, cond}
 use mathlib.Core.List.{List, []}
 use Prim.Native.Nat.{ℕ, zero, suc, _+_}
+use Rattle.base.specs.Tests.{among}
 use Rattle.item.specs.declared.Item.{Item}
-use Rattle.item.specs.Run.{nextOf, runOf, among, orElse}
+use Rattle.item.specs.Run.{nextOf, runOf, orElse}
 use Rattle.walk.specs.Walk.{walkFault, tourAt, refusal}
 
 -- an item's part in a walk's refusal: its own fault, else that of its contents, with so many levels left

@@ -1,6 +1,6 @@
 // The list of container names: four bytes each, one behind the other.
 ghost use mathlib.Core.Path.{_≡_};
-ghost use Rattle.item.specs.Run.{among};
+ghost use Rattle.base.specs.Tests.{among};
 ghost use Rattle.walk.specs.Names.{namesOf, namesFault};
 
 // Container names at most, and the bytes of one.

@@ -12,6 +12,7 @@ use Rattle.base.specs.Answer.{granted, refused, outcome}
 use Rattle.base.specs.Bounds.{most-f, most-k, place, parity}
 use Rattle.base.specs.Bytes.{splice}
 use Rattle.base.specs.Table.{table}
+use Rattle.base.specs.Tests.{bit}
 use Rattle.base.proofs.Answers.{grants, refuses, writes, leaves}
 use Rattle.base.proofs.Firsts.{due, skip, none-due}
 use Rattle.base.proofs.Logic.{or-left, or-right}
@@ -19,7 +20,7 @@ use Rattle.base.proofs.Splice.{splice-next}
 use Rattle.base.proofs.Tables.{length-table, table-add, table-same}
 use Rattle.weave.specs.Calls.{badCount, tooMuch, badChunk, interleaveFault, interleaveOf, deinterleaveFault, deinterleaveOf, notKept, enoughFault, enoughOf, numberOf}
 use Rattle.cut.specs.Cells.{fragmentOf, cellOf, cellsOf}
-use Rattle.cut.specs.Missing.{bit, suffice}
+use Rattle.cut.specs.Missing.{suffice}
 use Rattle.cut.specs.Sizes.{receivedC}
 use Rattle.weave.specs.declared.Held.{Held}
 use Rattle.weave.specs.declared.Held.the-variants.{Enough, NotEnough, Refused}

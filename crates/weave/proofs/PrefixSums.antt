@@ -9,7 +9,8 @@ use native.Mathlib.Omega.{arith}
 use lib.ListN.{length, getD, set}
 use lib.Seq.{getD-set-same, getD-set-other}
 use Rattle.base.specs.Bounds.{parity}
-use Rattle.cut.specs.Missing.{bit, count, losses, gone, missing, suffice}
+use Rattle.base.specs.Tests.{bit}
+use Rattle.cut.specs.Missing.{count, losses, gone, missing, suffice}
 use Rattle.cut.proofs.LossCounts.{count-le, count-add, upto}
 use Rattle.cut.proofs.Sufficing.{suffice-from, suffice-no}
 

@@ -5,12 +5,12 @@ use Prim.Native.Nat.{ℕ, _+_, _*_}
 use lib.Dec.{leb, ltb, eqb}
 use lib.ListN.{length, getD}
 use Rattle.base.specs.Bounds.{most-f, most-k, place, parity}
-use Rattle.base.specs.Tests.{first}
+use Rattle.base.specs.Tests.{first, bit}
 use Rattle.base.specs.Answer.{Answer, granted, refused, answered, Outcome, settled}
 use Rattle.base.specs.Bytes.{splice}
 use Rattle.cut.specs.Sizes.{receivedC}
 use Rattle.cut.specs.Cells.{fragmentOf, cellsOf}
-use Rattle.cut.specs.Missing.{bit, suffice}
+use Rattle.cut.specs.Missing.{suffice}
 use Rattle.weave.specs.declared.Held.{Held}
 use Rattle.weave.specs.declared.Held.the-variants.{Enough, NotEnough, Refused}
 

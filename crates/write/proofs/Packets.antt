@@ -8,9 +8,10 @@ use native.Mathlib.Omega.{arith}
 use lib.Dec.{eqb}
 use lib.ListN.{length, length-append}
 use borrow.Author.Tests.{lt-ltb, eq-eqb, eqb-true, eqb-false}
+use Rattle.base.specs.Tests.{among}
 use Rattle.base.proofs.Logic.{either, clash, or-left, or-right}
 use Rattle.item.specs.Item.{head, bytesFor, stepIn}
-use Rattle.item.specs.Run.{Run, item, padding, nextOf, runOf, firstOf, faultsOf, faultOf, among, dmy}
+use Rattle.item.specs.Run.{Run, item, padding, nextOf, runOf, firstOf, faultsOf, faultOf, dmy}
 use Rattle.item.specs.declared.Item.{Item}
 use Rattle.item.specs.declared.Step.the-variants as step
 use Rattle.item.specs.declared.Found.the-variants as found

@@ -7,9 +7,10 @@ use native.Mathlib.Nat.{zero-add, mod-one}
 use native.Mathlib.Omega.{arith}
 use lib.ListN.{length, take, drop}
 use Rattle.item.specs.Item.{head, bytesFor}
-use Rattle.item.specs.Run.{firstOf, faultsOf, among}
+use Rattle.item.specs.Run.{firstOf, faultsOf}
 use Rattle.item.specs.declared.Found.the-variants as found
 use Rattle.base.specs.Answer.{answered}
+use Rattle.base.specs.Tests.{among}
 use Rattle.tag.specs.Find.{wholeRun, checkOf, valueOf}
 use Rattle.tag.specs.Calls.{openCall}
 use Rattle.tag.proofs.Searches.{found-here}

@@ -5,9 +5,9 @@ use mathlib.Core.List.{List, [], _∷_, _++_}
 use Prim.Native.Nat.{ℕ, _+_, _-_, _%_, _^_, _≤_, _<_}
 use lib.ListN.{length, getD, take, drop}
 use Rattle.item.specs.Item.{head, bytesFor, stepIn}
-use Rattle.item.specs.Run.{among}
 use Rattle.item.specs.declared.Step.the-variants as step
 use Rattle.base.specs.Answer.{granted}
+use Rattle.base.specs.Tests.{among}
 use Rattle.tag.specs.Find.{checkOf, locateOf, shownBy}
 use Rattle.tag.specs.Calls.{openCall, searchCall}
 use Rattle.write.specs.Write.{unusedOf, trimmed, itemBytes}

@@ -4,8 +4,9 @@ use mathlib.Core.Bool.{false}
 use mathlib.Core.List.{List, [], _∷_, _++_}
 use Prim.Native.Nat.{ℕ, _^_, _<_}
 use lib.ListN.{length}
+use Rattle.base.specs.Tests.{among}
 use Rattle.item.specs.Item.{bytesFor}
-use Rattle.item.specs.Run.{dmy, among, badPtr}
+use Rattle.item.specs.Run.{dmy, badPtr}
 use Rattle.write.specs.Write.{itemBytes}
 
 -- what an item is written from

@@ -7,8 +7,8 @@ use native.Mathlib.Omega.{arith}
 use borrow.Author.Needs.{needs}
 use lib.ListN.{length, getD}
 use Rattle.base.specs.Bytes.{splice}
+use Rattle.base.specs.Tests.{bit}
 use Rattle.base.proofs.Tables.{filled-none, filled-more}
-use Rattle.cut.specs.Missing.{bit}
 use Rattle.code.specs.Calls.{lostCells}
 use Rattle.code.proofs.CellLaws.{in-row}
 use Rattle.code.proofs.cells.mark_row.Statement.{statement}

@@ -4,7 +4,8 @@ use mathlib.Core.Logic.{⊎-elim}
 use Prim.Native.Nat.{ℕ, _-_, _≤_}
 use native.Mathlib.Omega.{arith}
 use borrow.Author.Needs.{needs}
-use Rattle.cut.specs.Missing.{bit, count, losses}
+use Rattle.base.specs.Tests.{bit}
+use Rattle.cut.specs.Missing.{count, losses}
 use Rattle.weave.specs.Calls.{notKept}
 use Rattle.weave.proofs.PrefixSums.{one-more}
 use Rattle.form.specs.Agree.{missingIn}

@@ -8,13 +8,13 @@ use borrow.Author.Needs.{needs}
 use lib.ListN.{length, take, length-set, length-replicate}
 use lib.Seq.{take-all}
 use Rattle.base.specs.Bounds.{most-f}
-use Rattle.packed.specs.Packed.{flagOf}
+use Rattle.base.specs.Tests.{bit}
 use Rattle.packed.proofs.FlagLaws.{filled-more, filled-all}
 use Rattle.packed.proofs.writing.flags.Statement.{statement}
 use Rattle.packed.proofs.writing.flags.Tie as tie
 
 abbrev Inv-loop : tie.InvT-loop
-Inv-loop kept bytes₀ i₀ bytes i = (i ≤ most-f) × (length bytes ≡ most-f) × (take i bytes ≡ map flagOf (take i kept))
+Inv-loop kept bytes₀ i₀ bytes i = (i ≤ most-f) × (length bytes ≡ most-f) × (take i bytes ≡ map bit (take i kept))
 
 abbrev μ-loop : tie.MeasureT-loop
 μ-loop kept bytes₀ i₀ bytes i = most-f - i
@@ -44,7 +44,7 @@ loop-again c =
     let d = c .before .before .loop in (
       omega arith,
       length-set (d .bytes) (d .i) _ ∙ d .inv .1,
-      filled-more flagOf kept (d .bytes) (d .i) _ false (d .inv .2) (omega arith) (omega arith) (c .flag .ensures),
+      filled-more bit kept (d .bytes) (d .i) _ false (d .inv .2) (omega arith) (omega arith) (c .flag .ensures),
     )
 
 returns : tie.Need-returns Inv-loop μ-loop
@@ -52,7 +52,7 @@ returns c =
     let kept = c .before .before .args .t1 in
     let long : length kept ≡ most-f = c .before .before .good .0 .1 .0 .1 in
     let d = c .before .loop in
-    filled-all (d .bytes) _ (d .i) (omega (arith, c .loop-test .left)) (d .inv .2) ∙ ap (map flagOf) (take-all (d .i) kept (omega (arith, c .loop-test .left)))
+    filled-all (d .bytes) _ (d .i) (omega (arith, c .loop-test .left)) (d .inv .2) ∙ ap (map bit) (take-all (d .i) kept (omega (arith, c .loop-test .left)))
 
 pub flags-spec : {M : Type 1} → statement M
 flags-spec =

@@ -2,7 +2,7 @@
 use borrow.Author.Needs.{needs}
 use Prim.Native.Nat.{_-_}
 use mathlib.Core.Path.{_≡_, sym, _∙_}
-use Rattle.item.specs.Run.{among}
+use Rattle.base.specs.Tests.{among}
 use Rattle.walk.specs.Names.{namesOf}
 use Rattle.walk.proofs.ContainerNames.{isLeft, left-first, left-here, left-next, left-none}
 use Rattle.walk.proofs.names.is_container.Statement.{statement}

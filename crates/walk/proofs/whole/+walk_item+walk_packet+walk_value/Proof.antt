@@ -9,9 +9,10 @@ use mathlib.Core.Logic.{⊎-elim}
 use mathlib.Core.Path.{_≡_, refl, sym, ap, _∙_}
 use lib.Dec.{eqb}
 use lib.ListN.{length, length-replicate}
+use Rattle.base.specs.Tests.{among}
 use Rattle.item.specs.declared.Item.{Item}
 use Rattle.item.specs.Item.{head}
-use Rattle.item.specs.Run.{runOf, firstOf, isBefore, among, slots}
+use Rattle.item.specs.Run.{runOf, firstOf, isBefore, slots}
 use Rattle.item.proofs.Steps.{item-fits}
 use Rattle.item.proofs.Runs.{item-begins, falls as falls-short}
 use Rattle.item.proofs.Seen.{seen-none}
