@@ -1,4 +1,5 @@
 pub mod Logic
+pub mod ChunkSize
 pub mod Ceil
 pub mod Xor
 pub mod Every

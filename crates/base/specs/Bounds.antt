@@ -1,5 +1,7 @@
 -- Document 01, "Bounds": the figures that several layers share. Each stands here and nowhere else.
+use mathlib.Core.Bool.{Bool, _||_}
 use Prim.Native.Nat.{ℕ}
+use lib.Dec.{eqb, ltb}
 
 -- bytes of an AF packet: the least
 abbrev pub least-l : ℕ
@@ -20,6 +22,10 @@ place = 12288
 -- data bytes of a chunk
 abbrev pub most-k : ℕ
 most-k = 207
+
+-- "k 0 or over 207": no chunk has k data bytes
+unfoldable pub badK : ℕ → Bool
+badK k = eqb k 0 || ltb most-k k
 
 -- parity bytes of a chunk (clause 7.2.1: p = 48)
 abbrev pub parity : ℕ

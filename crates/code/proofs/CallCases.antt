@@ -3,14 +3,14 @@ use mathlib.Core.Path.{_≡_, refl, sym, ap, ap₂, _∙_, subst}
 use mathlib.Core.Bool.{Bool, true, false, not, _||_}
 use mathlib.Core.List.{List, [], _∷_, _++_, append-nil}
 use Prim.Native.Nat.{ℕ, zero, suc, _+_, _-_, _*_, _≤_, _<_}
-use native.Mathlib.Nat.{pos-of-ne-zero, zero-mul, suc-mul, add-comm}
+use native.Mathlib.Nat.{zero-mul, suc-mul, add-comm}
 use native.Mathlib.Omega.{arith}
-use borrow.Author.Tests.{ltb-false, eqb-false, lt-ltb, le-ltb}
+use borrow.Author.Tests.{ltb-false, lt-ltb, le-ltb}
 use lib.Dec.{ltb, eqb, lit<, eqb→eq}
 use lib.ListN.{length, take, drop, replicate, length-replicate, length-drop, take-append-drop, replicate-append-replicate, drop-of-length-le, length-append}
 use lib.Seq.{take-at, drop-at, take-append-add, drop-drop}
 use Rattle.base.specs.Answer.{granted, refused, answered, Outcome, outcome, settled}
-use Rattle.base.specs.Bounds.{most-k, place, parity}
+use Rattle.base.specs.Bounds.{badK, place, parity}
 use Rattle.base.specs.Bytes.{splice}
 use Rattle.base.specs.Tests.{first}
 use Rattle.base.specs.Written.{numberOf, putFault, putOf}
@@ -25,7 +25,7 @@ use Rattle.codeword.proofs.Encoder.{length-parity}
 use Rattle.code.specs.Block.{part, Encoded}
 use Rattle.code.specs.Fill.{Fills, filledOf}
 use Rattle.codeword.specs.Code.{parityOf, encode}
-use Rattle.code.specs.Calls.{badSize, parityFault, parityCall, overPlace, misfits, encodeFault, encodeCall, badPair, chunkFault, ChunkFilled}
+use Rattle.code.specs.Calls.{parityFault, parityCall, overPlace, misfits, encodeFault, encodeCall, badPair, chunkFault, ChunkFilled}
 use Rattle.code.specs.Calls as calls
 use Rattle.code.specs.declared.Answer.{Answer}
 use Rattle.code.specs.declared.Answer.the-variants as answers
@@ -33,15 +33,6 @@ use Rattle.code.specs.declared.Filled.{Filled}
 use Rattle.code.specs.declared.Filled.the-variants.{Done, Nothing, NotEnough, Refused}
 
 -- ---- what the tests tell
-
-module _ (k : ℕ) (fine : badSize k ≡ false) where
-  pub size-some : 0 < k
-  unfolding badSize
-  size-some = pos-of-ne-zero (eqb-false _ _ (or-left (eqb k 0) _ fine))
-
-  pub size-most : k ≤ most-k
-  unfolding badSize
-  size-most = ltb-false _ _ (or-right (eqb k 0) _ fine)
 
 pub within-place : (k c : ℕ) → overPlace k c ≡ false → c * (k + 48) ≤ place
 unfolding overPlace
@@ -59,16 +50,16 @@ fits-chunks l k c fine = ltb-false (c * k) l (or-left (ltb (c * k) l) _ fine)
 -- ---- the parity of a chunk
 
 module _ (chunk out : List ℕ) where
-  pub parity-size : badSize (length chunk) ≡ true → outcome (refused 8) out ≡ parityCall chunk out
+  pub parity-size : badK (length chunk) ≡ true → outcome (refused 8) out ≡ parityCall chunk out
   unfolding parityCall parityFault
   parity-size e = leaves 8 _ _ _ _ (lit< tt) (due 8 _ e)
 
-  pub parity-put : {y : Outcome} (p : List ℕ) → badSize (length chunk) ≡ false → length p ≡ 48 → p ≡ parityOf chunk → y ≡ putOf out 0 p → y ≡ parityCall chunk out
+  pub parity-put : {y : Outcome} (p : List ℕ) → badK (length chunk) ≡ false → length p ≡ 48 → p ≡ parityOf chunk → y ≡ putOf out 0 p → y ≡ parityCall chunk out
   unfolding parityCall parityFault putOf putFault
   parity-put p fine long e q =
       q
       ∙ ap (λ (n : ℕ). settled n [] (splice out 0 p) out) (ap (λ (n : ℕ). first ((ltb (length out) n, 1) ∷ [])) (omega arith) ∙ skip 8 _ fine refl)
-      ∙ ap (λ (l : List ℕ). settled (first ((badSize (length chunk), 8) ∷ (ltb (length out) parity, 1) ∷ [])) [] (splice out 0 l) out) e
+      ∙ ap (λ (l : List ℕ). settled (first ((badK (length chunk), 8) ∷ (ltb (length out) parity, 1) ∷ [])) [] (splice out 0 l) out) e
 
 -- ---- the block of a packet
 
@@ -152,11 +143,11 @@ block-lent out new block n size e =
     ap (λ (x : ℕ). new ++ drop x out) z ∙ ap (λ (l : List ℕ). l ++ drop (0 + length l) out) e
 
 module _ (packet out : List ℕ) (k c : ℕ) where
-  pub encode-size : badSize k ≡ true → outcome (refused 8) out ≡ encodeCall packet k c out
+  pub encode-size : badK k ≡ true → outcome (refused 8) out ≡ encodeCall packet k c out
   unfolding encodeCall encodeFault
   encode-size e = leaves 8 _ _ _ _ (lit< tt) (due 8 _ e)
 
-  module _ (sized : badSize k ≡ false) where
+  module _ (sized : badK k ≡ false) where
     pub encode-place : overPlace k c ≡ true → outcome (refused 8) out ≡ encodeCall packet k c out
     unfolding encodeCall encodeFault
     encode-place e = leaves 8 _ _ _ _ (lit< tt) (skip 8 _ sized (due 8 _ e))
@@ -197,13 +188,13 @@ module _ (k : ℕ) (mask c : List ℕ) where
   chunk-refused e = record { number = refuses 8 _ _ (lit< tt) (due 8 _ e); left = refl }
 
   module _ (fine : badPair k (length mask) (length c) ≡ false) where
-    pub pair-size : badSize k ≡ false
+    pub pair-size : badK k ≡ false
     unfolding badPair
-    pair-size = or-left (badSize k) _ fine
+    pair-size = or-left (badK k) _ fine
 
     lengths : (not (eqb (length mask) (k + parity)) || not (eqb (length c) (k + parity))) ≡ false
     unfolding badPair
-    lengths = or-right (badSize k) _ fine
+    lengths = or-right (badK k) _ fine
 
     equal : (a b : ℕ) → not (eqb a b) ≡ false → a ≡ b
     equal a b e = eqb→eq a b (truth (eqb a b) e)

@@ -11,6 +11,7 @@ use lib.ListN.{length, take, drop, take-append-drop}
 use lib.Seq.{drop-drop}
 use Rattle.base.specs.Answer.{granted, refused, answered}
 use Rattle.base.specs.Bounds.{parity}
+use Rattle.base.proofs.ChunkSize.{k-most}
 use Rattle.base.proofs.Firsts.{clear, clear-rest}
 use Rattle.cut.specs.Block.{chunkOf}
 use Rattle.cut.specs.Missing.{suffice}
@@ -22,7 +23,7 @@ use Rattle.code.specs.Fill.{Agrees}
 use Rattle.code.specs.Calls.{numberOf, valuesOf, badPair, chunkFault, ChunkFilled, lostCells, fillFault, BlockFilled}
 use Rattle.code.specs.declared.Filled.{Filled}
 use Rattle.code.specs.declared.Filled.the-variants.{Done, Nothing, NotEnough, Refused}
-use Rattle.code.proofs.CallCases.{granted-by, refused-by, size-most, pair-size, pair-mask}
+use Rattle.code.proofs.CallCases.{granted-by, refused-by, pair-size, pair-mask}
 use Rattle.code.proofs.FillLaws.{one-filling}
 use Rattle.code.proofs.CellLaws.{length-lost, part-lost, few-lost}
 
@@ -70,7 +71,7 @@ module _ (k : ℕ) (mask c v w : List ℕ) where
   unfolding numberOf
   one-chunk-filled Done Done a b =
       let fine : badPair k (length mask) (length c) ≡ false = no-fault (granted-by _ _ _ (a .number) .0) in
-      (refl, one-filling k mask c v w (size-most k (pair-size k mask c fine)) (pair-mask k mask c fine) (a .left .0) (a .left .1) (b .left .1))
+      (refl, one-filling k mask c v w (k-most k (pair-size k mask c fine)) (pair-mask k mask c fine) (a .left .0) (a .left .1) (b .left .1))
   one-chunk-filled Done Nothing a b = absurd (b .left .1 v (a .left .1))
   one-chunk-filled Done NotEnough a b = absurd (omega (arith, a .left .0, b .left .0))
   one-chunk-filled Done (Refused n) a b = absurd (not-both _ _ _ _ _ (a .number) (b .number))

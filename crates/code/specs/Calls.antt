@@ -5,7 +5,7 @@ use mathlib.Core.List.{List, [], _∷_}
 use Prim.Native.Nat.{ℕ, _+_, _-_, _*_, _<_}
 use lib.Dec.{leb, ltb, eqb}
 use lib.ListN.{length, drop}
-use Rattle.base.specs.Bounds.{most-k, place, parity}
+use Rattle.base.specs.Bounds.{badK, place, parity}
 use Rattle.base.specs.Tests.{first, bit}
 use Rattle.base.specs.Answer.{Answer, granted, refused, answered, Outcome, settled}
 use Rattle.base.specs.Bytes.{splice}
@@ -20,13 +20,9 @@ use Rattle.code.specs.Fill.{Agrees, ChunkAfter}
 use Rattle.code.specs.declared.Filled.{Filled}
 use Rattle.code.specs.declared.Filled.the-variants.{Done, Nothing, NotEnough, Refused}
 
--- document 01, 8 SIZE: k is 0 or over 207
-unfoldable pub badSize : ℕ → Bool
-badSize k = eqb k 0 || ltb most-k k
-
 -- document 01: what the parity of k bytes is refused for, with `room` bytes lent: 8 SIZE, 1 ROOM
 unfoldable pub parityFault : ℕ → ℕ → ℕ
-parityFault k room = first ((badSize k, 8) ∷ (ltb room parity, 1) ∷ [])
+parityFault k room = first ((badK k, 8) ∷ (ltb room parity, 1) ∷ [])
 
 -- else the parity stands at the front of out (clause 7.3.1)
 unfoldable pub parityCall : List ℕ → List ℕ → Outcome
@@ -42,7 +38,7 @@ misfits l k c = ltb (c * k) l || leb k (c * k - l)
 
 -- document 01: what the block of a packet of l bytes is refused for, with `room` bytes lent: 8 SIZE, 1 ROOM
 unfoldable pub encodeFault : ℕ → ℕ → ℕ → ℕ → ℕ
-encodeFault l k c room = first ((badSize k, 8) ∷ (overPlace k c, 8) ∷ (misfits l k c, 8) ∷ (ltb room (c * (k + parity)), 1) ∷ [])
+encodeFault l k c room = first ((badK k, 8) ∷ (overPlace k c, 8) ∷ (misfits l k c, 8) ∷ (ltb room (c * (k + parity)), 1) ∷ [])
 
 -- else the block of the packet and its zeros stands at the front of out (clause 7.3.1)
 unfoldable pub encodeCall : List ℕ → ℕ → ℕ → List ℕ → Outcome
@@ -65,7 +61,7 @@ numberOf (Refused n) = refused n
 
 -- document 01, 8 SIZE: k is no chunk's size, or mask and chunk have not k + 48 bytes
 unfoldable pub badPair : ℕ → ℕ → ℕ → Bool
-badPair k mask chunk = badSize k || (not (eqb mask (k + parity)) || not (eqb chunk (k + parity)))
+badPair k mask chunk = badK k || (not (eqb mask (k + parity)) || not (eqb chunk (k + parity)))
 
 -- document 01: what the filling of a chunk is refused for: 8 SIZE
 unfoldable pub chunkFault : ℕ → ℕ → ℕ → ℕ

@@ -19,7 +19,7 @@ pub use receiver::fill_chunk;
 pub use sender::encode;
 pub use sender::parity;
 ghost use mathlib.Core.Path.{_≡_};
-ghost use Rattle.code.specs.Calls.{badSize};
+ghost use Rattle.base.specs.Bounds.{badK};
 
 // What became of missing bytes: all are filled in; no word of the code has the bytes that are there; too many are missing; or the
 // number of the refusal, and then nothing was changed.
@@ -39,7 +39,7 @@ enum Answer {
 
 // Whether k is no count of data bytes of a chunk.
 fn bad_size(k: usize) -> bool
-    ensures { λ r. ⌜ r ≡ badSize k ⌝ }
+    ensures { λ r. ⌜ r ≡ badK k ⌝ }
 {
     if k == 0 {
         return true;

@@ -7,9 +7,10 @@ use native.Mathlib.Nat.{zero-mul, div-eq-of-lt, div-lt-iff-lt-mul, pos-of-ne-zer
 use native.Mathlib.Decide.{decLt}
 use native.Mathlib.Omega.{arith}
 use borrow.Author.Tests.{ltb-false, ne-eqb, le-ltb}
-use lib.Dec.{ltb, eqb}
+use lib.Dec.{ltb}
 use Rattle.base.specs.Answer.{granted, refused, answered}
-use Rattle.base.specs.Bounds.{most-f, most-k, place, parity}
+use Rattle.base.specs.Bounds.{most-f, most-k, badK, place, parity}
+use Rattle.base.proofs.ChunkSize.{k-fits}
 use Rattle.base.proofs.Firsts.{skip, none-due, clear, clear-rest}
 use Rattle.base.proofs.Logic.{or-right}
 use Rattle.cut.specs.Sizes.{receivedC}
@@ -54,7 +55,7 @@ module _ {f s k z : ℕ} (g : Figures f s k z) where
 
     sound : badChunk f s k ≡ false
     unfolding badChunk
-    sound = rw (ne-eqb k 0 (λ e. omega (arith, g .some)), le-ltb most-k k (g .small), le-ltb (f * s) (k + parity) some)
+    sound = rw (k-fits k (λ e. omega (arith, g .some)) (g .small), le-ltb (f * s) (k + parity) some)
 
     pub some-chunk : 0 < receivedC f s k
     unfolding receivedC
@@ -96,4 +97,4 @@ module _ {f s k z : ℕ} (g : Figures f s k z) where
       let a = clear-rest (badCount f) 7 ((tooMuch f s, 8) ∷ (badChunk f s k, 8) ∷ rest) (λ z. omega arith) none in
       let b = clear-rest (tooMuch f s) 8 ((badChunk f s k, 8) ∷ rest) (λ z. omega arith) a in
       ltb-false (f * s) (k + parity)
-      (or-right (ltb most-k k) _ (or-right (eqb k 0) _ (clear (badChunk f s k) 8 rest (λ z. omega arith) b)))
+      (or-right (badK k) _ (clear (badChunk f s k) 8 rest (λ z. omega arith) b))

@@ -8,9 +8,10 @@ use native.Mathlib.Omega.{arith}
 use borrow.Author.Tests.{ltb-false, leb-false, eqb-false, le-ltb, lt-leb, eq-eqb, ne-eqb}
 use lib.Dec.{ltb, leb, eqb}
 use lib.ListN.{length, take}
-use Rattle.base.specs.Bounds.{most-f, most-k, place, parity}
+use Rattle.base.specs.Bounds.{most-f, most-k, badK, place, parity}
 use Rattle.base.specs.Bytes.{numberAt}
 use Rattle.base.specs.Tests.{first}
+use Rattle.base.proofs.ChunkSize.{k-fits}
 use Rattle.base.proofs.Firsts.{skip, none-due, clear, clear-rest}
 use Rattle.base.proofs.Logic.{either, or-left, or-right, same, other, same-from}
 use Rattle.crc.specs.Crc.{wordOf}
@@ -18,8 +19,8 @@ use Rattle.cut.specs.declared.Address.{Address}
 use Rattle.weave.specs.Calls.{badCount, tooMuch, badChunk}
 use Rattle.weave.proofs.CallCases.{f-most, fits-place, chunk-some}
 use Rattle.header.specs.declared.Header.{Header}
-use Rattle.header.specs.Read.{addressOf, fieldsOf, bodyLength, lengthOf, isShort, notSync, badCrc, badLength, badAddress, badIndex, badSize, faultOf}
 use Rattle.header.specs.Header.{sync}
+use Rattle.header.specs.Read.{addressOf, fieldsOf, bodyLength, lengthOf, isShort, notSync, badCrc, badLength, badAddress, badIndex, badSize, faultOf}
 use Rattle.header.proofs.Fields.{no-chunk}
 
 -- ---- the tests from each number on
@@ -115,14 +116,14 @@ module _ (f s k z : ℕ) where
   unfolding badChunk
   chunk-from e =
       let fine : badChunk f s k ≡ false = or-left (badChunk f s k) _ e in
-      let long : ltb (f * s) (k + parity) ≡ false = or-right (ltb most-k k) _ (or-right (eqb k 0) _ fine) in
+      let long : ltb (f * s) (k + parity) ≡ false = or-right (badK k) _ fine in
       (chunk-some f s k fine .0, chunk-some f s k fine .1, leb-false k z (or-right (badChunk f s k) _ e), ltb-false (f * s) (k + parity) long)
 
   fit-chunk : Chunk f s k z → (badChunk f s k || leb k z) ≡ false
   unfolding badChunk
   fit-chunk c =
       rw
-      (ne-eqb k 0 (λ e. omega (arith, c .0)), le-ltb most-k k (c .1), le-ltb (f * s) (k + parity) (c .3), lt-leb k z (c .2))
+      (k-fits k (λ e. omega (arith, c .0)) (c .1), le-ltb (f * s) (k + parity) (c .3), lt-leb k z (c .2))
 
 module _ (h : Header) where
   pub size-from : badSize h ≡ false → (h .count * h .plen ≤ place) × (h .fec ≡ true → Chunk (h .count) (h .plen) (h .rsk) (h .rsz))

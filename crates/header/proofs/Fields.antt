@@ -10,6 +10,7 @@ use lib.Dec.{ltb, leb, eqb}
 use lib.ListN.{length, getD, take}
 use Rattle.base.specs.Bounds.{most-f, most-k, place, parity}
 use Rattle.base.specs.Bytes.{numberAt}
+use Rattle.base.proofs.ChunkSize.{k-none, k-over, k-fits}
 use Rattle.crc.specs.Crc.{wordOf}
 use Rattle.cut.specs.Sizes.{addressBytes}
 use Rattle.cut.specs.declared.Address.{Address}
@@ -143,21 +144,21 @@ module _ (h : Header) where
 module _ (f s k z : ℕ) where
   pub chunk-none : k ≡ 0 → true ≡ (badChunk f s k || leb k z)
   unfolding badChunk
-  chunk-none e = rw (eq-eqb k 0 e)
+  chunk-none e = rw (k-none k e)
 
   module _ (some : k ≡ 0 → ⊥) where
     pub chunk-over : most-k < k → true ≡ (badChunk f s k || leb k z)
     unfolding badChunk
-    chunk-over over = rw (ne-eqb k 0 some, lt-ltb most-k k over)
+    chunk-over over = rw (k-over k some over)
 
     module _ (most : k ≤ most-k) where
       pub chunk-less : f * s < k + parity → true ≡ (badChunk f s k || leb k z)
       unfolding badChunk
-      chunk-less less = rw (ne-eqb k 0 some, le-ltb most-k k most, lt-ltb (f * s) (k + parity) less)
+      chunk-less less = rw (k-fits k some most, lt-ltb (f * s) (k + parity) less)
 
       pub chunk-rest : k + parity ≤ f * s → leb k z ≡ (badChunk f s k || leb k z)
       unfolding badChunk
-      chunk-rest room = rw (ne-eqb k 0 some, le-ltb most-k k most, le-ltb (f * s) (k + parity) room)
+      chunk-rest room = rw (k-fits k some most, le-ltb (f * s) (k + parity) room)
 
 -- ---- the answer
 

@@ -5,7 +5,8 @@ use Prim.Native.Nat.{ℕ, _*_, _≤_, _<_}
 use borrow.Author.Tests.{eq-eqb, ne-eqb, le-leb, lt-leb, lt-ltb, le-ltb}
 use lib.Dec.{ltb, leb, eqb}
 use lib.ListN.{getD}
-use Rattle.base.specs.Bounds.{most-f, most-k, place}
+use Rattle.base.specs.Bounds.{most-f, most-k, badK, place}
+use Rattle.base.proofs.ChunkSize as size
 use Rattle.base.proofs.Firsts.{due, skip, none-due}
 use Rattle.base.proofs.Logic.{same, other, hit, pass}
 use Rattle.header.specs.declared.Header.{Header}
@@ -18,7 +19,7 @@ use Rattle.places.specs.Faults.{badFigures, badCode, badPlace, badTable,
 
 -- k and z that are no chunk's
 abbrev chunk-test : ℕ → ℕ → Bool
-chunk-test k z = eqb k 0 || (ltb most-k k || leb k z)
+chunk-test k z = badK k || leb k z
 
 module _ (p : Place) where
   pub count-over : most-f < p .count → true ≡ badFigures p
@@ -59,14 +60,14 @@ module _ (p : Place) where
     chunk-told e = e ∙ ap (λ (b : Bool). b && chunk-test (p .rsk) (p .rsz)) (sym coded)
 
     pub k-none : p .rsk ≡ 0 → true ≡ badCode p
-    k-none e = chunk-told (hit _ (eq-eqb (p .rsk) 0 e))
+    k-none e = chunk-told (hit _ (size.k-none (p .rsk) e))
 
     module _ (some : p .rsk ≡ 0 → ⊥) where
       pub k-over : most-k < p .rsk → true ≡ badCode p
-      k-over h = chunk-told (pass (ne-eqb (p .rsk) 0 some) (hit _ (lt-ltb most-k (p .rsk) h)))
+      k-over h = chunk-told (hit _ (size.k-over (p .rsk) some h))
 
       pub z-over : p .rsk ≤ most-k → leb (p .rsk) (p .rsz) ≡ badCode p
-      z-over h = chunk-told (pass (ne-eqb (p .rsk) 0 some) (pass (le-ltb most-k (p .rsk) h) refl))
+      z-over h = chunk-told (pass (size.k-fits (p .rsk) some h) refl)
 
   pub condition-over : spoiled < p .condition → true ≡ badPlace p
   unfolding badPlace

@@ -2,11 +2,12 @@
 use mathlib.Core.Path.{_≡_, refl, sym, ap, _∙_, subst}
 use mathlib.Core.Bool.{Bool, true, false, not, cond, Bool·beq, _&&_, _||_}
 use Prim.Native.Nat.{ℕ, _+_, _*_, _≤_, _<_}
-use native.Mathlib.Nat.{pos-of-ne-zero, mul-zero, mul-le-mul-right}
+use native.Mathlib.Nat.{mul-zero, mul-le-mul-right}
 use native.Mathlib.Omega.{arith}
 use borrow.Author.Tests.{eqb-true, eqb-false, ltb-false, leb-false, ne-eqb, le-ltb, lt-leb, not-false, not-true}
 use lib.Dec.{ltb, leb, eqb}
-use Rattle.base.specs.Bounds.{most-f, most-k, place}
+use Rattle.base.specs.Bounds.{most-f, most-k, badK, place}
+use Rattle.base.proofs.ChunkSize.{k-fits, k-some, k-most}
 use Rattle.base.proofs.Firsts.{clear}
 use Rattle.base.proofs.Logic.{either, clash, or-left, or-right}
 use Rattle.header.specs.declared.Header.{Header}
@@ -58,11 +59,8 @@ module _ (p : Place) where
   unfolding badCode
   chunk-from e f =
       let e₀ = and-then (p .fec) _ e f in
-      let e₁ = or-right (eqb (p .rsk) 0) _ e₀ in (
-        pos-of-ne-zero (eqb-false (p .rsk) 0 (or-left (eqb (p .rsk) 0) _ e₀)),
-        ltb-false most-k (p .rsk) (or-left (ltb most-k (p .rsk)) _ e₁),
-        leb-false (p .rsk) (p .rsz) (or-right (ltb most-k (p .rsk)) _ e₁),
-      )
+      let sized = or-left (badK (p .rsk)) _ e₀ in
+      (k-some (p .rsk) sized, k-most (p .rsk) sized, leb-false (p .rsk) (p .rsz) (or-right (badK (p .rsk)) _ e₀))
 
   pub range-from : badPlace p ≡ false → InRange p
   unfolding badFigures
@@ -93,8 +91,7 @@ module _ (p : Place) where
       (and-not (p .fec) _
       (λ e.
       let c = r .coded e in
-      or-not (ne-eqb (p .rsk) 0 (λ z. omega (arith, c .0)))
-      (or-not (le-ltb most-k (p .rsk) (c .1)) (lt-leb (p .rsk) (p .rsz) (c .2))))))
+      or-not (k-fits (p .rsk) (λ z. omega (arith, c .0)) (c .1)) (lt-leb (p .rsk) (p .rsz) (c .2)))))
 
 -- ---- a fragment that may be kept in a place
 

@@ -4,7 +4,7 @@ use mathlib.Core.List.{[], _∷_}
 use Prim.Native.Nat.{ℕ, _*_}
 use lib.Dec.{ltb, leb, eqb}
 use lib.ListN.{getD}
-use Rattle.base.specs.Bounds.{most-f, most-k, place}
+use Rattle.base.specs.Bounds.{most-f, badK, place}
 use Rattle.base.specs.Tests.{first}
 use Rattle.header.specs.declared.Header.{Header}
 use Rattle.places.specs.declared.Place.{Place}
@@ -22,7 +22,7 @@ badFigures p =
 
 -- with FEC, k and z are not those of a chunk
 unfoldable pub badCode : Place → Bool
-badCode p = p .fec && (eqb (p .rsk) 0 || (ltb most-k (p .rsk) || leb (p .rsk) (p .rsz)))
+badCode p = p .fec && (badK (p .rsk) || leb (p .rsk) (p .rsz))
 
 -- 14 STATE: one of a place's fields is out of its range
 unfoldable pub badPlace : Place → Bool

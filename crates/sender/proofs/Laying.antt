@@ -8,10 +8,11 @@ use borrow.Author.Tests.{le-ltb, lt-leb, ne-eqb}
 use lib.ListN.{length, take, drop, length-take, length-drop, drop-of-length-le}
 use lib.Seq.{length-take-le, take-all, take-take, take-length, drop-drop}
 use Rattle.base.specs.Answer.{Answer, granted, outcome, settled}
-use Rattle.base.specs.Bounds.{most-f, most-k, place, parity}
+use Rattle.base.specs.Bounds.{most-f, badK, place, parity}
 use Rattle.base.specs.Bytes.{splice}
 use Rattle.base.specs.Written.{putFault, putOf}
 use Rattle.base.proofs.Answers.{writes}
+use Rattle.base.proofs.ChunkSize.{k-fits}
 use Rattle.base.proofs.Firsts.{skip, none-due}
 use Rattle.base.proofs.Splice.{splice-length, splice-next, splice-start}
 use Rattle.cut.specs.Cells.{fragmentOf, partOf}
@@ -19,7 +20,7 @@ use Rattle.cut.specs.Sizes.{c, k, z, n, h, L, f, s}
 use Rattle.cut.specs.declared.Settings.{Settings}
 use Rattle.cut.specs.declared.Figures.{Figures}
 use Rattle.cut.proofs.PlanCases.{L-fec}
-use Rattle.code.specs.Calls.{badSize, overPlace, misfits, encodeFault, encodeCall}
+use Rattle.code.specs.Calls.{overPlace, misfits, encodeFault, encodeCall}
 use Rattle.code.proofs.CallCases.{length-whole}
 use Rattle.weave.specs.Calls.{badCount, tooMuch, interleaveFault, interleaveOf}
 use Rattle.header.specs.Header.{headerBytes, writeCall}
@@ -58,11 +59,10 @@ length-lent d at = length-take-le (length d - at) (drop at d) (omega (arith, len
 -- ---- the block
 
 module _ (g : Settings) (packet : List ℕ) (p : Figures) (d : Figured g packet p) where
-  size-fine : badSize (k (length packet)) ≡ false
-  unfolding badSize
+  size-fine : badK (k (length packet)) ≡ false
   size-fine =
       let bound = sure g packet (d .passed) in
-      rw (ne-eqb (k (length packet)) 0 (λ (e : k (length packet) ≡ 0). omega (arith, bound .k-least)), le-ltb most-k (k (length packet)) (bound .k-most))
+      k-fits (k (length packet)) (λ (e : k (length packet) ≡ 0). omega (arith, bound .k-least)) (bound .k-most)
 
   misfit-fine : misfits (length packet) (k (length packet)) (c (length packet)) ≡ false
   unfolding misfits

@@ -9,10 +9,11 @@ use borrow.Author.Tests.{ltb-false, eqb-false, le-leb, lt-leb, lt-ltb, le-ltb}
 use lib.Dec.{ltb, eqb, lit<}
 use lib.ListN.{length, getD, replicate, List·getD-eq-default}
 use Rattle.base.specs.Answer.{granted, refused, outcome}
-use Rattle.base.specs.Bounds.{most-f, most-k, place, parity}
+use Rattle.base.specs.Bounds.{most-f, most-k, badK, place, parity}
 use Rattle.base.specs.Bytes.{splice}
 use Rattle.base.specs.Table.{table}
 use Rattle.base.specs.Tests.{bit}
+use Rattle.base.proofs.ChunkSize.{k-some, k-most}
 use Rattle.base.proofs.Answers.{grants, refuses, writes, leaves}
 use Rattle.base.proofs.Firsts.{due, skip, none-due}
 use Rattle.base.proofs.Logic.{or-left, or-right}
@@ -51,7 +52,8 @@ over-place f s fine long =
 pub chunk-some : (f s k : ℕ) → badChunk f s k ≡ false → (0 < k) × (k ≤ most-k)
 unfolding badChunk
 chunk-some f s k fine =
-    (pos-of-ne-zero (eqb-false _ _ (or-left (eqb k 0) _ fine)), ltb-false _ _ (or-left (ltb most-k k) _ (or-right (eqb k 0) _ fine)))
+    let sized = or-left (badK k) _ fine in
+    (k-some k sized, k-most k sized)
 
 -- ---- how many bytes of a fragment lie in the block
 

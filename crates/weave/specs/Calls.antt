@@ -4,7 +4,7 @@ use mathlib.Core.List.{List, [], _∷_}
 use Prim.Native.Nat.{ℕ, _+_, _*_}
 use lib.Dec.{leb, ltb, eqb}
 use lib.ListN.{length, getD}
-use Rattle.base.specs.Bounds.{most-f, most-k, place, parity}
+use Rattle.base.specs.Bounds.{most-f, badK, place, parity}
 use Rattle.base.specs.Tests.{first, bit}
 use Rattle.base.specs.Answer.{Answer, granted, refused, answered, Outcome, settled}
 use Rattle.base.specs.Bytes.{splice}
@@ -24,7 +24,7 @@ tooMuch f s = ltb place (f * s)
 
 -- document 01, 8 SIZE with FEC: k 0 or over 207, Fcount x Plen below k + 48
 unfoldable pub badChunk : ℕ → ℕ → ℕ → Bool
-badChunk f s k = eqb k 0 || (ltb most-k k || ltb (f * s) (k + parity))
+badChunk f s k = badK k || ltb (f * s) (k + parity)
 
 -- what an interleaving is refused for, with `room` bytes lent: 7, 8, 42 INDEX, ROOM
 unfoldable pub interleaveFault : ℕ → ℕ → ℕ → ℕ → ℕ

@@ -1,15 +1,15 @@
 -- `bad_size` meets its contract. Assumes nothing.
 use borrow.Author.Tests.{eq-eqb, ne-eqb}
-use Rattle.code.specs.Calls.{badSize}
+use Rattle.base.specs.Bounds.{badK}
 use Rattle.code.proofs.bad_size.Statement.{statement}
 use Rattle.code.proofs.bad_size.Tie as tie
 
 returns : tie.Need-returns
-unfolding badSize
+unfolding badK
 returns c = rw (eq-eqb (c .before .args .k) 0 (c .if1 .taken))
 
 returns-2 : tie.Need-returns-2
-unfolding badSize
+unfolding badK
 returns-2 c = rw (ne-eqb (c .before .args .k) 0 (c .if1 .left))
 
 pub bad-size-spec : {M : Type 1} → statement M

@@ -3,9 +3,9 @@ use Prim.Native.Nat.{_+_}
 use native.Mathlib.Omega.{arith}
 use borrow.Author.Tests.{eq-eqb, ne-eqb}
 use borrow.Author.Needs.{needs}
+use Rattle.base.proofs.ChunkSize.{k-most}
 use Rattle.base.proofs.Logic.{told}
 use Rattle.code.specs.Calls.{badPair}
-use Rattle.code.proofs.CallCases.{size-most}
 use Rattle.code.proofs.receiver.bad_pair.Statement.{statement}
 use Rattle.code.proofs.receiver.bad_pair.Tie as tie
 
@@ -17,7 +17,7 @@ unfolding badPair
 returns c = rw (told (c .before .bad-size .ensures) (c .if1 .taken))
 
 add-if2 : tie.Need-add-if2
-add-if2 c = omega (arith, size-most (c .before .before .args .k) (told (c .before .bad-size .ensures) (c .if1 .left)))
+add-if2 c = omega (arith, k-most (c .before .before .args .k) (told (c .before .bad-size .ensures) (c .if1 .left)))
 
 returns-2 : tie.Need-returns-2
 unfolding badPair

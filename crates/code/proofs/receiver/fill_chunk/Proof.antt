@@ -1,5 +1,6 @@
 -- `fill_chunk` meets its contract. Assumes nothing.
 use borrow.Author.Needs.{needs}
+use Rattle.base.proofs.ChunkSize.{k-most}
 use Rattle.base.proofs.Logic.{told}
 use Rattle.code.proofs.CallCases as cases
 use Rattle.code.proofs.receiver.fill_chunk.Statement.{statement}
@@ -21,7 +22,7 @@ fill-alone-requires : tie.Need-fill-alone-requires
 fill-alone-requires c κs =
     let fine = told (c .before .before .before .before .before .before .before .bad-pair .ensures) (c .before .before .before .before .before .before .if1 .left) in
     let a = c .before .before .before .before .before .before .before .before .before .before .args in
-    (cases.size-most (a .k) (cases.pair-size (a .k) (a .mask .now) (a .chunk .now) fine), cases.pair-mask (a .k) (a .mask .now) (a .chunk .now) fine, cases.pair-chunk (a .k) (a .mask .now) (a .chunk .now) fine, c .before .before .before .before .make-table .ensures, c .before .before .before .make-roots .ensures)
+    (k-most (a .k) (cases.pair-size (a .k) (a .mask .now) (a .chunk .now) fine), cases.pair-mask (a .k) (a .mask .now) (a .chunk .now) fine, cases.pair-chunk (a .k) (a .mask .now) (a .chunk .now) fine, c .before .before .before .before .make-table .ensures, c .before .before .before .make-roots .ensures)
 
 told-requires : tie.Need-told-requires
 told-requires c κs = search needs

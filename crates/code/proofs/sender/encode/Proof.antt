@@ -8,13 +8,15 @@ use lib.ListN.{length}
 use lib.Seq.{length-take-le}
 use Rattle.base.proofs.Logic.{told}
 use Rattle.base.specs.Written.{numberOf}
-use Rattle.code.specs.Calls.{badSize, overPlace, misfits}
+use Rattle.base.specs.Bounds.{badK}
+use Rattle.base.proofs.ChunkSize.{k-most}
+use Rattle.code.specs.Calls.{overPlace, misfits}
 use Rattle.code.proofs.CallCases as cases
 use Rattle.code.proofs.sender.encode.Statement.{statement}
 use Rattle.code.proofs.sender.encode.Tie as tie
 
 -- what the branches passed have told
-sized : (c : tie.Else1) → badSize (c .before .before .before .before .args .k) ≡ false
+sized : (c : tie.Else1) → badK (c .before .before .before .before .args .k) ≡ false
 sized c = told (c .before .bad-size .ensures) (c .if1 .left)
 
 placed : (c : tie.Else2) → overPlace (c .before .before .before .before .before .before .args .k) (c .before .before .before .before .before .before .args .c) ≡ false
@@ -31,7 +33,7 @@ unfolding numberOf
 returns c = cases.encode-size (c .before .before .before .before .args .packet .now) (c .before .before .before .before .args .out .now) (c .before .before .before .before .args .k) (c .before .before .before .before .args .c) (told (c .before .bad-size .ensures) (c .if1 .taken))
 
 over-place-requires : tie.Need-over-place-requires
-over-place-requires c κs = cases.size-most (c .before .before .before .before .args .k) (sized c)
+over-place-requires c κs = k-most (c .before .before .before .before .args .k) (sized c)
 
 returns-2 : tie.Need-returns-2
 unfolding numberOf
@@ -45,7 +47,7 @@ unfolding numberOf
 returns-3 c = cases.encode-fit (c .before .before .before .before .before .before .before .before .args .packet .now) (c .before .before .before .before .before .before .before .before .args .out .now) (c .before .before .before .before .before .before .before .before .args .k) (c .before .before .before .before .before .before .before .before .args .c) (told (c .before .before .before .before .before .bad-size .ensures) (c .before .before .before .before .if1 .left)) (told (c .before .before .before .over-place .ensures) (c .before .before .if2 .left)) (told (c .before .misfit .ensures) (c .if3 .taken))
 
 add-all : tie.Need-add-all
-add-all c = omega (arith, cases.size-most (c .before .before .before .before .before .before .before .before .args .k) (told (c .before .before .before .before .before .bad-size .ensures) (c .before .before .before .before .if1 .left)))
+add-all c = omega (arith, k-most (c .before .before .before .before .before .before .before .before .args .k) (told (c .before .before .before .before .before .bad-size .ensures) (c .before .before .before .before .if1 .left)))
 
 mul-all : tie.Need-mul-all
 mul-all c = omega (arith, cases.within-place (c .before .before .before .before .before .before .before .before .args .k) (c .before .before .before .before .before .before .before .before .args .c) (told (c .before .before .before .over-place .ensures) (c .before .before .if2 .left)))
@@ -63,7 +65,7 @@ slice-aggregate-write-block c = sym (length-take-le (c .before .before .before .
 write-block-requires : tie.Need-write-block-requires
 write-block-requires c κs =
     let within = cases.within-place (c .before .before .before .before .before .before .before .before .before .before .args .k) (c .before .before .before .before .before .before .before .before .before .before .args .c) (told (c .before .before .before .before .before .over-place .ensures) (c .before .before .before .before .if2 .left)) in
-    (cases.size-most (c .before .before .before .before .before .before .before .before .before .before .args .k) (told (c .before .before .before .before .before .before .before .bad-size .ensures) (c .before .before .before .before .before .before .if1 .left)), cases.fits-chunks (length (c .before .before .before .before .before .before .before .before .before .before .args .packet .now)) (c .before .before .before .before .before .before .before .before .before .before .args .k) (c .before .before .before .before .before .before .before .before .before .before .args .c) (told (c .before .before .before .misfit .ensures) (c .before .before .if3 .left)), omega (arith, within), length-take-le (c .before .before .before .before .before .before .before .before .before .before .args .c * (c .before .before .before .before .before .before .before .before .before .before .args .k + 48)) (c .before .before .before .before .before .before .before .before .before .before .args .out .now) (c .before .if4 .left))
+    (k-most (c .before .before .before .before .before .before .before .before .before .before .args .k) (told (c .before .before .before .before .before .before .before .bad-size .ensures) (c .before .before .before .before .before .before .if1 .left)), cases.fits-chunks (length (c .before .before .before .before .before .before .before .before .before .before .args .packet .now)) (c .before .before .before .before .before .before .before .before .before .before .args .k) (c .before .before .before .before .before .before .before .before .before .before .args .c) (told (c .before .before .before .misfit .ensures) (c .before .before .if3 .left)), omega (arith, within), length-take-le (c .before .before .before .before .before .before .before .before .before .before .args .c * (c .before .before .before .before .before .before .before .before .before .before .args .k + 48)) (c .before .before .before .before .before .before .before .before .before .before .args .out .now) (c .before .if4 .left))
 
 same-length : tie.Need-same-length
 same-length c = search needs

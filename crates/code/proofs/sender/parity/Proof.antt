@@ -3,6 +3,7 @@ use borrow.Author.Needs.{needs}
 use lib.ListN.{length}
 use Rattle.base.proofs.Logic.{told}
 use Rattle.base.specs.Written.{numberOf}
+use Rattle.base.proofs.ChunkSize.{k-most}
 use Rattle.code.proofs.CallCases as cases
 use Rattle.code.proofs.sender.parity.Statement.{statement}
 use Rattle.code.proofs.sender.parity.Tie as tie
@@ -18,7 +19,7 @@ make-table-requires : tie.Need-make-table-requires
 make-table-requires c κs = search needs
 
 parity-of-requires : tie.Need-parity-of-requires
-parity-of-requires c κs = (cases.size-most (length (c .before .before .before .before .before .before .before .args .chunk .now)) (told (c .before .before .before .before .bad-size .ensures) (c .before .before .before .if1 .left)), c .before .make-table .ensures)
+parity-of-requires c κs = (k-most (length (c .before .before .before .before .before .before .before .args .chunk .now)) (told (c .before .before .before .before .bad-size .ensures) (c .before .before .before .if1 .left)), c .before .make-table .ensures)
 
 slice-aggregate-put : tie.Need-slice-aggregate-put
 slice-aggregate-put c = search needs

@@ -1,20 +1,19 @@
 -- `bad_chunk` meets its contract. Assumes nothing.
-use borrow.Author.Tests.{eq-eqb, ne-eqb, lt-ltb, le-ltb}
 use borrow.Author.Needs.{needs}
-use Rattle.base.specs.Bounds.{most-k}
+use Rattle.base.proofs.ChunkSize.{k-none, k-over, k-fits}
 use Rattle.weave.specs.Calls.{badChunk}
 use Rattle.weave.proofs.tally.bad_chunk.Statement.{statement}
 use Rattle.weave.proofs.tally.bad_chunk.Tie as tie
 
 returns : tie.Need-returns
 unfolding badChunk
-returns c = rw (eq-eqb (c .before .args .k) 0 (c .if1 .taken))
+returns c = rw (k-none (c .before .args .k) (c .if1 .taken))
 
 returns-2 : tie.Need-returns-2
 unfolding badChunk
 returns-2 c =
     let a = c .before .before .args in
-    rw (ne-eqb (a .k) 0 (c .before .if1 .left), lt-ltb most-k (a .k) (c .if2 .taken))
+    rw (k-over (a .k) (c .before .if1 .left) (c .if2 .taken))
 
 mul-result : tie.Need-mul-result
 mul-result c = search needs
@@ -26,7 +25,7 @@ returns-3 : tie.Need-returns-3
 unfolding badChunk
 returns-3 c =
     let a = c .before .before .args in
-    rw (ne-eqb (a .k) 0 (c .before .if1 .left), le-ltb most-k (a .k) (c .if2 .left))
+    rw (k-fits (a .k) (c .before .if1 .left) (c .if2 .left))
 
 pub bad-chunk-spec : {M : Type 1} → statement M
 bad-chunk-spec = tie.close (tie.spec returns returns-2 mul-result add-result returns-3)
