@@ -53,7 +53,7 @@ impl Split {
         (self.f - 1) * (self.h + self.s) + self.h + self.last
     }
 
-    /// The fragments, in the bytes that they were written to.
+    /// The fragments, in the bytes that they were written to. Panics where `out` has fewer bytes than they take.
     pub fn parts<'a>(&self, out: &'a [u8]) -> core::slice::Chunks<'a, u8> {
         out[..self.total()].chunks(self.h + self.s)
     }
