@@ -57,8 +57,9 @@ extern "C" {
  * else is done. What is 0 or not 0 counts as no or yes.
  *
  * The calls keep no pointer and no state of their own: those on different buffers may run at once, and a table is for one call at a time.
- * A slice may stand at any address. Each call takes less than 64 KiB of stack, as c/run stack measures. The library is x86-64 code by the
- * System V convention, with a size_t of 64 bits.
+ * A slice may stand at any address. Each call takes less than 64 KiB of stack, as c/run stack measures, memcpy and memset aside: where these
+ * are bound when they are first called, that call can take some KiB more. The library is x86-64 code by the System V convention, with a
+ * size_t of 64 bits.
  */
 
 /* The AF layer. */
