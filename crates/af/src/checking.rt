@@ -11,9 +11,9 @@ use base::MOST_L;
 ghost use mathlib.Core.Path.{_≡_};
 ghost use Prim.Native.Nat.{_≤_};
 ghost use lib.ListN.{length};
-ghost use Rattle.base.specs.Bounds.{least-l};
-ghost use Rattle.af.specs.Packet.{arOf, cfOf};
-ghost use Rattle.af.specs.Calls.{badLength, badCrc, afFault, checkCall, numberOf};
+ghost use Rattle.base_rules.specs.Bounds.{least-l};
+ghost use Rattle.af_rules.specs.Packet.{arOf, cfOf};
+ghost use Rattle.af_rules.specs.Calls.{badLength, badCrc, afFault, checkCall, numberOf};
 
 // Where the fields stand that follow "AF".
 const LEN_AT: usize = 2;

@@ -2,11 +2,13 @@
 mod checking;
 mod wrapping;
 
+pub use af_rules::Checked;
+pub use af_rules::Figures;
 use base::LEAST_L;
 pub use checking::check;
 pub use wrapping::wrap;
 ghost use mathlib.Core.Path.{_≡_};
-ghost use Rattle.af.specs.Packet.{payloadOf, crcFor};
+ghost use Rattle.af_rules.specs.Packet.{payloadOf, crcFor};
 
 // The bytes before the payload, and those of the CRC behind it.
 const HEADER: usize = 10;
@@ -19,20 +21,6 @@ const SYNC: u16 = 16710;
 const PT: u8 = b'T';
 // The major revision that is written and read.
 const MAJOR: u8 = 1;
-
-// What a checked packet says of itself: LEN counts the payload.
-pub struct Figures {
-    pub seq: u16,
-    pub cf: bool,
-    pub minor: u8,
-    pub len: u32,
-}
-
-// The answer to a check.
-pub enum Checked {
-    Packet(Figures),
-    Refused(u8),
-}
 
 // The CRC field of a packet with these bytes in front of it: their CRC where CF is set, else 0000.
 fn crc_for(cf: bool, covered: &[u8]) -> u16

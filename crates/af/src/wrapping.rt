@@ -11,11 +11,11 @@ ghost use mathlib.Core.Path.{_≡_};
 ghost use mathlib.Core.List.{_++_};
 ghost use Prim.Native.Nat.{_+_, _≤_};
 ghost use lib.ListN.{length, take};
-ghost use Rattle.base.specs.Answer.{outcome};
-ghost use Rattle.base.specs.Bytes.{splice, bytesOf};
-ghost use Rattle.base.specs.Written.{numberOf};
-ghost use Rattle.af.specs.Packet.{headerBytes, crcBytes, most-payload, arWith, headerOf, crcFor};
-ghost use Rattle.af.specs.Calls.{wrapCall};
+ghost use Rattle.base_rules.specs.Answer.{outcome};
+ghost use Rattle.base_rules.specs.Bytes.{splice, bytesOf};
+ghost use Rattle.base_rules.specs.Written.{numberOf};
+ghost use Rattle.af_rules.specs.Packet.{headerBytes, crcBytes, most-payload, arWith, headerOf, crcFor};
+ghost use Rattle.af_rules.specs.Calls.{wrapCall};
 
 // The minor revision that is written.
 const MINOR: u8 = 0;

@@ -1,33 +1,19 @@
 // What every layer shares: the bounds of document 01, big-endian numbers, and copying into a part of a buffer.
+pub use base_rules::LEAST_L;
+pub use base_rules::MOST_F;
+pub use base_rules::MOST_K;
+pub use base_rules::MOST_L;
+pub use base_rules::MOST_M;
+pub use base_rules::MOST_MTU;
+pub use base_rules::PARITY;
+pub use base_rules::PLACE;
+pub use base_rules::Written;
 ghost use mathlib.Core.Path.{_≡_};
 ghost use Prim.Native.Nat.{_%_, _<_};
 ghost use lib.ListN.{getD};
-ghost use Rattle.base.specs.Answer.{outcome};
-ghost use Rattle.base.specs.Bytes.{numberAt, bytesOf};
-ghost use Rattle.base.specs.Written.{numberOf, putOf};
-
-// The bounds; specs/Bounds.antt says what each is.
-pub const LEAST_L: usize = 12;
-
-pub const MOST_L: usize = 8192;
-
-pub const MOST_F: usize = 256;
-
-pub const PLACE: usize = 12288;
-
-pub const MOST_K: usize = 207;
-
-pub const PARITY: usize = 48;
-
-pub const MOST_M: usize = 5;
-
-pub const MOST_MTU: usize = 16384;
-
-// The answer of a call that writes: all was written, or the number of the refusal, and then nothing was.
-pub enum Written {
-    Done,
-    Refused(u8),
-}
+ghost use Rattle.base_rules.specs.Answer.{outcome};
+ghost use Rattle.base_rules.specs.Bytes.{numberAt, bytesOf};
+ghost use Rattle.base_rules.specs.Written.{numberOf, putOf};
 
 // The byte at i, and 0 past the end.
 pub fn byte_at(s: &[u8], i: usize) -> u8

@@ -3,9 +3,9 @@ use crate::written_number;
 use base::MOST_F;
 use code::Filled;
 ghost use mathlib.Core.Path.{_≡_};
-ghost use Rattle.code.specs.Calls.{encodeCall};
-ghost use Rattle.card.specs.Told.{CardWritten};
-ghost use Rattle.card.specs.Blocks.{isKept, keptOf, filledNumber, CardFilled};
+ghost use Rattle.code_rules.specs.Calls.{encodeCall};
+ghost use Rattle.card_rules.specs.Told.{CardWritten};
+ghost use Rattle.card_rules.specs.Blocks.{isKept, keptOf, filledNumber, CardFilled};
 
 // The number of a filling's answer; no refusal has 256 or 257.
 fn filled_number(a: Filled) -> usize

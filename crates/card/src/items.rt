@@ -7,11 +7,11 @@ use walk::Walker;
 ghost use mathlib.Core.Path.{_≡_};
 ghost use mathlib.Core.List.{_∷_};
 ghost use lib.ListN.{length};
-ghost use Rattle.base.specs.Bytes.{numberAt};
-ghost use Rattle.item.specs.Item.{valuesOf};
-ghost use Rattle.tag.specs.Calls.{locatedNumber, locateCall};
-ghost use Rattle.card.specs.Told.{CardWritten, CardTold};
-ghost use Rattle.card.specs.Items.{found-widths, walker-bytes, walkerBytes, walkerFrom, walkOpenCall, step-widths, steppedNumber, CardStepped};
+ghost use Rattle.base_rules.specs.Bytes.{numberAt};
+ghost use Rattle.item_rules.specs.Item.{valuesOf};
+ghost use Rattle.tag_rules.specs.Calls.{locatedNumber, locateCall};
+ghost use Rattle.card_rules.specs.Told.{CardWritten, CardTold};
+ghost use Rattle.card_rules.specs.Items.{found-widths, walker-bytes, walkerBytes, walkerFrom, walkOpenCall, step-widths, steppedNumber, CardStepped};
 
 // The bytes of a walk: seven numbers of eight.
 const WALKER: usize = 56;

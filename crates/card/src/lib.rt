@@ -23,9 +23,9 @@ pub use sending::bailhammer_fragment;
 pub use sending::bailhammer_fragments;
 pub use sending::bailhammer_plan;
 ghost use mathlib.Core.Path.{_≡_};
-ghost use Rattle.base.specs.Written.{numberOf};
-ghost use Rattle.card.specs.Calls.{addressOf};
-ghost use Rattle.card.specs.Told.{refusalIn};
+ghost use Rattle.base_rules.specs.Written.{numberOf};
+ghost use Rattle.card_rules.specs.Calls.{addressOf};
+ghost use Rattle.card_rules.specs.Told.{refusalIn};
 
 // The number of a writing's answer.
 fn written_number(w: Written) -> usize

@@ -6,11 +6,11 @@ use item::Bits;
 ghost use mathlib.Core.Path.{_≡_};
 ghost use mathlib.Core.Bool.{not};
 ghost use lib.Dec.{eqb};
-ghost use Rattle.base.specs.Tests.{bit};
-ghost use Rattle.af.specs.Calls.{wrapCall, checkCall};
-ghost use Rattle.write.specs.Write.{writeCall};
-ghost use Rattle.card.specs.Told.{CardWritten, CardTold};
-ghost use Rattle.card.specs.Packets.{check-widths};
+ghost use Rattle.base_rules.specs.Tests.{bit};
+ghost use Rattle.af_rules.specs.Calls.{wrapCall, checkCall};
+ghost use Rattle.write_rules.specs.Write.{writeCall};
+ghost use Rattle.card_rules.specs.Told.{CardWritten, CardTold};
+ghost use Rattle.card_rules.specs.Packets.{check-widths};
 
 // Writes the AF packet of a payload at the front of out, with a CRC where cf is not 0, and gives 0; else the number of the refusal.
 #[no_mangle]

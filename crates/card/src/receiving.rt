@@ -13,10 +13,10 @@ use receiver::Seen;
 use receiver::Shown;
 ghost use mathlib.Core.Path.{_≡_};
 ghost use lib.ListN.{length};
-ghost use Rattle.card.specs.Told.{CardWritten, CardTold};
-ghost use Rattle.card.specs.Calls.{addressOf};
-ghost use Rattle.card.specs.Receiving.{places-widths, queryFor, seenTold, shownTold, queriedIn, clearFor, receiptTold, toldAfter, CardReceived};
-ghost use Rattle.receiver.specs.Promise.{numberOf};
+ghost use Rattle.card_rules.specs.Told.{CardWritten, CardTold};
+ghost use Rattle.card_rules.specs.Calls.{addressOf};
+ghost use Rattle.card_rules.specs.Receiving.{places-widths, queryFor, seenTold, shownTold, queriedIn, clearFor, receiptTold, toldAfter, CardReceived};
+ghost use Rattle.receiver_rules.specs.Promise.{numberOf};
 
 // The widths of what an answer tells; specs/Receiving.antt says of what.
 const RECEIPT_WIDTHS: [usize; 5] = [1, 2, 2, 1, 2];

@@ -6,10 +6,10 @@ use cut::Settings;
 use sender::Sent;
 use sender::SentAll;
 ghost use mathlib.Core.Path.{_≡_};
-ghost use Rattle.cut.specs.Plan.{planOf, numberOf};
-ghost use Rattle.sender.specs.Calls.{sentNumber, fragmentCall, allNumber, fragmentsCall};
-ghost use Rattle.card.specs.Told.{CardTold, SentAs};
-ghost use Rattle.card.specs.Sending.{settingsOf, twos};
+ghost use Rattle.cut_rules.specs.Plan.{planOf, numberOf};
+ghost use Rattle.sender_rules.specs.Calls.{sentNumber, fragmentCall, allNumber, fragmentsCall};
+ghost use Rattle.card_rules.specs.Told.{CardTold, SentAs};
+ghost use Rattle.card_rules.specs.Sending.{settingsOf, twos};
 
 // The settings.
 fn settings_of(

@@ -2,8 +2,8 @@
 ghost use mathlib.Core.Path.{_≡_};
 ghost use Prim.Native.Nat.{_-_, _≤_};
 ghost use lib.ListN.{length};
-ghost use Rattle.base.specs.Bytes.{splice, bytesOf};
-ghost use Rattle.card.specs.Told.{inWidths, toldIn};
+ghost use Rattle.base_rules.specs.Bytes.{splice, bytesOf};
+ghost use Rattle.card_rules.specs.Told.{inWidths, toldIn};
 
 // Writes the low bytes of a number from `from` up to `to`: from the last on, as each is the remainder of what is left of the number.
 fn put_number(d: &mut [u8], from: usize, to: usize, x: usize)

@@ -5,11 +5,11 @@ use base::PARITY;
 ghost use mathlib.Core.Path.{_≡_};
 ghost use Prim.Native.Nat.{_+_, _≤_, _<_};
 ghost use lib.ListN.{length};
-ghost use Rattle.base.specs.Bounds.{most-k, parity};
+ghost use Rattle.base_rules.specs.Bounds.{most-k, parity};
 ghost use Rattle.codeword.specs.Code.{encode};
-ghost use Rattle.code.specs.Words.{table-size};
-ghost use Rattle.code.specs.Kernel.{Made};
-ghost use Rattle.code.specs.Block.{Encoded, EncSized, OneEncoded};
+ghost use Rattle.code_rules.specs.Words.{table-size};
+ghost use Rattle.code_rules.specs.Kernel.{Made};
+ghost use Rattle.code_rules.specs.Block.{Encoded, EncSized, OneEncoded};
 
 // The chunk of the data bytes d: the data and their parity.
 fn encode_chunk(t: &[u8; TABLE], d: &[u8], out: &mut [u8])

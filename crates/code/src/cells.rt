@@ -4,10 +4,10 @@ ghost use mathlib.Core.Path.{_≡_};
 ghost use mathlib.Core.Bool.{not};
 ghost use Prim.Native.Nat.{_+_, _%_, _≤_, _<_};
 ghost use lib.ListN.{length};
-ghost use Rattle.base.specs.Bounds.{most-f};
-ghost use Rattle.base.specs.Bytes.{splice};
-ghost use Rattle.base.specs.Tests.{bit};
-ghost use Rattle.code.specs.Calls.{lostCells};
+ghost use Rattle.base_rules.specs.Bounds.{most-f};
+ghost use Rattle.base_rules.specs.Bytes.{splice};
+ghost use Rattle.base_rules.specs.Tests.{bit};
+ghost use Rattle.code_rules.specs.Calls.{lostCells};
 
 // 1 for a fragment that is not kept.
 fn lost(kept: bool) -> u8

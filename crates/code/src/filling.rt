@@ -17,13 +17,13 @@ use base::PARITY;
 ghost use mathlib.Core.Path.{_≡_};
 ghost use Prim.Native.Nat.{_+_, _≤_, _<_};
 ghost use lib.ListN.{length, replicate};
-ghost use Rattle.base.specs.Bounds.{most-k, parity};
+ghost use Rattle.base_rules.specs.Bounds.{most-k, parity};
 ghost use Rattle.codeword.specs.Code.{plus};
-ghost use Rattle.code.specs.Words.{table-size};
-ghost use Rattle.code.specs.Kernel.{Made, Doubles, Multiples, lane, rootsList};
-ghost use Rattle.code.specs.Filling.{rowOf, mixed};
-ghost use Rattle.code.specs.Fill.{Fills};
-ghost use Rattle.code.specs.Sharing.{Guessed, ZeroTest, Shared};
+ghost use Rattle.code_rules.specs.Words.{table-size};
+ghost use Rattle.code_rules.specs.Kernel.{Made, Doubles, Multiples, lane, rootsList};
+ghost use Rattle.code_rules.specs.Filling.{rowOf, mixed};
+ghost use Rattle.code_rules.specs.Fill.{Fills};
+ghost use Rattle.code_rules.specs.Sharing.{Guessed, ZeroTest, Shared};
 
 // y + x times row m of q
 fn add_row(y: &mut [u8; PARITY], x: u8, q: &[u8; COLUMNS], m: usize)

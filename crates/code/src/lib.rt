@@ -14,28 +14,14 @@ mod syndromes;
 mod turns;
 
 use base::MOST_K;
+use code_rules::Answer;
+pub use code_rules::Filled;
 pub use receiver::fill;
 pub use receiver::fill_chunk;
 pub use sender::encode;
 pub use sender::parity;
 ghost use mathlib.Core.Path.{_≡_};
-ghost use Rattle.base.specs.Bounds.{badK};
-
-// What became of missing bytes: all are filled in; no word of the code has the bytes that are there; too many are missing; or the
-// number of the refusal, and then nothing was changed.
-pub enum Filled {
-    Done,
-    Nothing,
-    NotEnough,
-    Refused(u8),
-}
-
-// What became of one chunk: its missing bytes are found; no chunk of the code has the bytes that are there; more than 48 are missing.
-enum Answer {
-    Found,
-    Nothing,
-    NotEnough,
-}
+ghost use Rattle.base_rules.specs.Bounds.{badK};
 
 // Whether k is no count of data bytes of a chunk.
 fn bad_size(k: usize) -> bool

@@ -6,10 +6,10 @@ ghost use mathlib.Core.Bool.{cond};
 ghost use Prim.Native.Nat.{_+_, _≤_, _<_};
 ghost use lib.Dec.{eqb};
 ghost use lib.ListN.{length, take, getD};
-ghost use Rattle.base.specs.Bounds.{most-k, parity};
+ghost use Rattle.base_rules.specs.Bounds.{most-k, parity};
 ghost use Rattle.codeword.specs.Code.{full};
 ghost use Rattle.codeword.specs.Erasure.{marks, erase, count, fill, locators};
-ghost use Rattle.code.specs.Sharing.{locs};
+ghost use Rattle.code_rules.specs.Sharing.{locs};
 
 // The bytes of a word of the code before it is shortened.
 const FULL: usize = MOST_K + PARITY;

@@ -11,10 +11,10 @@ use base::PLACE;
 ghost use mathlib.Core.Path.{_≡_};
 ghost use Prim.Native.Nat.{_+_, _*_, _<_};
 ghost use lib.ListN.{length};
-ghost use Rattle.base.specs.Bounds.{parity};
-ghost use Rattle.code.specs.Block.{FoundTest, Ready, Mended};
-ghost use Rattle.code.specs.Calls.{lostCells};
-ghost use Rattle.code.specs.Inner.{Holds};
+ghost use Rattle.base_rules.specs.Bounds.{parity};
+ghost use Rattle.code_rules.specs.Block.{FoundTest, Ready, Mended};
+ghost use Rattle.code_rules.specs.Calls.{lostCells};
+ghost use Rattle.code_rules.specs.Inner.{Holds};
 
 // No block has more chunks.
 const MOST_C: usize = PLACE / PARITY;

@@ -9,9 +9,9 @@ ghost use mathlib.Core.Path.{_≡_};
 ghost use mathlib.Core.List.{[], _∷_};
 ghost use Prim.Native.Nat.{_+_, _*_, _≤_, _<_};
 ghost use lib.ListN.{length, take};
-ghost use Rattle.base.specs.Bounds.{parity};
-ghost use Rattle.code.specs.Kernel.{Doubles};
-ghost use Rattle.code.specs.Filling.{rootStep, locatorOf, Same, Put, Columns, scalesOf, Pattern, inversesOf};
+ghost use Rattle.base_rules.specs.Bounds.{parity};
+ghost use Rattle.code_rules.specs.Kernel.{Doubles};
+ghost use Rattle.code_rules.specs.Filling.{rootStep, locatorOf, Same, Put, Columns, scalesOf, Pattern, inversesOf};
 
 // The coefficients of a polynomial with a root for each missing place.
 const COEFFICIENTS: usize = PARITY + 1;

@@ -4,11 +4,11 @@ use base::PARITY;
 ghost use mathlib.Core.Path.{_≡_};
 ghost use Prim.Native.Nat.{ℕ, _*_, _/_, _%_, _<_};
 ghost use lib.ListN.{length, getD};
-ghost use Rattle.base.specs.Bounds.{parity};
-ghost use Rattle.field.specs.Field.{_⊗_, times2};
+ghost use Rattle.base_rules.specs.Bounds.{parity};
+ghost use Rattle.field_rules.specs.Field.{_⊗_, times2};
 ghost use Rattle.codeword.specs.Code.{plus};
-ghost use Rattle.code.specs.Kernel.{Chain, Doubles, Multiples, lane};
-ghost use Rattle.code.specs.Filling.{timesAll};
+ghost use Rattle.code_rules.specs.Kernel.{Chain, Doubles, Multiples, lane};
+ghost use Rattle.code_rules.specs.Filling.{timesAll};
 
 // x doubled in the field: where the byte runs over, by the polynomial's low eight bits.
 pub fn twice(x: u8) -> u8

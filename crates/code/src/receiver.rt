@@ -11,9 +11,9 @@ use base::MOST_F;
 use base::PARITY;
 use weave::Held;
 ghost use mathlib.Core.Path.{_≡_};
-ghost use Rattle.code.specs.Calls.{badPair, ChunkFilled, BlockFilled};
-ghost use Rattle.code.specs.Fill.{filledOf};
-ghost use Rattle.code.specs.Inner.{Standing};
+ghost use Rattle.code_rules.specs.Calls.{badPair, ChunkFilled, BlockFilled};
+ghost use Rattle.code_rules.specs.Fill.{filledOf};
+ghost use Rattle.code_rules.specs.Inner.{Standing};
 
 // Whether k is no chunk's size, or mask and chunk have not k + 48 bytes.
 fn bad_pair(k: usize, mask: usize, chunk: usize) -> bool

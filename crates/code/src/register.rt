@@ -8,11 +8,11 @@ use base::PARITY;
 ghost use mathlib.Core.Path.{_≡_};
 ghost use Prim.Native.Nat.{_+_, _≤_, _<_};
 ghost use lib.ListN.{length, take, drop, replicate};
-ghost use Rattle.base.specs.Bounds.{most-k, parity};
+ghost use Rattle.base_rules.specs.Bounds.{most-k, parity};
 ghost use Rattle.codeword.specs.Code.{plus, run, parityOf};
-ghost use Rattle.code.specs.Words.{table-size};
-ghost use Rattle.code.specs.Kernel.{power, Made, laid, sumOf};
-ghost use Rattle.code.specs.Sharing.{Left};
+ghost use Rattle.code_rules.specs.Words.{table-size};
+ghost use Rattle.code_rules.specs.Kernel.{power, Made, laid, sumOf};
+ghost use Rattle.code_rules.specs.Sharing.{Left};
 
 // The places of the data bytes and of a zero before them: eight go in at a step.
 const LAID: usize = MOST_K + 1;

@@ -6,10 +6,10 @@ use base::PARITY;
 ghost use mathlib.Core.Path.{_≡_};
 ghost use Prim.Native.Nat.{_+_, _*_, _≤_, _<_};
 ghost use lib.ListN.{length};
-ghost use Rattle.base.specs.Bounds.{parity};
+ghost use Rattle.base_rules.specs.Bounds.{parity};
 ghost use Rattle.codeword.specs.Code.{generator, step};
-ghost use Rattle.code.specs.Words.{power-size, table-size};
-ghost use Rattle.code.specs.Kernel.{back, power, factorOf, Made, RowOf};
+ghost use Rattle.code_rules.specs.Words.{power-size, table-size};
+ghost use Rattle.code_rules.specs.Kernel.{back, power, factorOf, Made, RowOf};
 
 // The bytes of a power's 32 rows, of half of them, and of the table of eight powers.
 pub const POWER: usize = 32 * PARITY;

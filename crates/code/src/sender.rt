@@ -10,12 +10,12 @@ use base::Written;
 ghost use mathlib.Core.Path.{_≡_};
 ghost use Prim.Native.Nat.{_+_, _-_, _*_, _≤_};
 ghost use lib.ListN.{length};
-ghost use Rattle.base.specs.Answer.{outcome};
-ghost use Rattle.base.specs.Bounds.{most-k, place, parity};
-ghost use Rattle.base.specs.Written.{numberOf};
-ghost use Rattle.cut.specs.Block.{padded, blockOf};
+ghost use Rattle.base_rules.specs.Answer.{outcome};
+ghost use Rattle.base_rules.specs.Bounds.{most-k, place, parity};
+ghost use Rattle.base_rules.specs.Written.{numberOf};
+ghost use Rattle.cut_rules.specs.Block.{padded, blockOf};
 ghost use Rattle.codeword.specs.Code.{parityOf};
-ghost use Rattle.code.specs.Calls.{parityCall, overPlace, misfits, encodeCall};
+ghost use Rattle.code_rules.specs.Calls.{parityCall, overPlace, misfits, encodeCall};
 
 // Writes the 48 parity bytes of a chunk of 1 to 207 data bytes at the front of out; 8, 1 where that cannot be, and then out stays as it is.
 pub fn parity(chunk: &[u8], out: &mut [u8]) -> Written

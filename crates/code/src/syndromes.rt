@@ -6,7 +6,7 @@ use crate::products::twice;
 use base::PARITY;
 ghost use mathlib.Core.Path.{_≡_};
 ghost use Rattle.codeword.specs.Erasure.{syndromes};
-ghost use Rattle.code.specs.Kernel.{Multiples, rootsList};
+ghost use Rattle.code_rules.specs.Kernel.{Multiples, rootsList};
 
 fn roots() -> [u8; PARITY]
     ensures { λ r. ⌜ r ≡ rootsList ⌝ }

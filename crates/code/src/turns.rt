@@ -12,11 +12,11 @@ use base::PARITY;
 ghost use mathlib.Core.Path.{_≡_};
 ghost use Prim.Native.Nat.{_+_, _≤_, _<_};
 ghost use lib.ListN.{length, take, drop, getD};
-ghost use Rattle.base.specs.Bounds.{parity};
-ghost use Rattle.code.specs.Words.{table-size};
-ghost use Rattle.code.specs.Kernel.{Made, Multiples, rootsList};
-ghost use Rattle.code.specs.Sharing.{Shared};
-ghost use Rattle.code.specs.Block.{part, codeOf, Open, SameTest, Filling, Sized, Later, OneLater, AllDone};
+ghost use Rattle.base_rules.specs.Bounds.{parity};
+ghost use Rattle.code_rules.specs.Words.{table-size};
+ghost use Rattle.code_rules.specs.Kernel.{Made, Multiples, rootsList};
+ghost use Rattle.code_rules.specs.Sharing.{Shared};
+ghost use Rattle.code_rules.specs.Block.{part, codeOf, Open, SameTest, Filling, Sized, Later, OneLater, AllDone};
 
 // A chunk's answer as a byte; 3 stands for one that is open.
 fn number(a: Answer) -> u8

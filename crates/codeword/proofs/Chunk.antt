@@ -7,9 +7,9 @@ use native.Mathlib.Nat.{suc-inj, suc-ne-zero, zero-add}
 use native.Mathlib.Omega.{arith}
 use lib.ListN.{length, take, drop, replicate, length-append, length-replicate, length-take, length-drop, take-append-drop}
 use lib.Seq.{take-at, drop-at, length-take-le}
-use Rattle.base.specs.Bounds.{most-k, parity}
-use Rattle.base.specs.Bytes.{Bytes}
-use Rattle.base.proofs.ByteLaws.{bytes-append, bytes-take, bytes-drop, bytes-zeros}
+use Rattle.base_rules.specs.Bounds.{most-k, parity}
+use Rattle.base_rules.specs.Bytes.{Bytes}
+use Rattle.base_rules.proofs.ByteLaws.{bytes-append, bytes-take, bytes-drop, bytes-zeros}
 use Rattle.codeword.specs.Code.{Codeword, full}
 use Rattle.codeword.specs.Erasure.{erase, count, locators}
 use Rattle.codeword.proofs.Erasure.{length-erase, one-word}

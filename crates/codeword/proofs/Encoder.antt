@@ -10,13 +10,13 @@ use lib.Arith.{lt-of-le-ne}
 use lib.Dec.{lit<}
 use lib.ListN.{length, getD, take, drop, replicate, length-append, length-replicate}
 use lib.Seq.{take-at, drop-at}
-use Rattle.base.specs.Bounds.{most-k, parity}
-use Rattle.base.specs.Bytes.{Bytes}
-use Rattle.base.proofs.ByteLaws.{bytes-append, bytes-zeros}
-use Rattle.field.specs.Field.{_⊕_, _⊗_, alpha}
-use Rattle.field.proofs.Sums.{add-assoc, add-comm, add-0-l, add-0-r, add-self, add-lt, eq-of-add-zero}
-use Rattle.field.proofs.Products.{mul-comm, mul-add-l, mul-0-l, mul-0-r, mul-lt}
-use Rattle.field.proofs.Powers.{alpha-lt}
+use Rattle.base_rules.specs.Bounds.{most-k, parity}
+use Rattle.base_rules.specs.Bytes.{Bytes}
+use Rattle.base_rules.proofs.ByteLaws.{bytes-append, bytes-zeros}
+use Rattle.field_rules.specs.Field.{_⊕_, _⊗_, alpha}
+use Rattle.field_rules.proofs.Sums.{add-assoc, add-comm, add-0-l, add-0-r, add-self, add-lt, eq-of-add-zero}
+use Rattle.field_rules.proofs.Products.{mul-comm, mul-add-l, mul-0-l, mul-0-r, mul-lt}
+use Rattle.field_rules.proofs.Powers.{alpha-lt}
 use Rattle.codeword.specs.Code.{horner, value, plus, Codeword, full, timesRoot, product, generator, step, run, parityOf, encode}
 use Rattle.codeword.proofs.Poly.{raise, raise-s, raise-add, raise-out, raise-0, raise-one, value-cons, value-append, value-snoc, value-zeros, value-plus, length-plus, plus-at}
 

@@ -6,11 +6,11 @@ use Prim.Native.Nat.{ℕ, suc, _+_, _≤_, _<_}
 use native.Mathlib.Nat.{suc-inj, suc-ne-zero}
 use native.Mathlib.Omega.{arith}
 use lib.ListN.{length, getD}
-use Rattle.base.specs.Bounds.{parity}
-use Rattle.base.specs.Bytes.{Bytes}
-use Rattle.field.specs.Field.{_⊕_, _⊗_, pow, alpha}
-use Rattle.field.proofs.Sums.{add-assoc, add-0-l, add-0-r, add-left-comm, eq-of-add-zero}
-use Rattle.field.proofs.Powers.{alpha-lt, alpha-pos, alpha-inj, pow-alpha}
+use Rattle.base_rules.specs.Bounds.{parity}
+use Rattle.base_rules.specs.Bytes.{Bytes}
+use Rattle.field_rules.specs.Field.{_⊕_, _⊗_, pow, alpha}
+use Rattle.field_rules.proofs.Sums.{add-assoc, add-0-l, add-0-r, add-left-comm, eq-of-add-zero}
+use Rattle.field_rules.proofs.Powers.{alpha-lt, alpha-pos, alpha-inj, pow-alpha}
 use Rattle.codeword.specs.Code.{value, Codeword}
 use Rattle.codeword.specs.Erasure.{erase, fill, locators, syndromes}
 use Rattle.codeword.specs.Locators.{Apart, Distinct, Positive, sumAt}

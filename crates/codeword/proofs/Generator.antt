@@ -3,7 +3,7 @@
 use mathlib.Core.Path.{_≡_, refl}
 use mathlib.Core.List.{List, [], _∷_}
 use Prim.Native.Nat.{ℕ}
-use Rattle.field.specs.Field.{_⊕_, times2, mulBits, _⊗_, alpha}
+use Rattle.field_rules.specs.Field.{_⊕_, times2, mulBits, _⊗_, alpha}
 use Rattle.codeword.specs.Code.{plus, timesRoot, product, generator}
 
 -- 48 of them, without the leading 1

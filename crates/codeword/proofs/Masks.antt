@@ -5,7 +5,7 @@ use mathlib.Core.List.{List, [], _∷_, _++_}
 use Prim.Native.Nat.{ℕ, zero, suc, _-_}
 use lib.Dec.{eqb}
 use lib.ListN.{length, take, drop, replicate}
-use Rattle.base.specs.Bounds.{most-k}
+use Rattle.base_rules.specs.Bounds.{most-k}
 use Rattle.codeword.specs.Code.{full}
 use Rattle.codeword.specs.Erasure.{marks}
 

@@ -7,8 +7,8 @@ use borrow.Author.Tests.{ltb-true, ltb-false}
 use lib.Dec.{ltb}
 use lib.ListN.{length, take, drop, getD, replicate, length-append, length-replicate, List·getD-append, getD-replicate}
 use lib.Seq.{length-take-le, getD-take, getD-drop, getD-append-add, ext-getD}
-use Rattle.base.specs.Bounds.{most-k, parity}
-use Rattle.base.proofs.Logic.{either}
+use Rattle.base_rules.specs.Bounds.{most-k, parity}
+use Rattle.base_rules.proofs.Logic.{either}
 use Rattle.codeword.specs.Code.{full}
 
 -- past a first list of m elements

@@ -6,10 +6,10 @@ use native.Mathlib.Nat.{suc-inj, suc-ne-zero}
 use native.Mathlib.Numerals.{add-one}
 use lib.ListN.{length, take, getD, replicate}
 use lib.Seq.{take-suc}
-use Rattle.field.specs.Field.{_⊕_, _⊗_, pow}
-use Rattle.field.proofs.Sums.{add-assoc, add-0-l, add-0-r, add-self, add-swap}
-use Rattle.field.proofs.Products.{mul-comm, mul-assoc, mul-add-l, mul-add-r, mul-0-l, mul-0-r, mul-1-l, mul-1-r}
-use Rattle.field.proofs.Powers.{pow-0, pow-s}
+use Rattle.field_rules.specs.Field.{_⊕_, _⊗_, pow}
+use Rattle.field_rules.proofs.Sums.{add-assoc, add-0-l, add-0-r, add-self, add-swap}
+use Rattle.field_rules.proofs.Products.{mul-comm, mul-assoc, mul-add-l, mul-add-r, mul-0-l, mul-0-r, mul-1-l, mul-1-r}
+use Rattle.field_rules.proofs.Powers.{pow-0, pow-s}
 use Rattle.codeword.specs.Code.{horner, value, plus}
 
 -- ---- powers

@@ -2,7 +2,7 @@
 use mathlib.Core.Path.{refl, sym, ap, _∙_}
 use Prim.Native.Nat.{_+_}
 use native.Mathlib.Nat.{zero-add}
-use Rattle.base.specs.Bounds.{parity}
+use Rattle.base_rules.specs.Bounds.{parity}
 use Rattle.codeword.specs.Claims.{Places, Roots, R1, R2, R3, Systematic}
 use Rattle.codeword.specs.Erasure.{maskOf}
 use Rattle.codeword.proofs.Chunk.{length-full, one-chunk}

@@ -6,8 +6,8 @@ use Prim.Native.Nat.{ℕ, _+_, _≤_}
 use native.Mathlib.Omega.{arith}
 use lib.ListN.{length, take, drop, replicate, length-append, length-replicate, length-drop, take-append-drop}
 use lib.Seq.{length-take-le}
-use Rattle.base.specs.Bounds.{most-k, parity}
-use Rattle.base.proofs.ByteLaws.{bytes-take}
+use Rattle.base_rules.specs.Bounds.{most-k, parity}
+use Rattle.base_rules.proofs.ByteLaws.{bytes-take}
 use Rattle.codeword.specs.Code.{Coded, parityOf, encode}
 use Rattle.codeword.specs.Erasure.{erase, count}
 use Rattle.codeword.proofs.Encoder.{encode-codeword, length-encode, length-parity, bytes-encode}

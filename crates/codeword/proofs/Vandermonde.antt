@@ -6,14 +6,14 @@ use Prim.Native.Nat.{ℕ, zero, suc, _+_, _<_}
 use native.Mathlib.Nat.{suc-inj, suc-ne-zero, zero-add, suc-add}
 use native.Mathlib.Omega.{arith}
 use lib.ListN.{length, getD, replicate, length-replicate}
-use Rattle.base.specs.Bytes.{Bytes}
-use Rattle.base.specs.Table.{table}
-use Rattle.base.proofs.ByteLaws.{bytes-zeros}
-use Rattle.base.proofs.Tables.{at-table}
-use Rattle.field.specs.Field.{_⊕_, _⊗_, pow, inv}
-use Rattle.field.proofs.Sums.{add-assoc, add-0-l, add-0-r, add-self, add-swap, add-lt, eq-of-add-zero}
-use Rattle.field.proofs.Products.{mul-lt, mul-assoc, mul-left-comm, mul-add-l, mul-add-r, mul-0-l, mul-0-r, mul-1-r}
-use Rattle.field.proofs.Powers.{pow-0, pow-s, mul-div}
+use Rattle.base_rules.specs.Bytes.{Bytes}
+use Rattle.base_rules.specs.Table.{table}
+use Rattle.base_rules.proofs.ByteLaws.{bytes-zeros}
+use Rattle.base_rules.proofs.Tables.{at-table}
+use Rattle.field_rules.specs.Field.{_⊕_, _⊗_, pow, inv}
+use Rattle.field_rules.proofs.Sums.{add-assoc, add-0-l, add-0-r, add-self, add-swap, add-lt, eq-of-add-zero}
+use Rattle.field_rules.proofs.Products.{mul-lt, mul-assoc, mul-left-comm, mul-add-l, mul-add-r, mul-0-l, mul-0-r, mul-1-r}
+use Rattle.field_rules.proofs.Powers.{pow-0, pow-s, mul-div}
 use Rattle.codeword.specs.Locators.{Apart, Distinct, Positive, sumAt}
 
 -- ---- values times weights

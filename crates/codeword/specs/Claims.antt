@@ -4,9 +4,9 @@ use mathlib.Core.Bool.{Bool, true}
 use mathlib.Core.List.{List}
 use Prim.Native.Nat.{ℕ, suc, _+_, _≤_, _<_}
 use lib.ListN.{length, getD, take, replicate}
-use Rattle.base.specs.Bounds.{most-k, parity}
-use Rattle.base.specs.Bytes.{Bytes}
-use Rattle.field.specs.Field.{alpha}
+use Rattle.base_rules.specs.Bounds.{most-k, parity}
+use Rattle.base_rules.specs.Bytes.{Bytes}
+use Rattle.field_rules.specs.Field.{alpha}
 use Rattle.codeword.specs.Code.{value, full, Coded, product, parityOf, encode}
 use Rattle.codeword.specs.Erasure.{erase, count, maskOf}
 use Rattle.codeword.specs.Locators.{Distinct, Positive, sumAt}

@@ -3,9 +3,9 @@ use mathlib.Core.Path.{_≡_}
 use mathlib.Core.List.{List, [], _∷_, _++_}
 use Prim.Native.Nat.{ℕ, zero, suc, _+_, _-_, _<_}
 use lib.ListN.{length, take, drop, replicate}
-use Rattle.base.specs.Bounds.{most-k, parity}
-use Rattle.base.specs.Bytes.{Bytes}
-use Rattle.field.specs.Field.{_⊕_, _⊗_, alpha}
+use Rattle.base_rules.specs.Bounds.{most-k, parity}
+use Rattle.base_rules.specs.Bytes.{Bytes}
+use Rattle.field_rules.specs.Field.{_⊕_, _⊗_, alpha}
 
 -- ---- the words of the code
 

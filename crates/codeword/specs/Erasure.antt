@@ -4,9 +4,9 @@ use mathlib.Core.List.{List, [], _∷_}
 use Prim.Native.Nat.{ℕ, zero, suc}
 use lib.Dec.{eqb}
 use lib.ListN.{length, getD, drop}
-use Rattle.base.specs.Bounds.{parity}
-use Rattle.base.specs.Table.{table}
-use Rattle.field.specs.Field.{alpha}
+use Rattle.base_rules.specs.Bounds.{parity}
+use Rattle.base_rules.specs.Table.{table}
+use Rattle.field_rules.specs.Field.{alpha}
 use Rattle.codeword.specs.Code.{value}
 
 -- clause 7.4.4: the word with 0 at each missing place

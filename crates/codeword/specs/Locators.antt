@@ -2,7 +2,7 @@
 use mathlib.Core.Path.{_≡_}
 use mathlib.Core.List.{List, [], _∷_}
 use Prim.Native.Nat.{ℕ, _<_}
-use Rattle.field.specs.Field.{_⊕_, _⊗_, pow}
+use Rattle.field_rules.specs.Field.{_⊕_, _⊗_, pow}
 
 -- x is none of the list
 abbrev pub Apart : ℕ → List ℕ → Type 0

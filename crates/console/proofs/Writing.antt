@@ -6,7 +6,7 @@ use native.Mathlib.Omega.{arith}
 use lib.ListN.{length, take, drop}
 use lib.Seq.{take-take, drop-drop}
 use Rattle.console.specs.Wrote.{Wrote}
-use Rattle.text.proofs.Laws.{Lays, laid-length, laid-front, laid-behind, behind-onward, behind-within}
+use Rattle.text_rules.proofs.Laws.{Lays, laid-length, laid-front, laid-behind, behind-onward, behind-within}
 
 -- a text that was laid down
 pub wrote : (d : List ℕ) (at : ℕ) (t : List ℕ) {r : ℕ} {e : List ℕ} → at ≤ length d → Lays d at t r e → Wrote d at r e

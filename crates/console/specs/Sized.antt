@@ -1,6 +1,6 @@
 -- What the reader of bytes promises of their number, and how long a seat is. Assumes nothing.
 use Prim.Native.Nat.{ℕ, _+_}
-use Rattle.packed.specs.Packed.{table-bytes}
+use Rattle.packed_rules.specs.Packed.{table-bytes}
 use Rattle.console.specs.declared.words.Number.{Number}
 use Rattle.console.specs.declared.words.Number.the-variants.{Of, Malformed}
 

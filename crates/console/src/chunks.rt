@@ -1,7 +1,7 @@
 // Questions on chunks: the parity bytes of one, and its missing bytes.
 ghost use Prim.Native.Nat.{_+_, _≤_};
 ghost use lib.ListN.{length};
-ghost use Rattle.base.specs.Bounds.{most-k, parity};
+ghost use Rattle.base_rules.specs.Bounds.{most-k, parity};
 ghost use Rattle.console.specs.Wrote.{Wrote};
 use crate::replies;
 use crate::words;

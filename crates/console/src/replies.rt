@@ -3,7 +3,7 @@ ghost use mathlib.Core.Path.{_≡_};
 ghost use mathlib.Core.List.{_++_};
 ghost use Prim.Native.Nat.{_≤_};
 ghost use lib.ListN.{length};
-ghost use Rattle.text.specs.Text.{laid, behind, decimalOf};
+ghost use Rattle.text_rules.specs.Text.{laid, behind, decimalOf};
 ghost use Rattle.console.specs.Wrote.{Wrote};
 
 // A number behind a label.

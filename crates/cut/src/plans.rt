@@ -14,11 +14,11 @@ ghost use mathlib.Core.Path.{_≡_};
 ghost use mathlib.Core.Bool.{true, cond, _&&_};
 ghost use Prim.Native.Nat.{_+_, _≤_, _<_};
 ghost use lib.Dec.{ltb, leb};
-ghost use Rattle.base.specs.Bounds.{least-l, most-l, most-f, most-k, place, most-mtu};
-ghost use Rattle.base.specs.Round.{ceil};
-ghost use Rattle.cut.specs.Sizes.{c, k, h, addressBytes, divisor, S, L, assured};
-ghost use Rattle.cut.specs.Sizes.{f as Sizes·f};
-ghost use Rattle.cut.specs.Plan.{houseOf, fit, planOf, figuresOf, valuesOf, numberOf};
+ghost use Rattle.base_rules.specs.Bounds.{least-l, most-l, most-f, most-k, place, most-mtu};
+ghost use Rattle.base_rules.specs.Round.{ceil};
+ghost use Rattle.cut_rules.specs.Sizes.{c, k, h, addressBytes, divisor, S, L, assured};
+ghost use Rattle.cut_rules.specs.Sizes.{f as Sizes·f};
+ghost use Rattle.cut_rules.specs.Plan.{houseOf, fit, planOf, figuresOf, valuesOf, numberOf};
 
 // The house default.
 pub fn house() -> Settings

@@ -2,9 +2,9 @@
 use mathlib.Core.Path.{_≡_, refl, sym, ap, ap₂, _∙_}
 use mathlib.Core.List.{List, [], _∷_, _++_, map}
 use Prim.Native.Nat.{ℕ}
-use Rattle.cut.specs.Edge.{Row, rows}
-use Rattle.cut.proofs.Proved.{edge-rows, any-three, no-four}
-use Rattle.field.specs.Field.{_⊕_, times2, alpha}
+use Rattle.cut_rules.specs.Edge.{Row, rows}
+use Rattle.cut_rules.proofs.Proved.{edge-rows, any-three, no-four}
+use Rattle.field_rules.specs.Field.{_⊕_, times2, alpha}
 use Rattle.edge.specs.Starred.{powers, starred, C1}
 
 map-append : (f : Row → List ℕ) (xs ys : List Row) → map f (xs ++ ys) ≡ map f xs ++ map f ys

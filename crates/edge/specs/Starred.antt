@@ -2,9 +2,9 @@
 use mathlib.Core.Path.{_≡_}
 use mathlib.Core.List.{List, [], _∷_, _++_, map}
 use Prim.Native.Nat.{ℕ}
-use Rattle.cut.specs.Edge.{Row, row, rows}
-use Rattle.cut.specs.Claims.{AnyThree, NoFour}
-use Rattle.field.specs.Field.{alpha}
+use Rattle.cut_rules.specs.Edge.{Row, row, rows}
+use Rattle.cut_rules.specs.Claims.{AnyThree, NoFour}
+use Rattle.field_rules.specs.Field.{alpha}
 
 -- α^8 = 29, α^9 = 58
 unfoldable pub powers : List Row

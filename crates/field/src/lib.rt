@@ -3,26 +3,17 @@ use tables::EXP;
 use tables::LOG;
 ghost use mathlib.Core.Path.{_≡_};
 ghost use Prim.Native.Nat.{_<_};
-ghost use Rattle.field.specs.Field.{_⊕_, _⊗_, alpha, logOf};
-ghost use Rattle.field.specs.Tables.{Logs, Logged};
-ghost use Rattle.field.specs.Calls.{numberOf, quotientOf, logarithmOf};
+ghost use Rattle.field_rules.specs.Field.{_⊕_, _⊗_, alpha, logOf};
+ghost use Rattle.field_rules.specs.Tables.{Logs, Logged};
+ghost use Rattle.field_rules.specs.Calls.{numberOf, quotientOf, logarithmOf};
 
 mod tables;
 
+pub use field_rules::Element;
+use field_rules::Pair;
+
 // Document 01's number for a division by 0 and for the logarithm of 0.
 const ZERO: u8 = 44;
-
-// The answer of a call that has none at 0.
-pub enum Element {
-    Value(u8),
-    Refused(u8),
-}
-
-// The logarithms of two elements.
-struct Pair {
-    a: usize,
-    b: usize,
-}
 
 // A byte as an index: the function spares the caller a proof that it fits.
 fn wide(x: u8) -> usize

@@ -13,12 +13,12 @@ ghost use mathlib.Core.Bool.{false};
 ghost use Prim.Native.Nat.{_≤_};
 ghost use lib.Dec.{eqb};
 ghost use lib.ListN.{length};
-ghost use Rattle.base.specs.Bounds.{most-f, most-l, place};
-ghost use Rattle.af.specs.Calls.{afFault};
-ghost use Rattle.places.specs.Faults.{badPlace};
-ghost use Rattle.form.specs.Agree.{enoughIn, missingIn};
-ghost use Rattle.form.specs.Calls.{formFault, PlaceFormed};
-ghost use Rattle.form.specs.Inner.{Ready, Proposal};
+ghost use Rattle.base_rules.specs.Bounds.{most-f, most-l, place};
+ghost use Rattle.af_rules.specs.Calls.{afFault};
+ghost use Rattle.places_rules.specs.Faults.{badPlace};
+ghost use Rattle.form_rules.specs.Agree.{enoughIn, missingIn};
+ghost use Rattle.form_rules.specs.Calls.{formFault, PlaceFormed};
+ghost use Rattle.form_rules.specs.Inner.{Ready, Proposal};
 
 // How many of the fragments are not kept.
 fn missing_in(p: Place) -> usize

@@ -9,11 +9,11 @@ ghost use mathlib.Core.Path.{_≡_};
 ghost use mathlib.Core.Bool.{true, false};
 ghost use Prim.Native.Nat.{_+_, _*_, _≤_};
 ghost use lib.ListN.{length, replicate};
-ghost use Rattle.base.specs.Bounds.{place, parity};
-ghost use Rattle.base.specs.Bytes.{splice};
-ghost use Rattle.places.specs.Faults.{badPlace};
-ghost use Rattle.form.specs.Agree.{enoughIn};
-ghost use Rattle.form.specs.Inner.{Ready, Proposal, dataOf};
+ghost use Rattle.base_rules.specs.Bounds.{place, parity};
+ghost use Rattle.base_rules.specs.Bytes.{splice};
+ghost use Rattle.places_rules.specs.Faults.{badPlace};
+ghost use Rattle.form_rules.specs.Agree.{enoughIn};
+ghost use Rattle.form_rules.specs.Inner.{Ready, Proposal, dataOf};
 
 // Whether no chunk misses more than 48 bytes; figures that make no chunk miss none.
 pub fn suffices(p: Place) -> bool

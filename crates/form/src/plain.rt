@@ -5,10 +5,10 @@ ghost use mathlib.Core.Path.{_≡_};
 ghost use mathlib.Core.Bool.{false};
 ghost use Prim.Native.Nat.{_+_, _-_, _*_, _≤_};
 ghost use lib.ListN.{length};
-ghost use Rattle.base.specs.Bounds.{place};
-ghost use Rattle.base.specs.Bytes.{splice};
-ghost use Rattle.places.specs.Faults.{badPlace};
-ghost use Rattle.form.specs.Agree.{joined};
+ghost use Rattle.base_rules.specs.Bounds.{place};
+ghost use Rattle.base_rules.specs.Bytes.{splice};
+ghost use Rattle.places_rules.specs.Faults.{badPlace};
+ghost use Rattle.form_rules.specs.Agree.{joined};
 
 // The bytes of the fragments before the last: they and the last one fit a place.
 fn before_last(p: Place) -> usize

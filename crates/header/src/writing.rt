@@ -7,11 +7,11 @@ use cut::Address;
 ghost use mathlib.Core.Path.{_≡_};
 ghost use Prim.Native.Nat.{_+_, _≤_};
 ghost use lib.ListN.{length, take};
-ghost use Rattle.base.specs.Answer.{outcome};
-ghost use Rattle.base.specs.Bytes.{splice, bytesOf};
-ghost use Rattle.base.specs.Written.{numberOf};
-ghost use Rattle.crc.specs.Crc.{wordOf};
-ghost use Rattle.header.specs.Header.{addrFlag, flagsOf, fecPart, addressPart, frontOf, writeCall};
+ghost use Rattle.base_rules.specs.Answer.{outcome};
+ghost use Rattle.base_rules.specs.Bytes.{splice, bytesOf};
+ghost use Rattle.base_rules.specs.Written.{numberOf};
+ghost use Rattle.crc_rules.specs.Crc.{wordOf};
+ghost use Rattle.header_rules.specs.Header.{addrFlag, flagsOf, fecPart, addressPart, frontOf, writeCall};
 
 fn addr_flag(a: Address) -> u16
     ensures { λ r. ⌜ (r ≡ addrFlag a) × (r ≤ 16384) ⌝ }

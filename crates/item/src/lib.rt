@@ -1,37 +1,15 @@
 // A TAG item in a packet, and a packet as a run of items.
+pub use item_rules::Bits;
+pub use item_rules::Bytes;
+pub use item_rules::Found;
+pub use item_rules::Item;
+pub use item_rules::Step;
 ghost use mathlib.Core.Path.{_≡_};
 ghost use mathlib.Core.Bool.{false, _&&_};
 ghost use Prim.Native.Nat.{_%_, _<_};
 ghost use lib.ListN.{replicate};
-ghost use Rattle.item.specs.Item.{bytesFor, stepIn};
-ghost use Rattle.item.specs.Run.{runOf, firstOf, badPtr, faultOf, isBefore, slots};
-
-// A length in bits, as a TAG length counts.
-pub struct Bits(pub u32);
-
-// A length in bytes, as a value is counted.
-pub struct Bytes(pub usize);
-
-// An item of a packet: its name as a big-endian number, its length, and the place of its value in the lent packet.
-pub struct Item {
-    pub name: u32,
-    pub bits: Bits,
-    pub from: usize,
-    pub len: Bytes,
-}
-
-// What stands at a position: an item, the end with so many bytes of padding, or an item that is refused.
-pub enum Step {
-    Item(Item),
-    End(Bytes),
-    Refused(u8),
-}
-
-// What a search by name finds.
-pub enum Found {
-    At(Item),
-    Nothing,
-}
+ghost use Rattle.item_rules.specs.Item.{bytesFor, stepIn};
+ghost use Rattle.item_rules.specs.Run.{runOf, firstOf, badPtr, faultOf, isBefore, slots};
 
 // The bytes before a value.
 pub const HEAD: usize = 8;

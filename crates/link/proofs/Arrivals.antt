@@ -7,25 +7,25 @@ use native.Mathlib.Omega.{arith}
 use borrow.Author.Tests.{eqb-true, eqb-false, eq-eqb, ltb-true, lt-ltb, le-ltb, not-true}
 use lib.Dec.{ltb, eqb, lit<, lit≤}
 use lib.ListN.{length, replicate, length-replicate}
-use Rattle.base.specs.Bounds.{most-l, most-f}
-use Rattle.base.specs.Bytes.{Bytes}
-use Rattle.base.specs.Round.{ceil}
-use Rattle.base.specs.Tests.{among}
-use Rattle.base.proofs.Firsts.{due, skip, none-due}
-use Rattle.base.proofs.Logic.{clash, and-left, and-right}
-use Rattle.af.specs.Packet.{most-payload, packetOf}
-use Rattle.af.specs.Calls.{afFault}
-use Rattle.af.specs.Claims.{Back}
-use Rattle.af.proofs.Proved.{a1}
-use Rattle.cut.specs.declared.Address.{Address}
-use Rattle.cut.specs.declared.Settings.{Settings}
-use Rattle.cut.specs.Plan.{houseOf, fit}
-use Rattle.cut.specs.Edge.{plain}
-use Rattle.cut.specs.Sizes as cut
-use Rattle.header.specs.Read.{isShort, badAddress, faultOf}
-use Rattle.header.specs.Claims.{Fitting}
-use Rattle.sender.specs.Calls.{packetFault}
-use Rattle.sender.specs.Fragments.{fragmentFor}
+use Rattle.base_rules.specs.Bounds.{most-l, most-f}
+use Rattle.base_rules.specs.Bytes.{Bytes}
+use Rattle.base_rules.specs.Round.{ceil}
+use Rattle.base_rules.specs.Tests.{among}
+use Rattle.base_rules.proofs.Firsts.{due, skip, none-due}
+use Rattle.base_rules.proofs.Logic.{clash, and-left, and-right}
+use Rattle.af_rules.specs.Packet.{most-payload, packetOf}
+use Rattle.af_rules.specs.Calls.{afFault}
+use Rattle.af_rules.specs.Claims.{Back}
+use Rattle.af_rules.proofs.Proved.{a1}
+use Rattle.cut_rules.specs.declared.Address.{Address}
+use Rattle.cut_rules.specs.declared.Settings.{Settings}
+use Rattle.cut_rules.specs.Plan.{houseOf, fit}
+use Rattle.cut_rules.specs.Edge.{plain}
+use Rattle.cut_rules.specs.Sizes as cut
+use Rattle.header_rules.specs.Read.{isShort, badAddress, faultOf}
+use Rattle.header_rules.specs.Claims.{Fitting}
+use Rattle.sender_rules.specs.Calls.{packetFault}
+use Rattle.sender_rules.specs.Fragments.{fragmentFor}
 use Rattle.link.specs.Run.{Call, freshWith, heard, numberIn, come, All}
 use Rattle.link.specs.Demand.{Takes, count, Own, Among, Begins}
 use Rattle.link.specs.Examples.{Input, inputOf, Lawful, packet, number, other, Arrival, Its, Of, Broken, datagramOf, Playable}

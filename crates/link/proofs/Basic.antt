@@ -8,13 +8,13 @@ use borrow.Author.Tests.{eqb-true, eqb-false, ltb-true, ltb-false, eq-eqb, ne-eq
 use lib.Dec.{ltb, eqb}
 use lib.ListN.{length, take, drop}
 use lib.Seq.{getD-set-other, take-take, take-nil, drop-drop}
-use Rattle.base.specs.Bytes.{splice}
-use Rattle.base.proofs.Logic.{either, clash, and-left, and-right, and-false}
-use Rattle.base.proofs.Splice.{splice-front, splice-behind}
-use Rattle.places.specs.declared.Place.{Place}
-use Rattle.places.specs.declared.Table.{Table}
-use Rattle.places.specs.Places.{four, free, freePlace, placeAt, withPlace, keyIn, holds, firstPlace, heldAt}
-use Rattle.places.proofs.Records.{first-0, first-1, first-2, first-3, first-none}
+use Rattle.base_rules.specs.Bytes.{splice}
+use Rattle.base_rules.proofs.Logic.{either, clash, and-left, and-right, and-false}
+use Rattle.base_rules.proofs.Splice.{splice-front, splice-behind}
+use Rattle.places_rules.specs.declared.Place.{Place}
+use Rattle.places_rules.specs.declared.Table.{Table}
+use Rattle.places_rules.specs.Places.{four, free, freePlace, placeAt, withPlace, keyIn, holds, firstPlace, heldAt}
+use Rattle.places_rules.proofs.Records.{first-0, first-1, first-2, first-3, first-none}
 
 -- ---- cases
 

@@ -6,23 +6,23 @@ use Prim.Native.Nat.{ℕ, _+_, _*_, _≤_}
 use native.Mathlib.Omega.{arith}
 use lib.Dec.{eqb}
 use lib.ListN.{length, getD, length-set}
-use Rattle.base.specs.Bounds.{place}
-use Rattle.base.specs.Bytes.{splice}
-use Rattle.base.proofs.Logic.{either, clash}
-use Rattle.cut.specs.declared.Settings.{Settings}
-use Rattle.cut.specs.Missing.{losses}
-use Rattle.header.specs.declared.Header.{Header}
-use Rattle.header.specs.Read.{fieldsOf}
-use Rattle.places.specs.declared.Place.{Place}
-use Rattle.places.specs.declared.Table.{Table}
-use Rattle.places.specs.declared.Displaced.{Displaced}
-use Rattle.places.specs.declared.Displaced.the-variants.{None}
-use Rattle.places.specs.Places.{four, delivered, placeAt, withPlace, keyOf, holds, heldAt, openAt, displacedAt, turned, openedBy, offsetOf, keptIn, inCondition}
-use Rattle.places.specs.Faults.{placeFault}
-use Rattle.receiver.specs.declared.Received.the-variants.{Delivered, Refused}
-use Rattle.receiver.specs.Promise.{numberOf, Outcome, outcome, State, payloadOf, keepAt, closedAt, Settled, SettledAfter}
-use Rattle.receiver.proofs.Ranges.{written-place}
-use Rattle.sender.specs.Fragments.{payloadFor, headerFor}
+use Rattle.base_rules.specs.Bounds.{place}
+use Rattle.base_rules.specs.Bytes.{splice}
+use Rattle.base_rules.proofs.Logic.{either, clash}
+use Rattle.cut_rules.specs.declared.Settings.{Settings}
+use Rattle.cut_rules.specs.Missing.{losses}
+use Rattle.header_rules.specs.declared.Header.{Header}
+use Rattle.header_rules.specs.Read.{fieldsOf}
+use Rattle.places_rules.specs.declared.Place.{Place}
+use Rattle.places_rules.specs.declared.Table.{Table}
+use Rattle.places_rules.specs.declared.Displaced.{Displaced}
+use Rattle.places_rules.specs.declared.Displaced.the-variants.{None}
+use Rattle.places_rules.specs.Places.{four, delivered, placeAt, withPlace, keyOf, holds, heldAt, openAt, displacedAt, turned, openedBy, offsetOf, keptIn, inCondition}
+use Rattle.places_rules.specs.Faults.{placeFault}
+use Rattle.receiver_rules.specs.declared.Received.the-variants.{Delivered, Refused}
+use Rattle.receiver_rules.specs.Promise.{numberOf, Outcome, outcome, State, payloadOf, keepAt, closedAt, Settled, SettledAfter}
+use Rattle.receiver_rules.proofs.Ranges.{written-place}
+use Rattle.sender_rules.specs.Fragments.{payloadFor, headerFor}
 use Rattle.link.specs.Run.{Call, after, Made, come, lost}
 use Rattle.link.specs.Demand.{Takes, count, enoughAfter, Answered}
 use Rattle.link.proofs.Basic.{held-absent}

@@ -8,22 +8,22 @@ use native.Mathlib.Omega.{arith}
 use borrow.Author.Tests.{not-false}
 use lib.Dec.{leb}
 use lib.ListN.{length, getD, take, drop}
-use Rattle.base.specs.Bounds.{parity}
-use Rattle.base.specs.Bytes.{Bytes}
-use Rattle.cut.specs.declared.Settings.{Settings}
-use Rattle.cut.specs.Block.{padded, blockOf}
-use Rattle.cut.specs.Cells.{fragmentOf, cellOf}
-use Rattle.cut.specs.Missing.{gone}
-use Rattle.cut.specs.Sizes as cut
-use Rattle.cut.proofs.Proved.{c4}
+use Rattle.base_rules.specs.Bounds.{parity}
+use Rattle.base_rules.specs.Bytes.{Bytes}
+use Rattle.cut_rules.specs.declared.Settings.{Settings}
+use Rattle.cut_rules.specs.Block.{padded, blockOf}
+use Rattle.cut_rules.specs.Cells.{fragmentOf, cellOf}
+use Rattle.cut_rules.specs.Missing.{gone}
+use Rattle.cut_rules.specs.Sizes as cut
+use Rattle.cut_rules.proofs.Proved.{c4}
 use Rattle.codeword.specs.Code.{parityOf}
-use Rattle.form.specs.Agree.{lostIn, Fills}
-use Rattle.places.specs.declared.Place.{Place}
-use Rattle.receiver.specs.Promise.{bytesAt}
-use Rattle.sender.specs.Calls.{packetFault}
-use Rattle.sender.specs.Fragments.{blockFor}
-use Rattle.sender.proofs.FragmentLengths.{payload-fec, size-fec, sure, f-some}
-use Rattle.sender.proofs.PlannedFigures.{with-fec}
+use Rattle.form_rules.specs.Agree.{lostIn, Fills}
+use Rattle.places_rules.specs.declared.Place.{Place}
+use Rattle.receiver_rules.specs.Promise.{bytesAt}
+use Rattle.sender_rules.specs.Calls.{packetFault}
+use Rattle.sender_rules.specs.Fragments.{blockFor}
+use Rattle.sender_rules.proofs.FragmentLengths.{payload-fec, size-fec, sure, f-some}
+use Rattle.sender_rules.proofs.PlannedFigures.{with-fec}
 use Rattle.link.specs.Demand.{count}
 use Rattle.link.proofs.Enough.{sizeOf, rskOf, rszOf, is-c}
 use Rattle.link.proofs.Own.{lastIs, Full, SizeKnown, stands, offset-not}

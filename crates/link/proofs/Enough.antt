@@ -9,22 +9,22 @@ use native.Mathlib.Omega.{arith}
 use borrow.Author.Tests.{eqb-true, eq-eqb, ne-eqb, leb-true, le-leb}
 use lib.Dec.{leb, eqb}
 use lib.ListN.{length}
-use Rattle.base.specs.Bounds.{parity}
-use Rattle.base.specs.Tests.{bit}
-use Rattle.base.proofs.Logic.{either, and-left, and-right}
-use Rattle.cut.specs.declared.Settings.{Settings}
-use Rattle.cut.specs.Missing.{count, losses, gone, missing, suffice}
-use Rattle.cut.specs.Plan.{withFec}
-use Rattle.cut.specs.Sizes as cut
-use Rattle.cut.proofs.ChunkSizes.{c-some}
-use Rattle.cut.proofs.LossCounts.{count-same}
-use Rattle.cut.proofs.Proved.{c3}
-use Rattle.cut.proofs.Sufficing.{suffice-no}
-use Rattle.form.specs.Agree.{enough}
-use Rattle.sender.specs.Calls.{packetFault}
-use Rattle.sender.proofs.Checks.{taken, in-bounds}
-use Rattle.sender.proofs.FragmentLengths.{sure, f-some}
-use Rattle.sender.proofs.PlannedFigures.{with-fec}
+use Rattle.base_rules.specs.Bounds.{parity}
+use Rattle.base_rules.specs.Tests.{bit}
+use Rattle.base_rules.proofs.Logic.{either, and-left, and-right}
+use Rattle.cut_rules.specs.declared.Settings.{Settings}
+use Rattle.cut_rules.specs.Missing.{count, losses, gone, missing, suffice}
+use Rattle.cut_rules.specs.Plan.{withFec}
+use Rattle.cut_rules.specs.Sizes as cut
+use Rattle.cut_rules.proofs.ChunkSizes.{c-some}
+use Rattle.cut_rules.proofs.LossCounts.{count-same}
+use Rattle.cut_rules.proofs.Proved.{c3}
+use Rattle.cut_rules.proofs.Sufficing.{suffice-no}
+use Rattle.form_rules.specs.Agree.{enough}
+use Rattle.sender_rules.specs.Calls.{packetFault}
+use Rattle.sender_rules.proofs.Checks.{taken, in-bounds}
+use Rattle.sender_rules.proofs.FragmentLengths.{sure, f-some}
+use Rattle.sender_rules.proofs.PlannedFigures.{with-fec}
 use Rattle.link.specs.Run.{Call, come, lost}
 use Rattle.link.specs.Demand as demand
 

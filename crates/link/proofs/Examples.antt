@@ -7,15 +7,15 @@ use native.Mathlib.Omega.{arith}
 use borrow.Author.Tests.{eq-eqb}
 use lib.Dec.{T, eqb, lit<, lit≤}
 use lib.ListN.{length, getD}
-use Rattle.base.specs.Tests.{among}
-use Rattle.base.proofs.Every.{below, at}
-use Rattle.cut.specs.Plan.{houseOf}
-use Rattle.cut.specs.Missing as missing
-use Rattle.cut.specs.Sizes as cut
-use Rattle.cut.proofs.Proved.{any-three, no-four}
-use Rattle.header.specs.Read.{badAddress}
-use Rattle.receiver.specs.declared.Received.the-variants.{Delivered}
-use Rattle.receiver.specs.Promise.{numberOf, State}
+use Rattle.base_rules.specs.Tests.{among}
+use Rattle.base_rules.proofs.Every.{below, at}
+use Rattle.cut_rules.specs.Plan.{houseOf}
+use Rattle.cut_rules.specs.Missing as missing
+use Rattle.cut_rules.specs.Sizes as cut
+use Rattle.cut_rules.proofs.Proved.{any-three, no-four}
+use Rattle.header_rules.specs.Read.{badAddress}
+use Rattle.receiver_rules.specs.declared.Received.the-variants.{Delivered}
+use Rattle.receiver_rules.specs.Promise.{numberOf, State}
 use Rattle.link.specs.Run.{Call, after, Run, start, next, Holds, lost, All}
 use Rattle.link.specs.Demand.{T1, count, Among, Begins, Scene, enoughAfter, Promised, HandedOut}
 use Rattle.link.specs.Examples.{packet, number, Arrival, Played, opening, three-others, HandedOutLast, ThreeOthers, four-others, DisplacedLast, FourOthers}

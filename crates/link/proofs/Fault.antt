@@ -6,15 +6,15 @@ use Prim.Native.Nat.{ℕ, _≤_}
 use native.Mathlib.Omega.{arith}
 use borrow.Author.Tests.{le-ltb}
 use lib.ListN.{length, getD}
-use Rattle.base.proofs.Logic.{either, same}
-use Rattle.cut.specs.declared.Settings.{Settings}
-use Rattle.places.specs.declared.Place.{Place}
-use Rattle.places.specs.Places.{open-now, delivered, isLast}
-use Rattle.places.specs.Faults.{badSizeIn, mismatch, placeFault}
-use Rattle.places.proofs.Checks as checks
-use Rattle.sender.specs.Calls.{packetFault}
-use Rattle.sender.specs.Fragments.{payloadFor, headerFor}
-use Rattle.sender.proofs.FragmentLengths.{size-fec, size-most}
+use Rattle.base_rules.proofs.Logic.{either, same}
+use Rattle.cut_rules.specs.declared.Settings.{Settings}
+use Rattle.places_rules.specs.declared.Place.{Place}
+use Rattle.places_rules.specs.Places.{open-now, delivered, isLast}
+use Rattle.places_rules.specs.Faults.{badSizeIn, mismatch, placeFault}
+use Rattle.places_rules.proofs.Checks as checks
+use Rattle.sender_rules.specs.Calls.{packetFault}
+use Rattle.sender_rules.specs.Fragments.{payloadFor, headerFor}
+use Rattle.sender_rules.proofs.FragmentLengths.{size-fec, size-most}
 use Rattle.link.specs.Demand.{count}
 use Rattle.link.proofs.Basic.{same-or-not}
 use Rattle.link.proofs.Enough.{sizeOf}

@@ -7,26 +7,26 @@ use native.Mathlib.Omega.{arith}
 use lib.Dec.{eqb}
 use lib.ListN.{length, take, drop, length-set, length-drop, length-replicate}
 use lib.Seq.{set-set}
-use Rattle.base.specs.Bounds.{place}
-use Rattle.base.specs.Bytes.{Bytes, splice}
-use Rattle.base.proofs.Splice.{splice-length}
-use Rattle.cut.specs.declared.Address.{Address}
-use Rattle.header.specs.declared.Header.{Header}
-use Rattle.header.specs.Read.{fieldsOf, lengthOf, faultOf}
-use Rattle.header.specs.Claims.{Sound}
-use Rattle.header.proofs.Proved.{passed-sound, payload-stands}
-use Rattle.places.specs.declared.Place.{Place}
-use Rattle.places.specs.declared.Table.{Table}
-use Rattle.places.specs.declared.Displaced.{Displaced}
-use Rattle.places.specs.declared.Displaced.the-variants.{None}
-use Rattle.places.specs.Places.{four, free, delivered, spoiled, freePlace, freshTable, placeAt, withPlace, keyOf, holds, heldAt, openAt, turned, openedBy, offsetOf, keptIn, inCondition}
-use Rattle.places.specs.Faults.{badPlace, badTable, placeFault}
-use Rattle.places.proofs.Checks.{bad-3}
-use Rattle.places.proofs.Ranges.{InRange, range-from, range-to}
-use Rattle.places.proofs.Proved.{fresh-in-range, kept-in-range, opened-in-range}
-use Rattle.receiver.specs.Promise.{Outcome, outcome, State, all-places, payloadOf, keepAt, closedAt, Settled, waits, delivers, damaged, SettledAfter}
-use Rattle.receiver.proofs.Ranges.{turn-fine, place-fine, opens-below, written-place}
-use Rattle.receiver.proofs.Offsets.{offset-fits}
+use Rattle.base_rules.specs.Bounds.{place}
+use Rattle.base_rules.specs.Bytes.{Bytes, splice}
+use Rattle.base_rules.proofs.Splice.{splice-length}
+use Rattle.cut_rules.specs.declared.Address.{Address}
+use Rattle.header_rules.specs.declared.Header.{Header}
+use Rattle.header_rules.specs.Read.{fieldsOf, lengthOf, faultOf}
+use Rattle.header_rules.specs.Claims.{Sound}
+use Rattle.header_rules.proofs.Proved.{passed-sound, payload-stands}
+use Rattle.places_rules.specs.declared.Place.{Place}
+use Rattle.places_rules.specs.declared.Table.{Table}
+use Rattle.places_rules.specs.declared.Displaced.{Displaced}
+use Rattle.places_rules.specs.declared.Displaced.the-variants.{None}
+use Rattle.places_rules.specs.Places.{four, free, delivered, spoiled, freePlace, freshTable, placeAt, withPlace, keyOf, holds, heldAt, openAt, turned, openedBy, offsetOf, keptIn, inCondition}
+use Rattle.places_rules.specs.Faults.{badPlace, badTable, placeFault}
+use Rattle.places_rules.proofs.Checks.{bad-3}
+use Rattle.places_rules.proofs.Ranges.{InRange, range-from, range-to}
+use Rattle.places_rules.proofs.Proved.{fresh-in-range, kept-in-range, opened-in-range}
+use Rattle.receiver_rules.specs.Promise.{Outcome, outcome, State, all-places, payloadOf, keepAt, closedAt, Settled, waits, delivers, damaged, SettledAfter}
+use Rattle.receiver_rules.proofs.Ranges.{turn-fine, place-fine, opens-below, written-place}
+use Rattle.receiver_rules.proofs.Offsets.{offset-fits}
 use Rattle.link.specs.Run.{Call, after, Made, Run, start, next, freshWith, Reached}
 use Rattle.link.proofs.Basic.{same-or-not, less-or-not, spared-before, spared-behind, held-found, holds-number, holds-some, holds-other, other-place}
 use Rattle.link.proofs.View.{Good, View, unheard, refuses, keeps, opens, view}

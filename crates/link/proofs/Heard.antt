@@ -8,18 +8,18 @@ use borrow.Author.Tests.{eqb-true, eq-eqb, ne-eqb}
 use lib.Dec.{eqb}
 use lib.ListN.{length}
 use lib.Seq.{drop-at}
-use Rattle.base.proofs.Logic.{either}
-use Rattle.cut.specs.declared.Address.{Address}
-use Rattle.cut.specs.declared.Settings.{Settings}
-use Rattle.header.specs.declared.Header.{Header}
-use Rattle.header.specs.Header.{headerBytes}
-use Rattle.header.specs.Read.{fieldsOf, lengthOf, badAddress, faultOf}
-use Rattle.header.proofs.Proved.{reads-back, payload-stands}
-use Rattle.receiver.specs.Promise.{payloadOf}
-use Rattle.sender.specs.Fragments.{payloadFor, headerFor, fragmentFor}
-use Rattle.sender.proofs.FragmentLengths.{header-size, fragment-size}
-use Rattle.sender.proofs.Headers.{header-written}
-use Rattle.sender.proofs.Proved.{received}
+use Rattle.base_rules.proofs.Logic.{either}
+use Rattle.cut_rules.specs.declared.Address.{Address}
+use Rattle.cut_rules.specs.declared.Settings.{Settings}
+use Rattle.header_rules.specs.declared.Header.{Header}
+use Rattle.header_rules.specs.Header.{headerBytes}
+use Rattle.header_rules.specs.Read.{fieldsOf, lengthOf, badAddress, faultOf}
+use Rattle.header_rules.proofs.Proved.{reads-back, payload-stands}
+use Rattle.receiver_rules.specs.Promise.{payloadOf}
+use Rattle.sender_rules.specs.Fragments.{payloadFor, headerFor, fragmentFor}
+use Rattle.sender_rules.proofs.FragmentLengths.{header-size, fragment-size}
+use Rattle.sender_rules.proofs.Headers.{header-written}
+use Rattle.sender_rules.proofs.Proved.{received}
 use Rattle.link.specs.Run.{Call, numberIn, come}
 use Rattle.link.specs.Demand.{Takes, count, Own}
 use Rattle.link.proofs.Basic.{same-or-not}

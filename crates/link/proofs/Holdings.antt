@@ -9,27 +9,27 @@ use borrow.Author.Tests.{leb-true, eq-eqb, not-false}
 use lib.Dec.{leb, eqb}
 use lib.ListN.{length, getD, take, drop, set, replicate, length-replicate, getD-replicate, List·getD-eq-default}
 use lib.Seq.{getD-set-other, drop-drop}
-use Rattle.base.specs.Bounds.{most-f, place}
-use Rattle.base.specs.Bytes.{Bytes, splice}
-use Rattle.base.proofs.Firsts.{clear, clear-rest}
-use Rattle.base.proofs.Logic.{either, clash, and-right, or-left, or-right, same-from}
-use Rattle.base.proofs.Splice.{splice-here}
-use Rattle.header.specs.declared.Header.{Header}
-use Rattle.header.specs.Read.{fieldsOf, faultOf}
-use Rattle.header.specs.Claims.{Sound}
-use Rattle.header.proofs.Proved.{passed-sound}
-use Rattle.places.specs.declared.Place.{Place}
-use Rattle.places.specs.declared.Table.{Table}
-use Rattle.places.specs.declared.Displaced.{Displaced}
-use Rattle.places.specs.declared.Displaced.the-variants.{None}
-use Rattle.places.specs.Places.{four, free, delivered, spoiled, placeAt, keyOf, holds, heldAt, openAt, turned, openedBy, isLast, offsetOf, keptIn, inCondition}
-use Rattle.places.specs.Faults.{badSizeIn, mismatch, placeFault}
-use Rattle.places.proofs.Checks as checks
-use Rattle.places.proofs.Ranges.{InRange, Belongs, range-from, matched, size-fits, belongs, belongs-opened, range-kept, range-opened}
-use Rattle.places.proofs.Records.{offset-last, offset-other}
-use Rattle.receiver.specs.Promise.{Outcome, outcome, State, payloadOf, bytesAt, keepAt, SettledAfter}
-use Rattle.receiver.proofs.Ranges.{place-fine, opens-below, written-place}
-use Rattle.receiver.proofs.Offsets.{offset-fits}
+use Rattle.base_rules.specs.Bounds.{most-f, place}
+use Rattle.base_rules.specs.Bytes.{Bytes, splice}
+use Rattle.base_rules.proofs.Firsts.{clear, clear-rest}
+use Rattle.base_rules.proofs.Logic.{either, clash, and-right, or-left, or-right, same-from}
+use Rattle.base_rules.proofs.Splice.{splice-here}
+use Rattle.header_rules.specs.declared.Header.{Header}
+use Rattle.header_rules.specs.Read.{fieldsOf, faultOf}
+use Rattle.header_rules.specs.Claims.{Sound}
+use Rattle.header_rules.proofs.Proved.{passed-sound}
+use Rattle.places_rules.specs.declared.Place.{Place}
+use Rattle.places_rules.specs.declared.Table.{Table}
+use Rattle.places_rules.specs.declared.Displaced.{Displaced}
+use Rattle.places_rules.specs.declared.Displaced.the-variants.{None}
+use Rattle.places_rules.specs.Places.{four, free, delivered, spoiled, placeAt, keyOf, holds, heldAt, openAt, turned, openedBy, isLast, offsetOf, keptIn, inCondition}
+use Rattle.places_rules.specs.Faults.{badSizeIn, mismatch, placeFault}
+use Rattle.places_rules.proofs.Checks as checks
+use Rattle.places_rules.proofs.Ranges.{InRange, Belongs, range-from, matched, size-fits, belongs, belongs-opened, range-kept, range-opened}
+use Rattle.places_rules.proofs.Records.{offset-last, offset-other}
+use Rattle.receiver_rules.specs.Promise.{Outcome, outcome, State, payloadOf, bytesAt, keepAt, SettledAfter}
+use Rattle.receiver_rules.proofs.Ranges.{place-fine, opens-below, written-place}
+use Rattle.receiver_rules.proofs.Offsets.{offset-fits}
 use Rattle.link.specs.Run.{Call, after, Made, Run, start, next, Reached, heard, numberIn, indexIn}
 use Rattle.link.specs.Reached.{partIn, HeldSince, just-now, before, HeldCame, Stays, displaced, stays, StaysKept}
 use Rattle.link.proofs.Basic.{same-or-not, less-or-not, spared-before, spared-behind, held-found, holds-number, holds-some, holds-yes}

@@ -3,8 +3,8 @@
 use mathlib.Core.List.{List, _++_}
 use Prim.Native.Nat.{ℕ, _≤_}
 use native.Mathlib.Omega.{arith}
-use Rattle.places.specs.Places.{four, heldAt}
-use Rattle.receiver.specs.Promise.{State}
+use Rattle.places_rules.specs.Places.{four, heldAt}
+use Rattle.receiver_rules.specs.Promise.{State}
 use Rattle.link.specs.Run.{Call, Run, start, next, Reached, Holds}
 use Rattle.link.specs.Demand.{T1, T2, T3, T3b, Again}
 use Rattle.link.proofs.Basic.{less-or-not}

@@ -9,19 +9,19 @@ use borrow.Author.Tests.{leb-true, leb-false, eq-eqb, ne-eqb}
 use lib.Dec.{leb, eqb}
 use lib.ListN.{length, getD, take, drop, set, length-set, length-replicate, getD-replicate}
 use lib.Seq.{getD-set-same, getD-set-other, drop-drop}
-use Rattle.base.specs.Bounds.{most-f, place}
-use Rattle.base.specs.Bytes.{splice}
-use Rattle.base.proofs.Logic.{either, clash, and-right}
-use Rattle.base.proofs.Splice.{splice-here}
-use Rattle.cut.specs.declared.Settings.{Settings}
-use Rattle.header.specs.declared.Header.{Header}
-use Rattle.places.specs.declared.Place.{Place}
-use Rattle.places.specs.Places.{four, open-now, isLast, offsetOf, openedBy, keptIn}
-use Rattle.receiver.specs.Promise.{all-places, bytesAt}
-use Rattle.sender.specs.Calls.{packetFault}
-use Rattle.sender.specs.Fragments.{payloadFor, headerFor}
-use Rattle.sender.proofs.Checks.{in-bounds}
-use Rattle.sender.proofs.FragmentLengths.{sure, s-placed, size-fec, full-plain, size-most}
+use Rattle.base_rules.specs.Bounds.{most-f, place}
+use Rattle.base_rules.specs.Bytes.{splice}
+use Rattle.base_rules.proofs.Logic.{either, clash, and-right}
+use Rattle.base_rules.proofs.Splice.{splice-here}
+use Rattle.cut_rules.specs.declared.Settings.{Settings}
+use Rattle.header_rules.specs.declared.Header.{Header}
+use Rattle.places_rules.specs.declared.Place.{Place}
+use Rattle.places_rules.specs.Places.{four, open-now, isLast, offsetOf, openedBy, keptIn}
+use Rattle.receiver_rules.specs.Promise.{all-places, bytesAt}
+use Rattle.sender_rules.specs.Calls.{packetFault}
+use Rattle.sender_rules.specs.Fragments.{payloadFor, headerFor}
+use Rattle.sender_rules.proofs.Checks.{in-bounds}
+use Rattle.sender_rules.proofs.FragmentLengths.{sure, s-placed, size-fec, full-plain, size-most}
 use Rattle.link.specs.Demand.{count}
 use Rattle.link.proofs.Basic.{same-or-not, less-or-not, spared-before, spared-behind}
 use Rattle.link.proofs.Enough.{sizeOf, rskOf, rszOf}

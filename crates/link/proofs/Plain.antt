@@ -9,19 +9,19 @@ use borrow.Author.Tests.{eqb-true, le-leb, lt-leb, not-false}
 use lib.Dec.{leb}
 use lib.ListN.{length, take, drop, length-drop, take-append-drop}
 use lib.Seq.{take-add, take-all}
-use Rattle.base.specs.Bounds.{place}
-use Rattle.base.specs.Tests.{bit}
-use Rattle.cut.specs.declared.Settings.{Settings}
-use Rattle.cut.specs.Cells.{partOf}
-use Rattle.cut.specs.Missing.{losses}
-use Rattle.cut.specs.Missing as missing
-use Rattle.cut.proofs.PlanCases.{L-plain}
-use Rattle.form.specs.Agree.{enough, joined}
-use Rattle.places.specs.declared.Place.{Place}
-use Rattle.receiver.specs.Promise.{bytesAt}
-use Rattle.sender.specs.Calls.{packetFault}
-use Rattle.sender.specs.Fragments.{payloadFor}
-use Rattle.sender.proofs.FragmentLengths.{payload-plain, sure, f-some}
+use Rattle.base_rules.specs.Bounds.{place}
+use Rattle.base_rules.specs.Tests.{bit}
+use Rattle.cut_rules.specs.declared.Settings.{Settings}
+use Rattle.cut_rules.specs.Cells.{partOf}
+use Rattle.cut_rules.specs.Missing.{losses}
+use Rattle.cut_rules.specs.Missing as missing
+use Rattle.cut_rules.proofs.PlanCases.{L-plain}
+use Rattle.form_rules.specs.Agree.{enough, joined}
+use Rattle.places_rules.specs.declared.Place.{Place}
+use Rattle.receiver_rules.specs.Promise.{bytesAt}
+use Rattle.sender_rules.specs.Calls.{packetFault}
+use Rattle.sender_rules.specs.Fragments.{payloadFor}
+use Rattle.sender_rules.proofs.FragmentLengths.{payload-plain, sure, f-some}
 use Rattle.link.specs.Demand.{count}
 use Rattle.link.proofs.Basic.{less-or-not}
 use Rattle.link.proofs.Enough.{sizeOf, rskOf, suffices}

@@ -6,18 +6,18 @@ use Prim.Native.Nat.{ℕ, zero, suc, _+_, _-_, _*_, _≤_, _<_}
 use native.Mathlib.Nat.{zero-mul, mul-zero}
 use native.Mathlib.Omega.{arith}
 use lib.ListN.{getD-replicate}
-use Rattle.base.specs.Bounds.{place}
-use Rattle.base.proofs.Logic.{clash}
-use Rattle.header.specs.declared.Header.{Header}
-use Rattle.header.specs.Read.{fieldsOf}
-use Rattle.places.specs.declared.Place.{Place}
-use Rattle.places.specs.declared.Table.{Table}
-use Rattle.places.specs.Places.{four, free, freePlace, freshTable, placeAt, keyOf, holds, heldAt, openAt, turned}
-use Rattle.places.specs.Claims.{Opened}
-use Rattle.places.proofs.Ranges.{range-from}
-use Rattle.places.proofs.Proved.{fresh-is-opened, next-is-opened, kept-is-opened}
-use Rattle.receiver.specs.Promise.{Outcome, outcome, State}
-use Rattle.receiver.proofs.Ranges.{place-fine}
+use Rattle.base_rules.specs.Bounds.{place}
+use Rattle.base_rules.proofs.Logic.{clash}
+use Rattle.header_rules.specs.declared.Header.{Header}
+use Rattle.header_rules.specs.Read.{fieldsOf}
+use Rattle.places_rules.specs.declared.Place.{Place}
+use Rattle.places_rules.specs.declared.Table.{Table}
+use Rattle.places_rules.specs.Places.{four, free, freePlace, freshTable, placeAt, keyOf, holds, heldAt, openAt, turned}
+use Rattle.places_rules.specs.Claims.{Opened}
+use Rattle.places_rules.proofs.Ranges.{range-from}
+use Rattle.places_rules.proofs.Proved.{fresh-is-opened, next-is-opened, kept-is-opened}
+use Rattle.receiver_rules.specs.Promise.{Outcome, outcome, State}
+use Rattle.receiver_rules.proofs.Ranges.{place-fine}
 use Rattle.link.specs.Run.{Call, after, Made, Run, start, next, Reached}
 use Rattle.link.specs.Reached.{StaysInRange, GoesRound, HeldOnce, PartsApart}
 use Rattle.link.proofs.Basic.{same-or-not, held-found, held-absent, holds-number, holds-some}

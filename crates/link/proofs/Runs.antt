@@ -3,26 +3,26 @@ use mathlib.Core.Path.{refl, ap}
 use mathlib.Core.List.{List, [], _∷_, _++_}
 use Prim.Native.Nat.{ℕ, zero, suc, _+_, _*_, _<_}
 use lib.ListN.{length, getD, take, drop}
-use Rattle.base.specs.Bytes.{Bytes, bytesOf}
-use Rattle.base.specs.Table.{table}
-use Rattle.base.proofs.ByteLaws.{bytes-at, bytes-append, bytes-take, bytes-drop, bytes-zeros}
-use Rattle.base.proofs.Logic.{either}
-use Rattle.af.proofs.ReadBack.{bytes-bytes, bytes-then}
+use Rattle.base_rules.specs.Bytes.{Bytes, bytesOf}
+use Rattle.base_rules.specs.Table.{table}
+use Rattle.base_rules.proofs.ByteLaws.{bytes-at, bytes-append, bytes-take, bytes-drop, bytes-zeros}
+use Rattle.base_rules.proofs.Logic.{either}
+use Rattle.af_rules.proofs.ReadBack.{bytes-bytes, bytes-then}
 use Rattle.codeword.specs.Code.{parityOf}
 use Rattle.codeword.proofs.Encoder.{bytes-parity}
-use Rattle.cut.specs.declared.Address.{Address}
-use Rattle.cut.specs.declared.Address.the-variants.{None, Pair}
-use Rattle.cut.specs.declared.Settings.{Settings}
-use Rattle.cut.specs.Block as block
-use Rattle.cut.specs.Cells.{fragmentOf, partOf}
-use Rattle.cut.specs.Sizes as cut
-use Rattle.header.specs.declared.Header.{Header}
-use Rattle.header.specs.Header.{sync, flagsOf, fecPart, addressPart, frontOf, bodyOf, headerBytes}
-use Rattle.header.specs.Claims.{Written}
-use Rattle.receiver.proofs.Proved.{some-outcome}
-use Rattle.sender.specs.Fragments.{blockFor, payloadFor, headerFor, fragmentFor}
-use Rattle.sender.proofs.FragmentLengths.{payload-fec, payload-plain}
-use Rattle.sender.proofs.Headers.{header-written}
+use Rattle.cut_rules.specs.declared.Address.{Address}
+use Rattle.cut_rules.specs.declared.Address.the-variants.{None, Pair}
+use Rattle.cut_rules.specs.declared.Settings.{Settings}
+use Rattle.cut_rules.specs.Block as block
+use Rattle.cut_rules.specs.Cells.{fragmentOf, partOf}
+use Rattle.cut_rules.specs.Sizes as cut
+use Rattle.header_rules.specs.declared.Header.{Header}
+use Rattle.header_rules.specs.Header.{sync, flagsOf, fecPart, addressPart, frontOf, bodyOf, headerBytes}
+use Rattle.header_rules.specs.Claims.{Written}
+use Rattle.receiver_rules.proofs.Proved.{some-outcome}
+use Rattle.sender_rules.specs.Fragments.{blockFor, payloadFor, headerFor, fragmentFor}
+use Rattle.sender_rules.proofs.FragmentLengths.{payload-fec, payload-plain}
+use Rattle.sender_rules.proofs.Headers.{header-written}
 use Rattle.link.specs.Run.{Call, after, start, next}
 use Rattle.link.specs.Demand.{Takes, count}
 use Rattle.link.specs.Examples.{Input, Lawful, SomeRun}

@@ -5,23 +5,23 @@ use mathlib.Core.List.{List}
 use Prim.Native.Nat.{ℕ, _≤_, _<_}
 use native.Mathlib.Omega.{arith}
 use lib.ListN.{length}
-use Rattle.base.specs.Bounds.{most-k}
-use Rattle.base.specs.Bytes.{splice}
-use Rattle.base.proofs.Logic.{clash}
-use Rattle.cut.specs.declared.Settings.{Settings}
-use Rattle.cut.specs.Missing.{losses}
-use Rattle.cut.specs.Sizes as cut
-use Rattle.form.specs.Agree.{enough, enoughIn, missingIn, lostIn, Agrees}
-use Rattle.form.proofs.Unique.{one-packet}
-use Rattle.places.specs.declared.Place.{Place}
-use Rattle.places.specs.declared.Table.{Table}
-use Rattle.places.specs.declared.Displaced.{Displaced}
-use Rattle.places.specs.Places.{delivered, placeAt}
-use Rattle.receiver.specs.declared.Received.the-variants.{Kept, Delivered}
-use Rattle.receiver.specs.Promise.{numberOf, Outcome, outcome, closedAt, bytesAt, Settled, waits, delivers, damaged}
-use Rattle.sender.proofs.Checks.{sound}
-use Rattle.sender.proofs.FragmentLengths.{sure, f-some}
-use Rattle.sender.proofs.PlannedFigures.{with-fec}
+use Rattle.base_rules.specs.Bounds.{most-k}
+use Rattle.base_rules.specs.Bytes.{splice}
+use Rattle.base_rules.proofs.Logic.{clash}
+use Rattle.cut_rules.specs.declared.Settings.{Settings}
+use Rattle.cut_rules.specs.Missing.{losses}
+use Rattle.cut_rules.specs.Sizes as cut
+use Rattle.form_rules.specs.Agree.{enough, enoughIn, missingIn, lostIn, Agrees}
+use Rattle.form_rules.proofs.Unique.{one-packet}
+use Rattle.places_rules.specs.declared.Place.{Place}
+use Rattle.places_rules.specs.declared.Table.{Table}
+use Rattle.places_rules.specs.declared.Displaced.{Displaced}
+use Rattle.places_rules.specs.Places.{delivered, placeAt}
+use Rattle.receiver_rules.specs.declared.Received.the-variants.{Kept, Delivered}
+use Rattle.receiver_rules.specs.Promise.{numberOf, Outcome, outcome, closedAt, bytesAt, Settled, waits, delivers, damaged}
+use Rattle.sender_rules.proofs.Checks.{sound}
+use Rattle.sender_rules.proofs.FragmentLengths.{sure, f-some}
+use Rattle.sender_rules.proofs.PlannedFigures.{with-fec}
 use Rattle.link.specs.Demand.{Takes, count}
 use Rattle.link.proofs.Enough.{sizeOf, rskOf, suffices, enough-same, losses-same}
 use Rattle.link.proofs.Own.{Full, SizeKnown}

@@ -7,13 +7,13 @@ use native.Mathlib.Nat.{le-refl}
 use native.Mathlib.Omega.{arith}
 use borrow.Author.Tests.{ne-eqb}
 use lib.ListN.{length}
-use Rattle.base.specs.Answer.{granted}
-use Rattle.base.specs.Bounds.{most-l}
-use Rattle.base.proofs.Answers.{grants}
-use Rattle.places.specs.declared.Place.{Place}
-use Rattle.places.specs.Places.{four, free, open-now, placeAt}
-use Rattle.receiver.specs.Promise.{State}
-use Rattle.receiver.specs.Calls.{shownOf, queryCall}
+use Rattle.base_rules.specs.Answer.{granted}
+use Rattle.base_rules.specs.Bounds.{most-l}
+use Rattle.base_rules.proofs.Answers.{grants}
+use Rattle.places_rules.specs.declared.Place.{Place}
+use Rattle.places_rules.specs.Places.{four, free, open-now, placeAt}
+use Rattle.receiver_rules.specs.Promise.{State}
+use Rattle.receiver_rules.specs.Calls.{shownOf, queryCall}
 use Rattle.link.specs.Run.{ShownOpen}
 use Rattle.link.proofs.View.{Good, no-room-fault}
 

@@ -7,19 +7,19 @@ use Prim.Native.Nat.{ℕ, _+_, _*_, _≤_, _<_}
 use native.Mathlib.Omega.{arith}
 use borrow.Author.Tests.{eq-eqb, ne-eqb}
 use lib.ListN.{length}
-use Rattle.base.specs.Bounds.{place}
-use Rattle.base.proofs.Logic.{clash}
-use Rattle.cut.specs.declared.Settings.{Settings}
-use Rattle.header.specs.declared.Header.{Header}
-use Rattle.header.specs.Read.{fieldsOf}
-use Rattle.places.specs.declared.Place.{Place}
-use Rattle.places.specs.declared.Table.{Table}
-use Rattle.places.specs.declared.Displaced.{Displaced}
-use Rattle.places.specs.declared.Displaced.the-variants.{None, Number}
-use Rattle.places.specs.Places.{four, open-now, delivered, placeAt, keyOf, holds, heldAt, openAt, displacedAt, turned, inCondition}
-use Rattle.receiver.specs.declared.Received.the-variants.{Refused}
-use Rattle.receiver.specs.Promise.{Outcome, outcome, State, keepAt, Settled, waits, delivers, damaged}
-use Rattle.sender.specs.Fragments.{payloadFor}
+use Rattle.base_rules.specs.Bounds.{place}
+use Rattle.base_rules.proofs.Logic.{clash}
+use Rattle.cut_rules.specs.declared.Settings.{Settings}
+use Rattle.header_rules.specs.declared.Header.{Header}
+use Rattle.header_rules.specs.Read.{fieldsOf}
+use Rattle.places_rules.specs.declared.Place.{Place}
+use Rattle.places_rules.specs.declared.Table.{Table}
+use Rattle.places_rules.specs.declared.Displaced.{Displaced}
+use Rattle.places_rules.specs.declared.Displaced.the-variants.{None, Number}
+use Rattle.places_rules.specs.Places.{four, open-now, delivered, placeAt, keyOf, holds, heldAt, openAt, displacedAt, turned, inCondition}
+use Rattle.receiver_rules.specs.declared.Received.the-variants.{Refused}
+use Rattle.receiver_rules.specs.Promise.{Outcome, outcome, State, keepAt, Settled, waits, delivers, damaged}
+use Rattle.sender_rules.specs.Fragments.{payloadFor}
 use Rattle.link.specs.Run.{Call, after, Made, Holds, numberIn, come}
 use Rattle.link.specs.Demand.{Takes, count, enoughAfter, Names, by-kept, by-delivered, by-damaged, DisplacedBy}
 use Rattle.link.proofs.Basic.{same-or-not, held-found, held-absent, held-none, held-only, holds-yes, holds-number, holds-other}

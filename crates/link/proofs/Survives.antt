@@ -3,10 +3,10 @@ use mathlib.Core.Path.{ap, _∙_}
 use mathlib.Core.Bool.{Bool, cond}
 use lib.Dec.{eqb}
 use lib.ListN.{length}
-use Rattle.cut.specs.Missing.{losses, suffice}
-use Rattle.cut.specs.Sizes as cut
-use Rattle.cut.proofs.Proved.{c6}
-use Rattle.sender.proofs.Checks.{taken}
+use Rattle.cut_rules.specs.Missing.{losses, suffice}
+use Rattle.cut_rules.specs.Sizes as cut
+use Rattle.cut_rules.proofs.Proved.{c6}
+use Rattle.sender_rules.proofs.Checks.{taken}
 use Rattle.link.specs.Run.{lost}
 use Rattle.link.specs.Demand.{count, enoughAfter, T3}
 

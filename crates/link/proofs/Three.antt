@@ -8,15 +8,15 @@ use native.Mathlib.Omega.{arith}
 use borrow.Author.Tests.{eqb-true, ne-eqb, eq-eqb}
 use lib.Dec.{eqb}
 use lib.ListN.{length}
-use Rattle.base.specs.Tests.{among}
-use Rattle.base.proofs.Logic.{either, clash}
-use Rattle.header.specs.declared.Header.{Header}
-use Rattle.places.specs.declared.Place.{Place}
-use Rattle.places.specs.declared.Table.{Table}
-use Rattle.places.specs.Places.{four, placeAt, keyOf, holds, heldAt, openAt, turned}
-use Rattle.places.specs.Claims.{Opened}
-use Rattle.places.proofs.Proved.{opens-in-turn}
-use Rattle.receiver.specs.Promise.{Outcome, outcome, State}
+use Rattle.base_rules.specs.Tests.{among}
+use Rattle.base_rules.proofs.Logic.{either, clash}
+use Rattle.header_rules.specs.declared.Header.{Header}
+use Rattle.places_rules.specs.declared.Place.{Place}
+use Rattle.places_rules.specs.declared.Table.{Table}
+use Rattle.places_rules.specs.Places.{four, placeAt, keyOf, holds, heldAt, openAt, turned}
+use Rattle.places_rules.specs.Claims.{Opened}
+use Rattle.places_rules.proofs.Proved.{opens-in-turn}
+use Rattle.receiver_rules.specs.Promise.{Outcome, outcome, State}
 use Rattle.link.specs.Run.{Call, after, Made, Run, start, next, Reached, Holds, heard, numberIn, All}
 use Rattle.link.specs.Demand.{Among, Begins}
 use Rattle.link.proofs.Basic.{same-or-not, held-found, held-some, holds-yes, holds-number, holds-some}

@@ -5,12 +5,12 @@ use mathlib.Core.List.{List, [], _∷_}
 use Prim.Native.Nat.{ℕ, _+_, _-_, _%_, _≤_, _<_}
 use native.Mathlib.Omega.{arith}
 use lib.ListN.{length}
-use Rattle.header.specs.Read.{fieldsOf, faultOf}
-use Rattle.places.specs.declared.Place.{Place}
-use Rattle.places.specs.Places.{four, placeAt, keyOf, holds, heldAt, openAt, turned}
-use Rattle.places.specs.Claims.{Opened}
-use Rattle.places.proofs.Proved.{fresh-is-opened, opens-in-turn}
-use Rattle.receiver.specs.Promise.{State}
+use Rattle.header_rules.specs.Read.{fieldsOf, faultOf}
+use Rattle.places_rules.specs.declared.Place.{Place}
+use Rattle.places_rules.specs.Places.{four, placeAt, keyOf, holds, heldAt, openAt, turned}
+use Rattle.places_rules.specs.Claims.{Opened}
+use Rattle.places_rules.proofs.Proved.{fresh-is-opened, opens-in-turn}
+use Rattle.receiver_rules.specs.Promise.{State}
 use Rattle.link.specs.Run.{Call, after, Made, Run, start, next, freshWith, Holds, numberIn}
 use Rattle.link.proofs.Basic.{same-or-not, less-or-not, held-found, held-some, holds-yes, holds-number, holds-some}
 use Rattle.link.proofs.View.{Good, View, unheard, refuses, keeps, opens}

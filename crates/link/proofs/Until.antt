@@ -6,14 +6,14 @@ use mathlib.Core.List.{List, [], _∷_}
 use Prim.Native.Nat.{ℕ, _<_}
 use native.Mathlib.Omega.{arith}
 use lib.ListN.{length}
-use Rattle.base.proofs.Logic.{either, clash}
-use Rattle.cut.specs.declared.Settings.{Settings}
-use Rattle.header.specs.Read.{faultOf}
-use Rattle.places.specs.declared.Displaced.{Displaced}
-use Rattle.places.specs.declared.Displaced.the-variants as displaced
-use Rattle.places.specs.Places.{four, free, heldAt}
-use Rattle.receiver.specs.declared.Received.the-variants.{Kept, Delivered, Refused}
-use Rattle.receiver.specs.Promise.{displacedValues, numberOf, Outcome, outcome, State}
+use Rattle.base_rules.proofs.Logic.{either, clash}
+use Rattle.cut_rules.specs.declared.Settings.{Settings}
+use Rattle.header_rules.specs.Read.{faultOf}
+use Rattle.places_rules.specs.declared.Displaced.{Displaced}
+use Rattle.places_rules.specs.declared.Displaced.the-variants as displaced
+use Rattle.places_rules.specs.Places.{four, free, heldAt}
+use Rattle.receiver_rules.specs.declared.Received.the-variants.{Kept, Delivered, Refused}
+use Rattle.receiver_rules.specs.Promise.{displacedValues, numberOf, Outcome, outcome, State}
 use Rattle.link.specs.Run.{Call, after, Made, Run, start, next, Reached, Holds, ShownOpen, numberIn, come, All}
 use Rattle.link.specs.Demand.{Takes, Own, enoughAfter, Answered, DisplacedBy, Promised, HandedOut, T2}
 use Rattle.link.proofs.Basic.{less-or-not}

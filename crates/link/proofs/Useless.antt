@@ -9,23 +9,23 @@ use borrow.Author.Tests.{eq-eqb}
 use lib.Dec.{eqb, lit<}
 use lib.ListN.{length, getD, take, drop, replicate, length-replicate}
 use lib.Seq.{getD-take, getD-drop}
-use Rattle.base.specs.Bounds.{most-l, place}
-use Rattle.base.specs.Bytes.{Bytes, splice}
-use Rattle.base.specs.Tests.{bit}
-use Rattle.base.proofs.Logic.{clash}
-use Rattle.cut.specs.declared.Address.the-variants.{None}
-use Rattle.cut.specs.declared.Settings.{Settings}
-use Rattle.cut.specs.Missing as missing
-use Rattle.code.proofs.RowLaws.{zeros-at}
-use Rattle.header.specs.declared.Header.{Header}
-use Rattle.header.specs.Read.{fieldsOf, badAddress}
-use Rattle.places.specs.declared.Table.{Table}
-use Rattle.places.specs.Places.{four, delivered, freshTable, placeAt, heldAt}
-use Rattle.receiver.specs.Promise.{State, all-places}
-use Rattle.receiver.proofs.Proved.{some-outcome, count-told}
-use Rattle.sender.specs.Fragments.{payloadFor, headerFor, fragmentFor}
-use Rattle.sender.proofs.FragmentLengths.{f-some}
-use Rattle.sender.proofs.Proved.{received}
+use Rattle.base_rules.specs.Bounds.{most-l, place}
+use Rattle.base_rules.specs.Bytes.{Bytes, splice}
+use Rattle.base_rules.specs.Tests.{bit}
+use Rattle.base_rules.proofs.Logic.{clash}
+use Rattle.cut_rules.specs.declared.Address.the-variants.{None}
+use Rattle.cut_rules.specs.declared.Settings.{Settings}
+use Rattle.cut_rules.specs.Missing as missing
+use Rattle.code_rules.proofs.RowLaws.{zeros-at}
+use Rattle.header_rules.specs.declared.Header.{Header}
+use Rattle.header_rules.specs.Read.{fieldsOf, badAddress}
+use Rattle.places_rules.specs.declared.Table.{Table}
+use Rattle.places_rules.specs.Places.{four, delivered, freshTable, placeAt, heldAt}
+use Rattle.receiver_rules.specs.Promise.{State, all-places}
+use Rattle.receiver_rules.proofs.Proved.{some-outcome, count-told}
+use Rattle.sender_rules.specs.Fragments.{payloadFor, headerFor, fragmentFor}
+use Rattle.sender_rules.proofs.FragmentLengths.{f-some}
+use Rattle.sender_rules.proofs.Proved.{received}
 use Rattle.link.specs.Run.{Call, after, Made, start, next, freshWith, Reached, Holds, come, lost, All}
 use Rattle.link.specs.Demand.{Takes, count, Own, Scene, Among, Begins, enoughAfter}
 use Rattle.link.specs.Useless.{Receiver, Keeps, SomeKeep, Delivers, RefusesAll, Fixed, StoresNoBytes, StoresNoRecord, Pretends, FalseCount, OneFragment, Sends, Falls}

@@ -6,19 +6,19 @@ use Prim.Native.Nat.{ℕ, _≤_, _<_}
 use borrow.Author.Tests.{eq-eqb, ne-eqb, eqb-true, eqb-false, ltb-true, ltb-false, lt-ltb, le-ltb}
 use lib.Dec.{ltb, eqb}
 use lib.ListN.{length}
-use Rattle.base.specs.Bounds.{most-l}
-use Rattle.base.specs.Tests.{first}
-use Rattle.base.proofs.Firsts.{due, skip, none-due}
-use Rattle.base.proofs.Logic.{either}
-use Rattle.cut.specs.declared.Address.{Address}
-use Rattle.header.specs.Read.{fieldsOf, faultOf}
-use Rattle.places.specs.declared.Table.{Table}
-use Rattle.places.specs.declared.Displaced.the-variants.{None}
-use Rattle.places.specs.Places.{four, placeAt, keyOf, heldAt, openAt, displacedAt, turned, openedBy}
-use Rattle.places.specs.Faults.{badTable, placeFault}
-use Rattle.receiver.specs.declared.Received.the-variants.{Refused}
-use Rattle.receiver.specs.Promise.{Outcome, outcome, State, all-places, roomFault, heldFault, receiveFault, payloadOf, Keeping, keepAt, keepOf, SettledAfter, Step}
-use Rattle.receiver.proofs.Ranges.{room-told, due-none}
+use Rattle.base_rules.specs.Bounds.{most-l}
+use Rattle.base_rules.specs.Tests.{first}
+use Rattle.base_rules.proofs.Firsts.{due, skip, none-due}
+use Rattle.base_rules.proofs.Logic.{either}
+use Rattle.cut_rules.specs.declared.Address.{Address}
+use Rattle.header_rules.specs.Read.{fieldsOf, faultOf}
+use Rattle.places_rules.specs.declared.Table.{Table}
+use Rattle.places_rules.specs.declared.Displaced.the-variants.{None}
+use Rattle.places_rules.specs.Places.{four, placeAt, keyOf, heldAt, openAt, displacedAt, turned, openedBy}
+use Rattle.places_rules.specs.Faults.{badTable, placeFault}
+use Rattle.receiver_rules.specs.declared.Received.the-variants.{Refused}
+use Rattle.receiver_rules.specs.Promise.{Outcome, outcome, State, all-places, roomFault, heldFault, receiveFault, payloadOf, Keeping, keepAt, keepOf, SettledAfter, Step}
+use Rattle.receiver_rules.proofs.Ranges.{room-told, due-none}
 
 -- the record is in range and the lent bytes are all there, so that 14 and 1 are passed
 pub record Good (s : State) : Type 0 where

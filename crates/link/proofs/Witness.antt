@@ -6,26 +6,26 @@ use Prim.Native.Nat.{ℕ, _*_, _%_, _<_}
 use native.Mathlib.Omega.{arith}
 use lib.Dec.{ltb, lit<}
 use lib.ListN.{length, getD, take, drop}
-use Rattle.base.specs.Bounds.{most-f}
-use Rattle.base.specs.Bytes.{Bytes, splice, bytesOf}
-use Rattle.base.specs.Round.{ceil}
-use Rattle.base.proofs.ByteLaws.{bytes-append, bytes-take, bytes-drop}
-use Rattle.base.proofs.Firsts.{skip, none-due}
-use Rattle.base.proofs.Splice.{splice-start}
-use Rattle.base.proofs.Logic.{same}
-use Rattle.cut.specs.declared.Address.the-variants.{None}
-use Rattle.cut.specs.declared.Settings.{Settings}
-use Rattle.cut.specs.Cells.{partOf}
-use Rattle.cut.specs.Plan.{fit}
-use Rattle.cut.specs.Sizes as cut
-use Rattle.af.specs.Packet.{headerOf, closed, packetOf, payloadOf}
-use Rattle.af.specs.Claims.{Back}
-use Rattle.af.proofs.Proved.{a1}
-use Rattle.header.specs.declared.Header.{Header}
-use Rattle.header.specs.Claims.{Fitting}
-use Rattle.header.specs.Header.{fecPart, addressPart, frontOf, bodyOf, headerBytes}
-use Rattle.sender.specs.Calls.{packetFault}
-use Rattle.sender.specs.Fragments.{payloadFor, headerFor, fragmentFor}
+use Rattle.base_rules.specs.Bounds.{most-f}
+use Rattle.base_rules.specs.Bytes.{Bytes, splice, bytesOf}
+use Rattle.base_rules.specs.Round.{ceil}
+use Rattle.base_rules.proofs.ByteLaws.{bytes-append, bytes-take, bytes-drop}
+use Rattle.base_rules.proofs.Firsts.{skip, none-due}
+use Rattle.base_rules.proofs.Splice.{splice-start}
+use Rattle.base_rules.proofs.Logic.{same}
+use Rattle.cut_rules.specs.declared.Address.the-variants.{None}
+use Rattle.cut_rules.specs.declared.Settings.{Settings}
+use Rattle.cut_rules.specs.Cells.{partOf}
+use Rattle.cut_rules.specs.Plan.{fit}
+use Rattle.cut_rules.specs.Sizes as cut
+use Rattle.af_rules.specs.Packet.{headerOf, closed, packetOf, payloadOf}
+use Rattle.af_rules.specs.Claims.{Back}
+use Rattle.af_rules.proofs.Proved.{a1}
+use Rattle.header_rules.specs.declared.Header.{Header}
+use Rattle.header_rules.specs.Claims.{Fitting}
+use Rattle.header_rules.specs.Header.{fecPart, addressPart, frontOf, bodyOf, headerBytes}
+use Rattle.sender_rules.specs.Calls.{packetFault}
+use Rattle.sender_rules.specs.Fragments.{payloadFor, headerFor, fragmentFor}
 use Rattle.link.specs.Demand.{Takes, count}
 
 -- without FEC and address, at an MTU

@@ -5,19 +5,19 @@ use mathlib.Core.List.{List, [], _∷_, _++_}
 use Prim.Native.Nat.{ℕ, _≤_, _<_}
 use lib.Dec.{eqb}
 use lib.ListN.{length}
-use Rattle.base.specs.Bytes.{Bytes, splice}
-use Rattle.base.specs.Tests.{among}
-use Rattle.cut.specs.declared.Settings.{Settings}
-use Rattle.cut.specs.Missing.{losses, suffice}
-use Rattle.cut.specs.Sizes as cut
-use Rattle.header.specs.Read.{badAddress}
-use Rattle.header.specs.Claims.{Fitting}
-use Rattle.places.specs.declared.Displaced.{Displaced}
-use Rattle.places.specs.declared.Displaced.the-variants.{None, Number}
-use Rattle.sender.specs.Fragments.{fragmentFor}
-use Rattle.sender.specs.Calls.{packetFault}
-use Rattle.receiver.specs.declared.Received.the-variants.{Kept, Delivered, Damaged, Refused}
-use Rattle.receiver.specs.Promise.{numberOf, State}
+use Rattle.base_rules.specs.Bytes.{Bytes, splice}
+use Rattle.base_rules.specs.Tests.{among}
+use Rattle.cut_rules.specs.declared.Settings.{Settings}
+use Rattle.cut_rules.specs.Missing.{losses, suffice}
+use Rattle.cut_rules.specs.Sizes as cut
+use Rattle.header_rules.specs.Read.{badAddress}
+use Rattle.header_rules.specs.Claims.{Fitting}
+use Rattle.places_rules.specs.declared.Displaced.{Displaced}
+use Rattle.places_rules.specs.declared.Displaced.the-variants.{None, Number}
+use Rattle.sender_rules.specs.Fragments.{fragmentFor}
+use Rattle.sender_rules.specs.Calls.{packetFault}
+use Rattle.receiver_rules.specs.declared.Received.the-variants.{Kept, Delivered, Damaged, Refused}
+use Rattle.receiver_rules.specs.Promise.{numberOf, State}
 use Rattle.link.specs.Run.{Call, after, Made, Run, Reached, Holds, ShownOpen, heard, numberIn, come, lost, All}
 
 -- ---- what is supposed

@@ -4,17 +4,17 @@ use mathlib.Core.Bool.{true, false}
 use mathlib.Core.List.{List, [], _∷_, map, reverse}
 use Prim.Native.Nat.{ℕ, _≤_}
 use lib.ListN.{length, replicate}
-use Rattle.base.specs.Bounds.{most-l}
-use Rattle.base.specs.Bytes.{Bytes, splice}
-use Rattle.af.specs.Packet.{packetOf}
-use Rattle.cut.specs.declared.Address.{Address}
-use Rattle.cut.specs.Plan.{houseOf}
-use Rattle.cut.specs.Edge.{plain}
-use Rattle.places.specs.declared.Displaced.{Displaced}
-use Rattle.places.specs.declared.Displaced.the-variants.{Number}
-use Rattle.sender.specs.Fragments.{fragmentFor}
-use Rattle.receiver.specs.declared.Received.the-variants.{Delivered}
-use Rattle.receiver.specs.Promise.{numberOf, State, all-places}
+use Rattle.base_rules.specs.Bounds.{most-l}
+use Rattle.base_rules.specs.Bytes.{Bytes, splice}
+use Rattle.af_rules.specs.Packet.{packetOf}
+use Rattle.cut_rules.specs.declared.Address.{Address}
+use Rattle.cut_rules.specs.Plan.{houseOf}
+use Rattle.cut_rules.specs.Edge.{plain}
+use Rattle.places_rules.specs.declared.Displaced.{Displaced}
+use Rattle.places_rules.specs.declared.Displaced.the-variants.{Number}
+use Rattle.sender_rules.specs.Fragments.{fragmentFor}
+use Rattle.receiver_rules.specs.declared.Received.the-variants.{Delivered}
+use Rattle.receiver_rules.specs.Promise.{numberOf, State, all-places}
 use Rattle.link.specs.Run.{Call, after, Made, Run, freshWith, Holds, ShownOpen, All}
 use Rattle.link.specs.Demand.{Scene, Begins, Among, enoughAfter, Names, HandedOut}
 

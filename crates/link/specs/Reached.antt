@@ -5,13 +5,13 @@ use mathlib.Core.List.{List, _∷_}
 use Prim.Native.Nat.{ℕ, _+_, _-_, _*_, _≤_, _<_}
 use lib.Dec.{leb}
 use lib.ListN.{length, getD, take, drop}
-use Rattle.base.specs.Bounds.{place}
-use Rattle.header.specs.Read.{fieldsOf}
-use Rattle.places.specs.declared.Place.{Place}
-use Rattle.places.specs.Places.{four, placeAt, holds, openAt, offsetOf}
-use Rattle.places.specs.Faults.{badTable}
-use Rattle.places.specs.Claims.{Opened}
-use Rattle.receiver.specs.Promise.{State, all-places, payloadOf, bytesAt}
+use Rattle.base_rules.specs.Bounds.{place}
+use Rattle.header_rules.specs.Read.{fieldsOf}
+use Rattle.places_rules.specs.declared.Place.{Place}
+use Rattle.places_rules.specs.Places.{four, placeAt, holds, openAt, offsetOf}
+use Rattle.places_rules.specs.Faults.{badTable}
+use Rattle.places_rules.specs.Claims.{Opened}
+use Rattle.receiver_rules.specs.Promise.{State, all-places, payloadOf, bytesAt}
 use Rattle.link.specs.Run.{Call, Made, Reached, Holds, heard, numberIn, indexIn}
 
 -- document 01, 14 and 1: the record is in range and the lent bytes are all there, so no call of a run is refused for its state

@@ -5,14 +5,14 @@ use mathlib.Core.List.{List, [], _∷_, _++_}
 use Prim.Native.Nat.{ℕ, _≤_, _<_}
 use lib.Dec.{eqb}
 use lib.ListN.{length}
-use Rattle.base.specs.Answer.{granted}
-use Rattle.base.specs.Bounds.{most-l}
-use Rattle.base.specs.Bytes.{Bytes}
-use Rattle.cut.specs.declared.Address.{Address}
-use Rattle.header.specs.Read.{fieldsOf, faultOf}
-use Rattle.places.specs.Places.{four, open-now, freshTable, placeAt, heldAt}
-use Rattle.receiver.specs.Promise.{Outcome, State, Step, all-places}
-use Rattle.receiver.specs.Calls.{shownOf, queryCall}
+use Rattle.base_rules.specs.Answer.{granted}
+use Rattle.base_rules.specs.Bounds.{most-l}
+use Rattle.base_rules.specs.Bytes.{Bytes}
+use Rattle.cut_rules.specs.declared.Address.{Address}
+use Rattle.header_rules.specs.Read.{fieldsOf, faultOf}
+use Rattle.places_rules.specs.Places.{four, open-now, freshTable, placeAt, heldAt}
+use Rattle.receiver_rules.specs.Promise.{Outcome, State, Step, all-places}
+use Rattle.receiver_rules.specs.Calls.{shownOf, queryCall}
 
 -- a call: the configured address, the datagram, the packet buffer that is lent, and what the call left
 pub record Call : Type 0 where

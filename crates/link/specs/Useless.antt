@@ -2,16 +2,16 @@
 use mathlib.Core.Path.{_≡_}
 use mathlib.Core.List.{List}
 use Prim.Native.Nat.{ℕ, _<_}
-use Rattle.base.specs.Bytes.{Bytes, splice}
-use Rattle.cut.specs.declared.Address.{Address}
-use Rattle.cut.specs.declared.Settings.{Settings}
-use Rattle.places.specs.declared.Displaced.{Displaced}
-use Rattle.places.specs.Places.{four, delivered, placeAt}
-use Rattle.form.specs.Agree.{missingIn}
-use Rattle.sender.specs.Fragments.{fragmentFor}
-use Rattle.receiver.specs.declared.Received.the-variants.{Delivered, Refused}
-use Rattle.receiver.specs.Promise.{numberOf, Outcome, State, Step}
-use Rattle.receiver.specs.Claims.{keptBy}
+use Rattle.base_rules.specs.Bytes.{Bytes, splice}
+use Rattle.cut_rules.specs.declared.Address.{Address}
+use Rattle.cut_rules.specs.declared.Settings.{Settings}
+use Rattle.places_rules.specs.declared.Displaced.{Displaced}
+use Rattle.places_rules.specs.Places.{four, delivered, placeAt}
+use Rattle.form_rules.specs.Agree.{missingIn}
+use Rattle.sender_rules.specs.Fragments.{fragmentFor}
+use Rattle.receiver_rules.specs.declared.Received.the-variants.{Delivered, Refused}
+use Rattle.receiver_rules.specs.Promise.{numberOf, Outcome, State, Step}
+use Rattle.receiver_rules.specs.Claims.{keptBy}
 use Rattle.link.specs.Run.{Reached}
 use Rattle.link.specs.Demand.{Takes, count}
 

@@ -9,10 +9,10 @@ use walk::Visit;
 use walk::Walker;
 ghost use mathlib.Core.Path.{_≡_};
 ghost use mathlib.Core.List.{_++_};
-ghost use Rattle.text.specs.Text.{laid, behind, decimalOf};
-ghost use Rattle.walk.specs.Walk.{refusal, walkOf};
-ghost use Rattle.walk.specs.Step.{opens};
-ghost use Rattle.lister.specs.Listing.{containers, newline, headLine, itemLine, linesOf, refusedLine, payloadLines, listingOf};
+ghost use Rattle.text_rules.specs.Text.{laid, behind, decimalOf};
+ghost use Rattle.walk_rules.specs.Walk.{refusal, walkOf};
+ghost use Rattle.walk_rules.specs.Step.{opens};
+ghost use Rattle.lister_rules.specs.Listing.{containers, newline, headLine, itemLine, linesOf, refusedLine, payloadLines, listingOf};
 
 // A buffer as long as this holds every packet and a byte more. So a program may stop reading where it is full: a longer input is refused
 // with 21 or 22, as it would be whole.

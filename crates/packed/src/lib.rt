@@ -3,9 +3,8 @@ mod reading;
 mod writing;
 
 use base::MOST_F;
-use base::Written;
+pub use packed_rules::Unpacked;
 use places::FOUR;
-use places::Table;
 pub use reading::unpack;
 pub use writing::pack;
 
@@ -15,9 +14,3 @@ const FIGURES: usize = 14;
 const ONE: usize = FIGURES + MOST_F;
 
 pub const RECORD: usize = FOUR * ONE + 1;
-
-// What unpacking gives: the record, a fresh one where it is refused.
-pub struct Unpacked {
-    pub table: Table,
-    pub answer: Written,
-}

@@ -14,11 +14,11 @@ ghost use mathlib.Core.List.{[], map};
 ghost use Prim.Native.Nat.{_+_, _*_, _≤_};
 ghost use lib.Dec.{eqb};
 ghost use lib.ListN.{length, getD};
-ghost use Rattle.base.specs.Bounds.{most-f};
-ghost use Rattle.packed.specs.Packed.{isSet, flagBytes, placeFrom, place-bytes, table-bytes, tableFrom, badFlags, badPlaceAt, badRecord, unpackFault, unpackCall};
-ghost use Rattle.base.specs.Answer.{answered};
-ghost use Rattle.base.specs.Written.{numberOf};
-ghost use Rattle.places.specs.Places.{four, freePlace, freshTable};
+ghost use Rattle.base_rules.specs.Bounds.{most-f};
+ghost use Rattle.packed_rules.specs.Packed.{isSet, flagBytes, placeFrom, place-bytes, table-bytes, tableFrom, badFlags, badPlaceAt, badRecord, unpackFault, unpackCall};
+ghost use Rattle.base_rules.specs.Answer.{answered};
+ghost use Rattle.base_rules.specs.Written.{numberOf};
+ghost use Rattle.places_rules.specs.Places.{four, freePlace, freshTable};
 
 // The flags that begin at i.
 fn flags_from(s: &[u8], i: usize) -> [bool; MOST_F]

@@ -11,12 +11,12 @@ ghost use mathlib.Core.Path.{_≡_};
 ghost use mathlib.Core.List.{map};
 ghost use Prim.Native.Nat.{_+_, _≤_};
 ghost use lib.ListN.{length};
-ghost use Rattle.base.specs.Answer.{outcome};
-ghost use Rattle.base.specs.Bytes.{splice};
-ghost use Rattle.base.specs.Tests.{bit};
-ghost use Rattle.base.specs.Written.{numberOf};
-ghost use Rattle.places.specs.Places.{placeAt};
-ghost use Rattle.packed.specs.Packed.{figuresOf, packedPlace, place-bytes, packCall};
+ghost use Rattle.base_rules.specs.Answer.{outcome};
+ghost use Rattle.base_rules.specs.Bytes.{splice};
+ghost use Rattle.base_rules.specs.Tests.{bit};
+ghost use Rattle.base_rules.specs.Written.{numberOf};
+ghost use Rattle.places_rules.specs.Places.{placeAt};
+ghost use Rattle.packed_rules.specs.Packed.{figuresOf, packedPlace, place-bytes, packCall};
 
 // A flag as a byte.
 fn flag(b: bool) -> u8

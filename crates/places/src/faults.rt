@@ -13,8 +13,8 @@ use header::Header;
 ghost use mathlib.Core.Path.{_≡_};
 ghost use mathlib.Core.Bool.{false};
 ghost use lib.ListN.{getD};
-ghost use Rattle.places.specs.Places.{placeAt};
-ghost use Rattle.places.specs.Faults.{badFigures, badCode, badPlace, badTable, badSizeIn, mismatch as mismatchOf, placeFault};
+ghost use Rattle.places_rules.specs.Places.{placeAt};
+ghost use Rattle.places_rules.specs.Faults.{badFigures, badCode, badPlace, badTable, badSizeIn, mismatch as mismatchOf, placeFault};
 
 // Whether the figures of a place leave it room for its fragments.
 fn bad_figures(p: Place) -> bool

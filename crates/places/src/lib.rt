@@ -2,10 +2,17 @@
 mod faults;
 mod record;
 
-use base::MOST_F;
 pub use faults::bad_place;
 pub use faults::bad_table;
 pub use faults::place_fault;
+pub use places_rules::DELIVERED;
+pub use places_rules::Displaced;
+pub use places_rules::FOUR;
+pub use places_rules::FREE;
+pub use places_rules::OPEN;
+pub use places_rules::Place;
+pub use places_rules::SPOILED;
+pub use places_rules::Table;
 pub use record::displaced_at;
 pub use record::fresh;
 pub use record::held_at;
@@ -17,41 +24,3 @@ pub use record::opened_by;
 pub use record::place_at;
 pub use record::turned;
 pub use record::with_place;
-
-// Places in a table.
-pub const FOUR: usize = 4;
-
-// The condition of a place.
-pub const FREE: u8 = 0;
-
-pub const OPEN: u8 = 1;
-
-pub const DELIVERED: u8 = 2;
-
-pub const SPOILED: u8 = 3;
-
-// What a place holds: its condition and the number of its packet; of the packet's cut f, FEC, k, z; s, 0 while unknown; without FEC
-// the size of the last fragment, 0 while it is not kept; and which fragments are kept.
-pub struct Place {
-    pub condition: u8,
-    pub number: u16,
-    pub count: u32,
-    pub fec: bool,
-    pub rsk: u8,
-    pub rsz: u8,
-    pub size: u16,
-    pub last: u16,
-    pub kept: [bool; MOST_F],
-}
-
-// All of them, and which is to be displaced next once none is free.
-pub struct Table {
-    pub places: [Place; FOUR],
-    pub oldest: u8,
-}
-
-// The number of an open place that was displaced.
-pub enum Displaced {
-    None,
-    Number(u16),
-}

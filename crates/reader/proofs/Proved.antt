@@ -3,12 +3,12 @@ use Prim.Native.Nat.{ℕ, zero, suc}
 use mathlib.Core.List.{List, _∷_}
 use mathlib.Core.Path.{_≡_, refl, sym, ap, _∙_}
 use denote.Ref.{now}
-use Rattle.item.specs.declared.Step.{Step}
-use Rattle.item.specs.declared.Step.the-variants as step
-use Rattle.tag.specs.Calls.{afterOf}
-use Rattle.tag.specs.Reading.{handed}
-use Rattle.tag.proofs.Reading.{after-is, refused-after}
-use Rattle.tag.proofs.Proved.{in-order as numbers-in-order}
+use Rattle.item_rules.specs.declared.Step.{Step}
+use Rattle.item_rules.specs.declared.Step.the-variants as step
+use Rattle.tag_rules.specs.Calls.{afterOf}
+use Rattle.tag_rules.specs.Reading.{handed}
+use Rattle.tag_rules.proofs.Reading.{after-is, refused-after}
+use Rattle.tag_rules.proofs.Proved.{in-order as numbers-in-order}
 use Rattle.reader.specs.declared.Reader.{Reader}
 use Rattle.reader.specs.Steps.{openedOn, stepOf, movedOf, handedBy, movedBy}
 use Rattle.reader.specs.Claims.{InOrder, StaysAtEnd, StaysRefused}

@@ -4,9 +4,9 @@ use mathlib.Core.List.{List, _++_}
 use Prim.Native.Nat.{ℕ}
 use denote.Ref.{RefT, now}
 use lib.ListN.{take, replicate}
-use Rattle.item.specs.declared.Bytes.{Bytes}
-use Rattle.item.specs.declared.Step.the-variants as step
-use Rattle.tag.specs.Reading.{checkedRun, itemsOf, lastOf}
+use Rattle.item_rules.specs.declared.Bytes.{Bytes}
+use Rattle.item_rules.specs.declared.Step.the-variants as step
+use Rattle.tag_rules.specs.Reading.{checkedRun, itemsOf, lastOf}
 use Rattle.reader.specs.declared.Reader.{Reader}
 use Rattle.reader.specs.Steps.{openedOn, stepOf, handedBy, movedBy}
 

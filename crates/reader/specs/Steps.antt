@@ -2,9 +2,9 @@
 use mathlib.Core.List.{List, [], _∷_}
 use Prim.Native.Nat.{ℕ, zero, suc}
 use denote.Ref.{RefT, now}
-use Rattle.item.specs.declared.Step.{Step}
-use Rattle.tag.specs.Find.{checkOf}
-use Rattle.tag.specs.Calls.{readOf, afterOf}
+use Rattle.item_rules.specs.declared.Step.{Step}
+use Rattle.tag_rules.specs.Find.{checkOf}
+use Rattle.tag_rules.specs.Calls.{readOf, afterOf}
 use Rattle.reader.specs.declared.Reader.{Reader}
 
 -- document 01: opening checks the whole packet; the reader begins at 0 and keeps the refusal, 0 for none

@@ -3,8 +3,8 @@
 use item::Step;
 use tag::Opened;
 ghost use mathlib.Core.Path.{_≡_};
-ghost use Rattle.tag.specs.Find.{checkOf};
-ghost use Rattle.tag.specs.Calls.{readOf};
+ghost use Rattle.tag_rules.specs.Find.{checkOf};
+ghost use Rattle.tag_rules.specs.Calls.{readOf};
 ghost use Rattle.reader.specs.Steps.{openedOn, stepOf, movedOf};
 
 // The packet, where the reader stands in it, and the number with which opening refused it, 0 for none.

@@ -19,12 +19,12 @@ ghost use mathlib.Core.Path.{_≡_};
 ghost use mathlib.Core.Bool.{false};
 ghost use Prim.Native.Nat.{_<_};
 ghost use lib.ListN.{length};
-ghost use Rattle.places.specs.declared.Table.{Table};
-ghost use Rattle.places.specs.Places.{four, withPlace, keptIn};
-ghost use Rattle.places.specs.Faults.{badPlace, badTable};
-ghost use Rattle.receiver.specs.declared.Received.the-variants.{Refused};
-ghost use Rattle.receiver.specs.Promise.{outcome, keepAt, Settled, SettledAfter, Step};
-ghost use Rattle.receiver.specs.Inner.{Lent, Heard, changed, Arrives};
+ghost use Rattle.places_rules.specs.declared.Table.{Table};
+ghost use Rattle.places_rules.specs.Places.{four, withPlace, keptIn};
+ghost use Rattle.places_rules.specs.Faults.{badPlace, badTable};
+ghost use Rattle.receiver_rules.specs.declared.Received.the-variants.{Refused};
+ghost use Rattle.receiver_rules.specs.Promise.{outcome, keepAt, Settled, SettledAfter, Step};
+ghost use Rattle.receiver_rules.specs.Inner.{Lent, Heard, changed, Arrives};
 
 // A refusal: the record stays as it is.
 fn refusal(t: Table, n: u8) -> Change

@@ -15,11 +15,11 @@ use places::Table;
 ghost use mathlib.Core.Path.{_≡_};
 ghost use mathlib.Core.Bool.{false};
 ghost use lib.ListN.{length};
-ghost use Rattle.base.specs.Written.{numberOf};
-ghost use Rattle.places.specs.Places.{placeAt};
-ghost use Rattle.places.specs.Faults.{badPlace, badTable};
-ghost use Rattle.receiver.specs.Promise.{badRoom, roomFault};
-ghost use Rattle.receiver.specs.Calls.{shownOf, seenValues, queryCall, queriedNumber, clearCall};
+ghost use Rattle.base_rules.specs.Written.{numberOf};
+ghost use Rattle.places_rules.specs.Places.{placeAt};
+ghost use Rattle.places_rules.specs.Faults.{badPlace, badTable};
+ghost use Rattle.receiver_rules.specs.Promise.{badRoom, roomFault};
+ghost use Rattle.receiver_rules.specs.Calls.{shownOf, seenValues, queryCall, queriedNumber, clearCall};
 
 // The lent bytes of all places.
 const ALL: usize = FOUR * PLACE;

@@ -5,11 +5,11 @@ use header::Header;
 ghost use mathlib.Core.Path.{_≡_};
 ghost use Prim.Native.Nat.{_≤_, _<_};
 ghost use lib.ListN.{length, take};
-ghost use Rattle.base.specs.Bounds.{place};
-ghost use Rattle.base.specs.Bytes.{splice};
-ghost use Rattle.cut.specs.Sizes.{L, f};
-ghost use Rattle.sender.specs.Fragments.{payloadFor, headerFor, fragmentFor, fragmentsFor};
-ghost use Rattle.sender.specs.Parts.{Figured, Laid};
+ghost use Rattle.base_rules.specs.Bounds.{place};
+ghost use Rattle.base_rules.specs.Bytes.{splice};
+ghost use Rattle.cut_rules.specs.Sizes.{L, f};
+ghost use Rattle.sender_rules.specs.Fragments.{payloadFor, headerFor, fragmentFor, fragmentsFor};
+ghost use Rattle.sender_rules.specs.Parts.{Figured, Laid};
 
 // The block of a packet at the front of `block`, which is laid once for all fragments; without FEC there is none.
 pub(crate) fn lay_block(g: Settings, packet: &[u8], p: Figures, block: &mut [u8])

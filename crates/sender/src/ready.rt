@@ -5,10 +5,10 @@ use cut::Settings;
 ghost use mathlib.Core.Path.{_≡_};
 ghost use mathlib.Core.Bool.{true, false};
 ghost use lib.ListN.{length};
-ghost use Rattle.base.specs.Answer.{answered};
-ghost use Rattle.af.specs.Calls.{afFault};
-ghost use Rattle.cut.specs.Plan.{figuresOf, numberOf};
-ghost use Rattle.sender.specs.Calls.{packetFault};
+ghost use Rattle.base_rules.specs.Answer.{answered};
+ghost use Rattle.af_rules.specs.Calls.{afFault};
+ghost use Rattle.cut_rules.specs.Plan.{figuresOf, numberOf};
+ghost use Rattle.sender_rules.specs.Calls.{packetFault};
 
 // The first of the AF checks 20 to 25 that is due, 0 for none.
 fn af_fault(packet: &[u8]) -> u8

@@ -1,32 +1,15 @@
 // A TAG packet: checked whole, read item by item, and searched by name beside a standing packet.
-use item::Bits;
 use item::Found;
 use item::Item;
 use item::Step;
+pub use tag_rules::Located;
+pub use tag_rules::Opened;
+pub use tag_rules::Sought;
 ghost use mathlib.Core.Path.{_≡_};
 ghost use mathlib.Core.List.{[], _∷_};
-ghost use Rattle.base.specs.Answer.{granted};
-ghost use Rattle.tag.specs.Find.{checkOf, locateOf, valueOf, shownBy};
-ghost use Rattle.tag.specs.Calls.{openedNumber, openCall, readOf, afterOf, soughtNumber, searchCall};
-
-// Where a reader begins, or the number with which its packet is refused.
-pub enum Opened {
-    At(usize),
-    Refused(u8),
-}
-
-// What a search answers: the bits of the item found, or the number of the refusal.
-pub enum Sought {
-    Found(Bits),
-    Refused(u8),
-}
-
-// Where a name is found: the item, in the packet or in the standing packet; or the number of the refusal.
-pub enum Located {
-    Packet(Item),
-    Standing(Item),
-    Refused(u8),
-}
+ghost use Rattle.base_rules.specs.Answer.{granted};
+ghost use Rattle.tag_rules.specs.Find.{checkOf, locateOf, valueOf, shownBy};
+ghost use Rattle.tag_rules.specs.Calls.{openedNumber, openCall, readOf, afterOf, soughtNumber, searchCall};
 
 // The number of the leftmost item at fault of a whole packet, or 0. A name whose slot has no mark has not stood before, so that few names are
 // searched for.

@@ -4,7 +4,7 @@ ghost use mathlib.Core.Path.{_≡_};
 ghost use mathlib.Core.List.{[], _∷_};
 ghost use Prim.Native.Nat.{_<_, _≤_, min};
 ghost use lib.ListN.{length, drop};
-ghost use Rattle.text.specs.Text.{laid, behind, letterOf, decimalOf, hexOf};
+ghost use Rattle.text_rules.specs.Text.{laid, behind, letterOf, decimalOf, hexOf};
 
 // Bytes as they are.
 pub fn plain(out: &mut [u8], at: usize, letters: &[u8]) -> usize

@@ -1,46 +1,17 @@
 // The nested walk over a TAG packet: whole, to check it, and step by step, to hand its items out.
-use item::Bytes;
-use item::Item;
 
 mod names;
 mod steps;
 mod whole;
 
+use walk_rules::DEEPEST;
+pub use walk_rules::Handed;
+use walk_rules::LEVELS;
+pub use walk_rules::Visit;
+pub use walk_rules::Walked;
+pub use walk_rules::Walker;
 ghost use mathlib.Core.Path.{_≡_};
-ghost use Rattle.walk.specs.Step.{opens, walkStep};
-
-// Nesting: items of the outer packet have depth 0, and an item below this depth is refused.
-const DEEPEST: usize = 4;
-
-// Depths at which a packet may begin.
-const LEVELS: usize = DEEPEST + 1;
-
-// An item of a walk, with its depth.
-pub struct Visit {
-    pub depth: usize,
-    pub item: Item,
-}
-
-// What a step of a walk hands out.
-pub enum Handed {
-    Item(Visit),
-    End(Bytes),
-    Refused(u8),
-}
-
-// A place in a walk: the number with which it was refused, or 0; the position, the depth there, and where the packet of each depth ends.
-pub struct Walker {
-    pub refusal: u8,
-    pub at: usize,
-    pub depth: usize,
-    pub ends: [usize; LEVELS],
-}
-
-// What a step hands out, and where the walk then stands.
-pub struct Walked {
-    pub handed: Handed,
-    pub next: Walker,
-}
+ghost use Rattle.walk_rules.specs.Step.{opens, walkStep};
 
 // Opens a walk: the list of names, four bytes each, and the whole packet with all that its containers hold are checked first.
 pub fn open_walk(packet: &[u8], names: &[u8]) -> Walker

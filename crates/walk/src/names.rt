@@ -1,7 +1,7 @@
 // The list of container names: four bytes each, one behind the other.
 ghost use mathlib.Core.Path.{_≡_};
-ghost use Rattle.base.specs.Tests.{among};
-ghost use Rattle.walk.specs.Names.{namesOf, namesFault};
+ghost use Rattle.base_rules.specs.Tests.{among};
+ghost use Rattle.walk_rules.specs.Names.{namesOf, namesFault};
 
 // Container names at most, and the bytes of one.
 const MOST_NAMES: usize = 8;

@@ -10,9 +10,9 @@ use item::Item;
 use item::Step;
 ghost use mathlib.Core.Path.{_≡_};
 ghost use Prim.Native.Nat.{_^_, _≤_, _<_, min};
-ghost use Rattle.item.specs.Run.{nextOf};
-ghost use Rattle.walk.specs.Names.{deepest, namesOf};
-ghost use Rattle.walk.specs.Step.{goesOn, stepFrom};
+ghost use Rattle.item_rules.specs.Run.{nextOf};
+ghost use Rattle.walk_rules.specs.Names.{deepest, namesOf};
+ghost use Rattle.walk_rules.specs.Step.{goesOn, stepFrom};
 
 fn lesser(a: usize, b: usize) -> usize
     ensures { λ r. ⌜ r ≡ min a b ⌝ }

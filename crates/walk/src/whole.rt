@@ -8,10 +8,10 @@ ghost use mathlib.Core.Path.{_≡_};
 ghost use mathlib.Core.Bool.{_&&_};
 ghost use mathlib.Core.List.{[]};
 ghost use Prim.Native.Nat.{_+_, _-_, _^_, _≤_, _<_};
-ghost use Rattle.item.specs.Run.{runOf, firstOf, isBefore, nextOf};
-ghost use Rattle.walk.specs.Names.{deepest, namesOf};
-ghost use Rattle.walk.specs.Walk.{tourAt, refusal, walkOf};
-ghost use Rattle.walk.specs.Whole.{itemRefusal};
+ghost use Rattle.item_rules.specs.Run.{runOf, firstOf, isBefore, nextOf};
+ghost use Rattle.walk_rules.specs.Names.{deepest, namesOf};
+ghost use Rattle.walk_rules.specs.Walk.{tourAt, refusal, walkOf};
+ghost use Rattle.walk_rules.specs.Whole.{itemRefusal};
 
 // The number with which the walk of the packet from `from` to `end` is refused, or 0. The marks tell which names have not stood before.
 fn walk_packet(s: &[u8], names: &[u8], from: usize, end: usize, depth: usize) -> u8

@@ -7,16 +7,10 @@ use base::PLACE;
 pub use rows::deinterleave;
 pub use rows::interleave;
 pub use tally::enough;
+pub use weave_rules::Held;
 ghost use mathlib.Core.Path.{_≡_};
 ghost use mathlib.Core.Bool.{false};
-ghost use Rattle.weave.specs.Calls.{badCount, tooMuch};
-
-// Whether the fragments held suffice.
-pub enum Held {
-    Enough,
-    NotEnough,
-    Refused(u8),
-}
+ghost use Rattle.weave_rules.specs.Calls.{badCount, tooMuch};
 
 // Whether f is no count of fragments.
 fn bad_count(f: usize) -> bool

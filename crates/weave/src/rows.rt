@@ -5,13 +5,13 @@ use base::Written;
 ghost use mathlib.Core.Path.{_≡_};
 ghost use Prim.Native.Nat.{ℕ, _+_, _-_, _*_, _≤_, _<_};
 ghost use lib.ListN.{length, replicate};
-ghost use Rattle.base.specs.Answer.{outcome};
-ghost use Rattle.base.specs.Bounds.{most-f, place};
-ghost use Rattle.base.specs.Bytes.{splice};
-ghost use Rattle.base.specs.Table.{table};
-ghost use Rattle.base.specs.Written.{numberOf};
-ghost use Rattle.weave.specs.Calls.{interleaveOf, deinterleaveOf};
-ghost use Rattle.cut.specs.Cells.{fragmentOf, cellOf, cellsOf};
+ghost use Rattle.base_rules.specs.Answer.{outcome};
+ghost use Rattle.base_rules.specs.Bounds.{most-f, place};
+ghost use Rattle.base_rules.specs.Bytes.{splice};
+ghost use Rattle.base_rules.specs.Table.{table};
+ghost use Rattle.base_rules.specs.Written.{numberOf};
+ghost use Rattle.weave_rules.specs.Calls.{interleaveOf, deinterleaveOf};
+ghost use Rattle.cut_rules.specs.Cells.{fragmentOf, cellOf, cellsOf};
 
 // How many of the s bytes of fragment i lie in a block of `len` bytes: those before are copied, those after are zero.
 fn rows_within(len: usize, f: usize, s: usize, i: usize) -> usize

@@ -9,10 +9,10 @@ ghost use mathlib.Core.Path.{_≡_};
 ghost use mathlib.Core.Bool.{not};
 ghost use Prim.Native.Nat.{ℕ, _+_, _*_, _≤_, _<_};
 ghost use lib.ListN.{getD};
-ghost use Rattle.base.specs.Bounds.{most-f, place};
-ghost use Rattle.base.specs.Tests.{bit};
-ghost use Rattle.weave.specs.Calls.{badChunk, notKept, enoughOf, numberOf};
-ghost use Rattle.cut.specs.Missing.{count, suffice};
+ghost use Rattle.base_rules.specs.Bounds.{most-f, place};
+ghost use Rattle.base_rules.specs.Tests.{bit};
+ghost use Rattle.weave_rules.specs.Calls.{badChunk, notKept, enoughOf, numberOf};
+ghost use Rattle.cut_rules.specs.Missing.{count, suffice};
 
 // The bytes that a chunk may miss: as many as it has parity.
 const MISSED: usize = PARITY;

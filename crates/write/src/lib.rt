@@ -6,11 +6,11 @@ ghost use mathlib.Core.Path.{_≡_};
 ghost use mathlib.Core.List.{_++_};
 ghost use Prim.Native.Nat.{_+_, _^_, _≤_, _<_};
 ghost use lib.ListN.{length};
-ghost use Rattle.base.specs.Answer.{outcome};
-ghost use Rattle.base.specs.Bytes.{splice, bytesOf};
-ghost use Rattle.base.specs.Written.{numberOf};
-ghost use Rattle.item.specs.Item.{head};
-ghost use Rattle.write.specs.Write.{unusedOf, trimmedBy, writeFault, writeCall};
+ghost use Rattle.base_rules.specs.Answer.{outcome};
+ghost use Rattle.base_rules.specs.Bytes.{splice, bytesOf};
+ghost use Rattle.base_rules.specs.Written.{numberOf};
+ghost use Rattle.item_rules.specs.Item.{head};
+ghost use Rattle.write_rules.specs.Write.{unusedOf, trimmedBy, writeFault, writeCall};
 
 // The number with which writing is refused, or 0.
 fn fault(name: u32, bits: Bits, len: usize, room: usize) -> u8

@@ -1,6 +1,6 @@
 -- `crc_for` meets its contract, by CF. Assumes nothing.
 use borrow.Author.Needs.{needs}
-use Rattle.af.specs.Packet.{crcFor}
+use Rattle.af_rules.specs.Packet.{crcFor}
 use Rattle.af.proofs.crc_for.Statement.{statement}
 use Rattle.af.proofs.crc_for.Tie as tie
 

@@ -4,8 +4,8 @@ use Prim.Native.Nat.{ℕ, _-_}
 use native.Mathlib.Omega.{arith}
 use borrow.Author.Needs.{needs}
 use lib.ListN.{length, take, drop}
-use Rattle.base.specs.Bounds.{least-l}
-use Rattle.af.specs.Packet.{headerBytes, crcBytes, payloadOf}
+use Rattle.base_rules.specs.Bounds.{least-l}
+use Rattle.af_rules.specs.Packet.{headerBytes, crcBytes, payloadOf}
 use Rattle.af.proofs.payload.Statement.{statement}
 use Rattle.af.proofs.payload.Tie as tie
 

@@ -1,7 +1,7 @@
 -- `bytes2` meets its contract by computing. Assumes nothing.
 use mathlib.Core.Path.{refl}
 use borrow.Author.Needs.{needs}
-use Rattle.base.specs.Bytes.{bytesOf}
+use Rattle.base_rules.specs.Bytes.{bytesOf}
 use Rattle.base.proofs.bytes2.Statement.{statement}
 use Rattle.base.proofs.bytes2.Tie as tie
 

@@ -1,8 +1,8 @@
 -- `put` meets its contract: what the copy leaves in the part lent to it is s spliced in. Assumes nothing.
 use native.Mathlib.Omega.{arith}
 use borrow.Author.Needs.{needs}
-use Rattle.base.proofs.Answers.{put-refused, put-done}
-use Rattle.base.proofs.Splice.{splice-lent}
+use Rattle.base_rules.proofs.Answers.{put-refused, put-done}
+use Rattle.base_rules.proofs.Splice.{splice-lent}
 use Rattle.base.proofs.put.Statement.{statement}
 use Rattle.base.proofs.put.Tie as tie
 

@@ -1,6 +1,6 @@
 -- `read2` meets its contract: the second byte follows the first, and past the end there are zeros. Assumes nothing.
 use borrow.Author.Needs.{needs}
-use Rattle.base.proofs.Numbers.{number-one, number-more, number-past}
+use Rattle.base_rules.proofs.Numbers.{number-one, number-more, number-past}
 use Rattle.base.proofs.read2.Statement.{statement}
 use Rattle.base.proofs.read2.Tie as tie
 

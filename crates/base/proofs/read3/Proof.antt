@@ -1,7 +1,7 @@
 -- `read3` meets its contract: the third byte follows the two. Assumes nothing.
 use native.Mathlib.Omega.{arith}
 use borrow.Author.Needs.{needs}
-use Rattle.base.proofs.Numbers.{number-more, number-past}
+use Rattle.base_rules.proofs.Numbers.{number-more, number-past}
 use Rattle.base.proofs.read3.Statement.{statement}
 use Rattle.base.proofs.read3.Tie as tie
 

@@ -1,7 +1,7 @@
 -- `read4` meets its contract: the fourth byte follows the three. Assumes nothing.
 use native.Mathlib.Omega.{arith}
 use borrow.Author.Needs.{needs}
-use Rattle.base.proofs.Numbers.{number-more, number-past}
+use Rattle.base_rules.proofs.Numbers.{number-more, number-past}
 use Rattle.base.proofs.read4.Statement.{statement}
 use Rattle.base.proofs.read4.Tie as tie
 

@@ -1,6 +1,6 @@
 -- `address_of` meets its contract, case by case. Assumes nothing.
 use borrow.Author.Tests.{eq-eqb, ne-eqb}
-use Rattle.card.specs.Calls.{addressOf}
+use Rattle.card_rules.specs.Calls.{addressOf}
 use Rattle.card.proofs.address_of.Statement.{statement}
 use Rattle.card.proofs.address_of.Tie as tie
 

@@ -1,9 +1,9 @@
 -- `written_number` meets its contract, case by case. Assumes nothing.
 use mathlib.Core.Path.{sym, ap}
 use borrow.Author.Needs.{needs}
-use Rattle.base.specs.Written.{numberOf}
-use Rattle.base.specs.declared.Written.{Written}
-use Rattle.card.specs.Told.{refusalIn}
+use Rattle.base_rules.specs.Written.{numberOf}
+use Rattle.base_rules.specs.declared.Written.{Written}
+use Rattle.card_rules.specs.Told.{refusalIn}
 use Rattle.card.proofs.written_number.Statement.{statement}
 use Rattle.card.proofs.written_number.Tie as tie
 

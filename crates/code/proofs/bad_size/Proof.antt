@@ -1,6 +1,6 @@
 -- `bad_size` meets its contract. Assumes nothing.
 use borrow.Author.Tests.{eq-eqb, ne-eqb}
-use Rattle.base.specs.Bounds.{badK}
+use Rattle.base_rules.specs.Bounds.{badK}
 use Rattle.code.proofs.bad_size.Statement.{statement}
 use Rattle.code.proofs.bad_size.Tie as tie
 

@@ -4,8 +4,8 @@ use Prim.Native.Nat.{_+_, _-_, _≤_}
 use native.Mathlib.Omega.{arith}
 use borrow.Author.Needs.{needs}
 use lib.ListN.{length, drop}
-use Rattle.crc.specs.Crc.{registerOf}
-use Rattle.crc.proofs.Over.{one-more, no-more}
+use Rattle.crc_rules.specs.Crc.{registerOf}
+use Rattle.crc_rules.proofs.Over.{one-more, no-more}
 use Rattle.crc.proofs.by_bytes.Statement.{statement}
 use Rattle.crc.proofs.by_bytes.Tie as tie
 

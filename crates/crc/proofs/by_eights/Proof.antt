@@ -6,8 +6,8 @@ use native.Mathlib.Omega.{arith}
 use borrow.Author.Needs.{needs}
 use lib.ListN.{length, take, drop, length-drop}
 use lib.Seq.{length-take-le, take-all}
-use Rattle.crc.specs.Crc.{registerOf}
-use Rattle.crc.proofs.Over.{part-more}
+use Rattle.crc_rules.specs.Crc.{registerOf}
+use Rattle.crc_rules.proofs.Over.{part-more}
 use Rattle.crc.proofs.by_eights.Statement.{statement}
 use Rattle.crc.proofs.by_eights.Tie as tie
 

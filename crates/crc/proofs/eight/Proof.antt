@@ -6,9 +6,9 @@ use native.Mathlib.Omega.{arith}
 use borrow.Author.Needs.{needs}
 use lib.Bits.{bitXor}
 use lib.ListN.{drop}
-use Rattle.base.proofs.ByteLaws.{bytes-from}
-use Rattle.crc.specs.Crc.{registerOf}
-use Rattle.crc.proofs.Over.{eight-more, no-more}
+use Rattle.base_rules.proofs.ByteLaws.{bytes-from}
+use Rattle.crc_rules.specs.Crc.{registerOf}
+use Rattle.crc_rules.proofs.Over.{eight-more, no-more}
 use Rattle.crc.proofs.eight.Statement.{statement}
 use Rattle.crc.proofs.eight.Tie as tie
 

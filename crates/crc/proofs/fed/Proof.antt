@@ -3,7 +3,7 @@ use mathlib.Core.Path.{_≡_, refl, ap, _∙_}
 use Prim.Native.Nat.{ℕ, zero, suc, _+_, _-_, _<_, _≤_}
 use native.Mathlib.Omega.{arith}
 use borrow.Author.Needs.{needs}
-use Rattle.crc.specs.Crc.{shift, shift8, feed}
+use Rattle.crc_rules.specs.Crc.{shift, shift8, feed}
 use Rattle.crc.proofs.fed.Statement.{statement}
 use Rattle.crc.proofs.fed.Tie as tie
 

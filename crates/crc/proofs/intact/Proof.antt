@@ -2,7 +2,7 @@
 use mathlib.Core.Path.{ap}
 use borrow.Author.Needs.{needs}
 use lib.Dec.{eqb}
-use Rattle.crc.specs.Crc.{residue}
+use Rattle.crc_rules.specs.Crc.{residue}
 use Rattle.crc.proofs.intact.Statement.{statement}
 use Rattle.crc.proofs.intact.Tie as tie
 

@@ -1,8 +1,8 @@
 -- `register` is `registerOf` either way: the table is right at every entry. Assumes nothing.
 use borrow.Author.Needs.{needs}
-use Rattle.crc.specs.Crc.{shift, shift8}
-use Rattle.crc.specs.Halves.{rounds}
-use Rattle.crc.proofs.Halves.{halves}
+use Rattle.crc_rules.specs.Crc.{shift, shift8}
+use Rattle.crc_rules.specs.Halves.{rounds}
+use Rattle.crc_rules.proofs.Halves.{halves}
 use Rattle.crc.proofs.register.Statement.{statement}
 use Rattle.crc.proofs.register.Tie as tie
 

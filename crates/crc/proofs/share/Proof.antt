@@ -2,8 +2,8 @@
 use mathlib.Core.Path.{ap, _∙_}
 use Prim.Native.Nat.{_-_, _*_}
 use borrow.Author.Needs.{needs}
-use Rattle.crc.specs.Halves.{rounds}
-use Rattle.crc.proofs.Halves.{share-law}
+use Rattle.crc_rules.specs.Halves.{rounds}
+use Rattle.crc_rules.proofs.Halves.{share-law}
 use Rattle.crc.proofs.share.Statement.{statement}
 use Rattle.crc.proofs.share.Tie as tie
 

@@ -1,7 +1,7 @@
 -- `shifted` is `shift`: the test is the definition's. Assumes nothing.
 use mathlib.Core.Path.{sym}
 use borrow.Author.Needs.{needs}
-use Rattle.crc.proofs.Linear.{shift-low, shift-high}
+use Rattle.crc_rules.proofs.Linear.{shift-low, shift-high}
 use Rattle.crc.proofs.shifted.Statement.{statement}
 use Rattle.crc.proofs.shifted.Tie as tie
 

@@ -2,7 +2,7 @@
 use mathlib.Core.Path.{ap}
 use Prim.Native.Nat.{_-_}
 use borrow.Author.Needs.{needs}
-use Rattle.crc.specs.Crc.{ones, wordOf}
+use Rattle.crc_rules.specs.Crc.{ones, wordOf}
 use Rattle.crc.proofs.word.Statement.{statement}
 use Rattle.crc.proofs.word.Tie as tie
 

@@ -1,7 +1,7 @@
 -- `both` meets its contract: each of the two is a logarithm. Assumes nothing.
 use mathlib.Core.Path.{_∙_}
 use borrow.Author.Needs.{needs}
-use Rattle.field.proofs.Rules.{logged}
+use Rattle.field_rules.proofs.Rules.{logged}
 use Rattle.field.proofs.both.Statement.{statement}
 use Rattle.field.proofs.both.Tie as tie
 

@@ -2,7 +2,7 @@
 use mathlib.Core.Path.{ap, _∙_}
 use borrow.Author.Needs.{needs}
 use lib.ListN.{getD}
-use Rattle.field.proofs.Rules.{logs-at}
+use Rattle.field_rules.proofs.Rules.{logs-at}
 use Rattle.field.proofs.entry.Statement.{statement}
 use Rattle.field.proofs.entry.Tie as tie
 

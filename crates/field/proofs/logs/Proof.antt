@@ -1,9 +1,9 @@
 -- `logs` meets its contract: the table is right at every entry. Assumes nothing.
 use mathlib.Core.Path.{refl}
 use borrow.Author.Needs.{needs}
-use Rattle.field.specs.Field.{_⊕_, times2}
-use Rattle.field.proofs.Powers.{powers}
-use Rattle.field.proofs.Rules.{numbered, logs}
+use Rattle.field_rules.specs.Field.{_⊕_, times2}
+use Rattle.field_rules.proofs.Powers.{powers}
+use Rattle.field_rules.proofs.Rules.{numbered, logs}
 use Rattle.field.proofs.logs.Statement.{statement}
 use Rattle.field.proofs.logs.Tie as tie
 

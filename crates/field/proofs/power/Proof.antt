@@ -1,7 +1,7 @@
 -- `power` meets its contract: an exponent goes by its rest at 255. Assumes nothing.
 use mathlib.Core.Path.{_∙_}
 use borrow.Author.Needs.{needs}
-use Rattle.field.proofs.Powers.{alpha-mod}
+use Rattle.field_rules.proofs.Powers.{alpha-mod}
 use Rattle.field.proofs.power.Statement.{statement}
 use Rattle.field.proofs.power.Tie as tie
 

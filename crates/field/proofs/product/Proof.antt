@@ -1,9 +1,9 @@
 -- `product` meets its contract: the product of two elements but 0 has the sum of their logarithms. Assumes nothing.
 use mathlib.Core.Path.{sym, ap, _∙_}
 use borrow.Author.Needs.{needs}
-use Rattle.field.specs.Field.{_⊗_}
-use Rattle.field.proofs.Powers.{log-mul}
-use Rattle.field.proofs.Products.{mul-0-l, mul-0-r}
+use Rattle.field_rules.specs.Field.{_⊗_}
+use Rattle.field_rules.proofs.Powers.{log-mul}
+use Rattle.field_rules.proofs.Products.{mul-0-l, mul-0-r}
 use Rattle.field.proofs.product.Statement.{statement}
 use Rattle.field.proofs.product.Tie as tie
 

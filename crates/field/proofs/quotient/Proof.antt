@@ -1,10 +1,10 @@
 -- `quotient` meets its contract: the quotient of two elements but 0 has the difference of their logarithms. Assumes nothing.
 use mathlib.Core.Path.{sym, ap, _∙_}
 use borrow.Author.Needs.{needs}
-use Rattle.field.specs.Field.{_⊗_, inv}
-use Rattle.field.proofs.Answers.{quotient-refused, quotient-given}
-use Rattle.field.proofs.Powers.{log-div}
-use Rattle.field.proofs.Products.{mul-0-l}
+use Rattle.field_rules.specs.Field.{_⊗_, inv}
+use Rattle.field_rules.proofs.Answers.{quotient-refused, quotient-given}
+use Rattle.field_rules.proofs.Powers.{log-div}
+use Rattle.field_rules.proofs.Products.{mul-0-l}
 use Rattle.field.proofs.quotient.Statement.{statement}
 use Rattle.field.proofs.quotient.Tie as tie
 

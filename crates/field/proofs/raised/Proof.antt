@@ -1,9 +1,9 @@
 -- `raised` meets its contract: the table holds the powers of α. Assumes nothing.
 use mathlib.Core.Path.{refl}
 use borrow.Author.Needs.{needs}
-use Rattle.field.specs.Field.{_⊕_, times2}
-use Rattle.field.proofs.Powers.{powers}
-use Rattle.field.proofs.Rules.{exps-at}
+use Rattle.field_rules.specs.Field.{_⊕_, times2}
+use Rattle.field_rules.proofs.Powers.{powers}
+use Rattle.field_rules.proofs.Rules.{exps-at}
 use Rattle.field.proofs.raised.Statement.{statement}
 use Rattle.field.proofs.raised.Tie as tie
 

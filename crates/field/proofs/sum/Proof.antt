@@ -1,6 +1,6 @@
 -- `sum` meets its contract: it is the exclusive or. Assumes nothing.
 use mathlib.Core.Path.{refl}
-use Rattle.field.specs.Field.{_⊕_}
+use Rattle.field_rules.specs.Field.{_⊕_}
 use Rattle.field.proofs.sum.Statement.{statement}
 use Rattle.field.proofs.sum.Tie as tie
 

@@ -1,7 +1,7 @@
 -- `item::bad_ptr` meets its contract: where the name is not "*ptr" the bits do not matter.
 use borrow.Author.Needs.{needs}
 use borrow.Author.Tests.{eq-eqb, ne-eqb}
-use Rattle.item.specs.Run.{badPtr}
+use Rattle.item_rules.specs.Run.{badPtr}
 use Rattle.item.proofs.bad_ptr.Statement.{statement}
 use Rattle.item.proofs.bad_ptr.Tie as tie
 use Rattle.item.proofs.bad_ptr.Reads as reads

@@ -1,7 +1,7 @@
 -- `item::bytes_of` meets its contract.
 use borrow.Author.Needs.{needs}
-use Rattle.base.specs.Round.{ceil}
-use Rattle.item.specs.Item.{bytesFor}
+use Rattle.base_rules.specs.Round.{ceil}
+use Rattle.item_rules.specs.Item.{bytesFor}
 use Rattle.item.proofs.bytes_of.Statement.{statement}
 use Rattle.item.proofs.bytes_of.Tie as tie
 

@@ -1,5 +1,5 @@
 use mathlib.Core.Path.{sym, _∙_}
-use Rattle.item.proofs.Faults.{fault-dmy, fault-again, fault-ptr, fault-none}
+use Rattle.item_rules.proofs.Faults.{fault-dmy, fault-again, fault-ptr, fault-none}
 use borrow.Author.Needs.{needs}
 use Rattle.item.proofs.fault_of.Statement.{statement}
 use Rattle.item.proofs.fault_of.Tie as tie

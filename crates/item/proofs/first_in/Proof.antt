@@ -3,9 +3,9 @@ use borrow.Author.Needs.{needs}
 use native.Mathlib.Omega.{arith}
 use Prim.Native.Nat.{_+_, _-_}
 use mathlib.Core.Path.{_≡_, refl, sym, ap, _∙_}
-use Rattle.item.specs.Run.{runOf, firstOf}
-use Rattle.item.proofs.Steps.{item-fits}
-use Rattle.item.proofs.Runs.{item-begins, falls, first-here, first-next, first-end, first-refused}
+use Rattle.item_rules.specs.Run.{runOf, firstOf}
+use Rattle.item_rules.proofs.Steps.{item-fits}
+use Rattle.item_rules.proofs.Runs.{item-begins, falls, first-here, first-next, first-end, first-refused}
 use Rattle.item.proofs.first_in.Statement.{statement}
 use Rattle.item.proofs.first_in.Tie as tie
 use Rattle.item.proofs.first_in.Reads as reads

@@ -1,8 +1,8 @@
 use native.Mathlib.Omega.{arith}
 use native.Mathlib.Nat.{sub-eq-zero-of-le, le-of-lt}
 use borrow.Author.Tests.{lt-ltb}
-use Rattle.item.specs.Item.{stepIn}
-use Rattle.item.proofs.Steps.{is-item, is-overrun}
+use Rattle.item_rules.specs.Item.{stepIn}
+use Rattle.item_rules.proofs.Steps.{is-item, is-overrun}
 use borrow.Author.Needs.{needs}
 use Rattle.item.proofs.step_in.Statement.{statement}
 use Rattle.item.proofs.step_in.Tie as tie

@@ -1,7 +1,7 @@
 -- `head_line` meets its contract: its pieces, one behind the other, are the line. Assumes nothing.
 use borrow.Author.Needs.{needs}
-use Rattle.text.proofs.Laws.{lays-more}
-use Rattle.lister.specs.Listing.{headLine}
+use Rattle.text_rules.proofs.Laws.{lays-more}
+use Rattle.lister_rules.specs.Listing.{headLine}
 use Rattle.lister.proofs.head_line.Statement.{statement}
 use Rattle.lister.proofs.head_line.Tie as tie
 

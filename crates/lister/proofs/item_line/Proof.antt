@@ -1,9 +1,9 @@
 -- `item_line` meets its contract: its pieces, one behind the other, are the line. Assumes nothing.
 use mathlib.Core.Path.{ap}
 use borrow.Author.Needs.{needs}
-use Rattle.text.specs.Text.{hexOf}
-use Rattle.text.proofs.Laws.{lays-same, lays-more}
-use Rattle.lister.specs.Listing.{itemLine}
+use Rattle.text_rules.specs.Text.{hexOf}
+use Rattle.text_rules.proofs.Laws.{lays-same, lays-more}
+use Rattle.lister_rules.specs.Listing.{itemLine}
 use Rattle.lister.proofs.item_line.Statement.{statement}
 use Rattle.lister.proofs.item_line.Tie as tie
 

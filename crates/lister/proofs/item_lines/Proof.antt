@@ -3,9 +3,9 @@
 use mathlib.Core.Path.{ap, _∙_}
 use lib.ListN.{length}
 use borrow.Author.Needs.{needs}
-use Rattle.text.proofs.Laws.{laid-length}
-use Rattle.lister.specs.Listing.{containers}
-use Rattle.lister.proofs.Left.{Place, left, begins, turn, end, never}
+use Rattle.text_rules.proofs.Laws.{laid-length}
+use Rattle.lister_rules.specs.Listing.{containers}
+use Rattle.lister_rules.proofs.Left.{Place, left, begins, turn, end, never}
 use Rattle.lister.proofs.item_lines.Statement.{statement}
 use Rattle.lister.proofs.item_lines.Tie as tie
 

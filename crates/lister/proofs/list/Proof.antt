@@ -1,7 +1,7 @@
 -- `list` meets its contract, by what the AF check answers. Assumes nothing.
 use borrow.Author.Needs.{needs}
-use Rattle.text.proofs.Laws.{lays-same}
-use Rattle.lister.proofs.Texts.{packet-refused, packet-passes}
+use Rattle.text_rules.proofs.Laws.{lays-same}
+use Rattle.lister_rules.proofs.Texts.{packet-refused, packet-passes}
 use Rattle.lister.proofs.list.Statement.{statement}
 use Rattle.lister.proofs.list.Tie as tie
 

@@ -1,7 +1,7 @@
 -- `list_payload` meets its contract: the line of the refusal, or the line on the packet and those on its items. Assumes nothing.
 use borrow.Author.Needs.{needs}
-use Rattle.text.proofs.Laws.{lays-same, lays-more}
-use Rattle.lister.proofs.Texts.{walked, payload-refused, payload-walked}
+use Rattle.text_rules.proofs.Laws.{lays-same, lays-more}
+use Rattle.lister_rules.proofs.Texts.{walked, payload-refused, payload-walked}
 use Rattle.lister.proofs.list_payload.Statement.{statement}
 use Rattle.lister.proofs.list_payload.Tie as tie
 

@@ -1,6 +1,6 @@
 -- `number_line` meets its contract: its three pieces are one text. Assumes nothing.
 use borrow.Author.Needs.{needs}
-use Rattle.text.proofs.Laws.{lays-more}
+use Rattle.text_rules.proofs.Laws.{lays-more}
 use Rattle.lister.proofs.number_line.Statement.{statement}
 use Rattle.lister.proofs.number_line.Tie as tie
 

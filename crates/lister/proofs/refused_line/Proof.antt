@@ -1,6 +1,6 @@
 -- `refused_line` meets its contract. Assumes nothing.
 use borrow.Author.Needs.{needs}
-use Rattle.lister.specs.Listing.{refusedLine}
+use Rattle.lister_rules.specs.Listing.{refusedLine}
 use Rattle.lister.proofs.refused_line.Statement.{statement}
 use Rattle.lister.proofs.refused_line.Tie as tie
 

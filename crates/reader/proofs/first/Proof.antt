@@ -31,9 +31,9 @@ use denote.Triple.Spec.{Meets, tripleOf}
 use denote.Triple.Table.{entered, cited}
 use denote.Triple.Walked.{says, Stays, stay-none-slice, walkOf, goes-none-slice, Walks, ends-at, walked, walk-meets}
 use denote.Exit.{yes}
-use Rattle.item.specs.declared.Step.{Step}
-use Rattle.item.proofs.Step as S
-use Rattle.item.proofs.Step.Laws as S′
+use Rattle.item_rules.specs.declared.Step.{Step}
+use Rattle.item_rules.proofs.Step as S
+use Rattle.item_rules.proofs.Step.Laws as S′
 use Rattle.reader.specs.declared.Reader.{Reader}
 use Rattle.reader.specs.Steps.{openedOn, stepOf}
 use Rattle.reader.proofs.Reader as T

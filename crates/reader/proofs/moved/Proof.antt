@@ -32,7 +32,7 @@ use denote.Triple.Spec.{Meets, tripleOf}
 use denote.Triple.Table.{entered, cited}
 use denote.Triple.Walked.{says, Stays, stay-none, walkOf, goes-none, Walks, ends-at, walked, walk-meets}
 use denote.Exit.{yes}
-use Rattle.tag.specs.Calls.{afterOf}
+use Rattle.tag_rules.specs.Calls.{afterOf}
 use Rattle.tag.proofs.read_after as after
 use Rattle.tag.proofs.read_after.Symbol as after-def
 use Rattle.tag.proofs.read_after.Symbol.{name as #tag·read-after}

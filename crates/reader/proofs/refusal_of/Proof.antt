@@ -1,8 +1,8 @@
 -- `reader::refusal_of` meets its contract.
 use borrow.Author.Needs.{needs}
 use mathlib.Core.Path.{sym, ap, _∙_}
-use Rattle.tag.specs.Reading.{refusalOf}
-use Rattle.tag.proofs.Proved.{opens}
+use Rattle.tag_rules.specs.Reading.{refusalOf}
+use Rattle.tag_rules.proofs.Proved.{opens}
 use Rattle.reader.proofs.refusal_of.Statement.{statement}
 use Rattle.reader.proofs.refusal_of.Tie as tie
 

@@ -27,9 +27,9 @@ use denote.Triple.Spec.{Meets, tripleOf}
 use denote.Triple.Table.{entered, cited}
 use denote.Triple.Walked.{says, Stays, stay-none, walkOf, goes-none, Walks, ends-at, walked, walk-meets}
 use denote.Exit.{yes}
-use Rattle.item.specs.declared.Step.{Step}
-use Rattle.item.proofs.Step as S
-use Rattle.item.proofs.Step.Laws as S′
+use Rattle.item_rules.specs.declared.Step.{Step}
+use Rattle.item_rules.proofs.Step as S
+use Rattle.item_rules.proofs.Step.Laws as S′
 use Rattle.tag.proofs.read_at as read
 use Rattle.tag.proofs.read_at.Symbol as read-def
 use Rattle.tag.proofs.read_at.Symbol.{name as #tag·read-at}

@@ -5,11 +5,11 @@ use mathlib.Core.Path.{sym, ap, _∙_}
 use mathlib.Core.Bool.{false}
 use native.Mathlib.Omega.{arith}
 use lib.ListN.{length, length-replicate}
-use Rattle.item.specs.Run.{faultsOf, slots}
-use Rattle.item.proofs.Steps.{item-fits}
-use Rattle.item.proofs.Runs.{item-begins, falls}
-use Rattle.item.proofs.Seen.{Seen, seen-none}
-use Rattle.tag.proofs.Checking.{check-turn, check-stops, check-ends, check-refused}
+use Rattle.item_rules.specs.Run.{faultsOf, slots}
+use Rattle.item_rules.proofs.Steps.{item-fits}
+use Rattle.item_rules.proofs.Runs.{item-begins, falls}
+use Rattle.item_rules.proofs.Seen.{Seen, seen-none}
+use Rattle.tag_rules.proofs.Checking.{check-turn, check-stops, check-ends, check-refused}
 use Rattle.tag.proofs.check.Statement.{statement}
 use Rattle.tag.proofs.check.Tie as tie
 use Rattle.tag.proofs.check.Reads as reads

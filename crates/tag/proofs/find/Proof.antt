@@ -1,7 +1,7 @@
 -- `tag::find` meets its contract.
 use borrow.Author.Needs.{needs}
 use mathlib.Core.Path.{sym, ap, _∙_}
-use Rattle.tag.specs.Find.{shownBy}
+use Rattle.tag_rules.specs.Find.{shownBy}
 use Rattle.tag.proofs.find.Statement.{statement}
 use Rattle.tag.proofs.find.Tie as tie
 use Rattle.tag.proofs.find.Reads as reads

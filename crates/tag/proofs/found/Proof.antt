@@ -1,6 +1,6 @@
 -- `tag::found` meets its contract.
 use mathlib.Core.Path.{refl}
-use Rattle.tag.specs.Calls.{soughtNumber}
+use Rattle.tag_rules.specs.Calls.{soughtNumber}
 use Rattle.tag.proofs.found.Statement.{statement}
 use Rattle.tag.proofs.found.Tie as tie
 use Rattle.tag.proofs.found.Reads as reads

@@ -1,7 +1,7 @@
 -- `tag::locate` meets its contract.
 use borrow.Author.Needs.{needs}
 use mathlib.Core.Path.{refl, sym, _∙_}
-use Rattle.tag.proofs.Searches.{refused-first, refused-second, is-located}
+use Rattle.tag_rules.proofs.Searches.{refused-first, refused-second, is-located}
 use Rattle.tag.proofs.locate.Statement.{statement}
 use Rattle.tag.proofs.locate.Tie as tie
 use Rattle.tag.proofs.locate.Reads as reads

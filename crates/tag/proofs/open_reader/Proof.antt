@@ -2,8 +2,8 @@
 use borrow.Author.Needs.{needs}
 use mathlib.Core.Path.{sym, _∙_}
 use native.Mathlib.Omega.{arith}
-use Rattle.base.proofs.Answers.{grants, refuses}
-use Rattle.tag.specs.Calls.{openedNumber, openCall}
+use Rattle.base_rules.proofs.Answers.{grants, refuses}
+use Rattle.tag_rules.specs.Calls.{openedNumber, openCall}
 use Rattle.tag.proofs.open_reader.Statement.{statement}
 use Rattle.tag.proofs.open_reader.Tie as tie
 use Rattle.tag.proofs.open_reader.Reads as reads

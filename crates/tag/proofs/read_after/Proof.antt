@@ -2,7 +2,7 @@
 use borrow.Author.Needs.{needs}
 use mathlib.Core.Path.{sym, _∙_}
 use native.Mathlib.Omega.{arith}
-use Rattle.tag.proofs.Reading.{handed-fits, after-is}
+use Rattle.tag_rules.proofs.Reading.{handed-fits, after-is}
 use Rattle.tag.proofs.read_after.Statement.{statement}
 use Rattle.tag.proofs.read_after.Tie as tie
 use Rattle.tag.proofs.read_after.Reads as reads

@@ -1,7 +1,7 @@
 -- `tag::read_at` meets its contract.
 use borrow.Author.Needs.{needs}
 use borrow.Author.Tests.{ne-eqb}
-use Rattle.tag.specs.Calls.{readOf}
+use Rattle.tag_rules.specs.Calls.{readOf}
 use Rattle.tag.proofs.read_at.Statement.{statement}
 use Rattle.tag.proofs.read_at.Tie as tie
 use Rattle.tag.proofs.read_at.Reads as reads

@@ -1,7 +1,7 @@
 -- `tag::search` meets its contract.
 use borrow.Author.Needs.{needs}
 use mathlib.Core.Path.{sym, ap, _∙_}
-use Rattle.tag.specs.Calls.{soughtNumber, searchAnswer, searchCall}
+use Rattle.tag_rules.specs.Calls.{soughtNumber, searchAnswer, searchCall}
 use Rattle.tag.proofs.search.Statement.{statement}
 use Rattle.tag.proofs.search.Tie as tie
 use Rattle.tag.proofs.search.Reads as reads

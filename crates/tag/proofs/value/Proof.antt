@@ -1,6 +1,6 @@
 -- `tag::value` meets its contract.
 use borrow.Author.Needs.{needs}
-use Rattle.tag.proofs.Values.{value-none, value-cut, value-whole}
+use Rattle.tag_rules.proofs.Values.{value-none, value-cut, value-whole}
 use Rattle.tag.proofs.value.Statement.{statement}
 use Rattle.tag.proofs.value.Tie as tie
 use Rattle.tag.proofs.value.Reads as reads

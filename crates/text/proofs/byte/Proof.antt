@@ -3,8 +3,8 @@ use mathlib.Core.Path.{ap₂}
 use mathlib.Core.List.{[], _∷_}
 use Prim.Native.Nat.{ℕ}
 use borrow.Author.Needs.{needs}
-use Rattle.text.specs.Text.{hexOf}
-use Rattle.text.proofs.Laws.{lays-same}
+use Rattle.text_rules.specs.Text.{hexOf}
+use Rattle.text_rules.proofs.Laws.{lays-same}
 use Rattle.text.proofs.byte.Statement.{statement}
 use Rattle.text.proofs.byte.Tie as tie
 

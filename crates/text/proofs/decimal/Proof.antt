@@ -5,7 +5,7 @@ use native.Mathlib.Omega.{arith}
 use borrow.Author.Needs.{needs}
 use lib.ListN.{drop, length-drop}
 use lib.Seq.{take-all}
-use Rattle.text.proofs.Laws.{lays-same}
+use Rattle.text_rules.proofs.Laws.{lays-same}
 use Rattle.text.proofs.decimal.Statement.{statement}
 use Rattle.text.proofs.decimal.Tie as tie
 

@@ -5,8 +5,8 @@ use Prim.Native.Nat.{_+_, _-_, _^_, _<_}
 use native.Mathlib.Omega.{arith}
 use borrow.Author.Needs.{needs}
 use lib.ListN.{length, drop, length-set}
-use Rattle.text.specs.Text.{decimalOf}
-use Rattle.text.proofs.Putting.{digits-none, digits-more, digits-all, places-left}
+use Rattle.text_rules.specs.Text.{decimalOf}
+use Rattle.text_rules.proofs.Putting.{digits-none, digits-more, digits-all, places-left}
 use Rattle.text.proofs.digits_of.Statement.{statement}
 use Rattle.text.proofs.digits_of.Tie as tie
 

@@ -5,9 +5,9 @@ use native.Mathlib.Omega.{arith}
 use borrow.Author.Needs.{needs}
 use lib.Seq.{take-all}
 use lib.ListN.{length, take}
-use Rattle.text.specs.Text.{hexOf}
-use Rattle.text.proofs.Laws.{laid-length, Lays, lays-none, lays-same, lays-more}
-use Rattle.text.proofs.Digits.{hex-none, hex-next}
+use Rattle.text_rules.specs.Text.{hexOf}
+use Rattle.text_rules.proofs.Laws.{laid-length, Lays, lays-none, lays-same, lays-more}
+use Rattle.text_rules.proofs.Digits.{hex-none, hex-next}
 use Rattle.text.proofs.hex.Statement.{statement}
 use Rattle.text.proofs.hex.Tie as tie
 

@@ -1,7 +1,7 @@
 -- `letter` meets its contract: the two kinds of letters. Assumes nothing.
 use native.Mathlib.Omega.{arith}
 use borrow.Author.Needs.{needs}
-use Rattle.text.proofs.Digits.{letter-low, letter-high}
+use Rattle.text_rules.proofs.Digits.{letter-low, letter-high}
 use Rattle.text.proofs.letter.Statement.{statement}
 use Rattle.text.proofs.letter.Tie as tie
 

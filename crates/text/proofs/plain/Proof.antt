@@ -3,8 +3,8 @@ use mathlib.Core.Path.{sym}
 use native.Mathlib.Omega.{arith}
 use borrow.Author.Needs.{needs}
 use lib.Seq.{length-take-le}
-use Rattle.text.proofs.Laws.{laid-past, behind-past}
-use Rattle.text.proofs.Putting.{put-lays}
+use Rattle.text_rules.proofs.Laws.{laid-past, behind-past}
+use Rattle.text_rules.proofs.Putting.{put-lays}
 use Rattle.text.proofs.plain.Statement.{statement}
 use Rattle.text.proofs.plain.Tie as tie
 

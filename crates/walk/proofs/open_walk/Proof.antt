@@ -1,6 +1,6 @@
 -- `walk::open_walk` meets its contract.
 use borrow.Author.Needs.{needs}
-use Rattle.walk.specs.Step.{opens}
+use Rattle.walk_rules.specs.Step.{opens}
 use Rattle.walk.proofs.open_walk.Statement.{statement}
 use Rattle.walk.proofs.open_walk.Tie as tie
 use Rattle.walk.proofs.open_walk.Reads as reads

@@ -2,7 +2,7 @@
 use borrow.Author.Needs.{needs}
 use native.Mathlib.Omega.{arith}
 use mathlib.Core.Path.{sym, _∙_}
-use Rattle.walk.proofs.StepCases.{stays, steps-on}
+use Rattle.walk_rules.proofs.StepCases.{stays, steps-on}
 use Rattle.walk.proofs.walk_step.Statement.{statement}
 use Rattle.walk.proofs.walk_step.Tie as tie
 use Rattle.walk.proofs.walk_step.Reads as reads

@@ -1,6 +1,6 @@
 -- `bad_count` meets its contract. Assumes nothing.
 use borrow.Author.Tests.{eq-eqb, ne-eqb}
-use Rattle.weave.specs.Calls.{badCount}
+use Rattle.weave_rules.specs.Calls.{badCount}
 use Rattle.weave.proofs.bad_count.Statement.{statement}
 use Rattle.weave.proofs.bad_count.Tie as tie
 

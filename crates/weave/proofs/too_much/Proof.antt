@@ -2,8 +2,8 @@
 use mathlib.Core.Path.{refl}
 use native.Mathlib.Omega.{arith}
 use native.Mathlib.Nat.{mul-le-mul}
-use Rattle.weave.specs.Calls.{tooMuch}
-use Rattle.weave.proofs.CallCases.{f-most, over-place}
+use Rattle.weave_rules.specs.Calls.{tooMuch}
+use Rattle.weave_rules.proofs.CallCases.{f-most, over-place}
 use Rattle.weave.proofs.too_much.Statement.{statement}
 use Rattle.weave.proofs.too_much.Tie as tie
 

@@ -1,10 +1,10 @@
 -- `fault` meets its contract: each branch is a test of the list. Assumes nothing.
 use native.Mathlib.Omega.{arith}
 use borrow.Author.Needs.{needs}
-use Rattle.base.proofs.Logic.{told}
-use Rattle.base.specs.Round.{ceil}
-use Rattle.item.specs.Item.{bytesFor}
-use Rattle.write.proofs.Refusals.{not-bytes, not-ptr, no-room, all-right}
+use Rattle.base_rules.proofs.Logic.{told}
+use Rattle.base_rules.specs.Round.{ceil}
+use Rattle.item_rules.specs.Item.{bytesFor}
+use Rattle.write_rules.proofs.Refusals.{not-bytes, not-ptr, no-room, all-right}
 use Rattle.write.proofs.fault.Statement.{statement}
 use Rattle.write.proofs.fault.Tie as tie
 

@@ -1,6 +1,6 @@
 -- `put_head` meets its contract: two puts with room, one behind the other. Assumes nothing.
 use borrow.Author.Needs.{needs}
-use Rattle.write.proofs.Puts.{head-put}
+use Rattle.write_rules.proofs.Puts.{head-put}
 use Rattle.write.proofs.put_head.Statement.{statement}
 use Rattle.write.proofs.put_head.Tie as tie
 

@@ -1,7 +1,7 @@
 -- `put_value` meets its contract: a put with room, and its last byte stored again. Assumes nothing.
 use native.Mathlib.Nat.{mod-le}
 use borrow.Author.Needs.{needs}
-use Rattle.write.proofs.Puts.{value-put, nothing-put}
+use Rattle.write_rules.proofs.Puts.{value-put, nothing-put}
 use Rattle.write.proofs.put_value.Statement.{statement}
 use Rattle.write.proofs.put_value.Tie as tie
 

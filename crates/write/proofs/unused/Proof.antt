@@ -1,9 +1,9 @@
 -- `unused` meets its contract: eight times a rounded eighth is less than eight too much. Assumes nothing.
 use native.Mathlib.Omega.{arith}
 use borrow.Author.Needs.{needs}
-use Rattle.base.specs.Round.{ceil}
-use Rattle.item.specs.Item.{bytesFor}
-use Rattle.write.specs.Write.{unusedOf}
+use Rattle.base_rules.specs.Round.{ceil}
+use Rattle.item_rules.specs.Item.{bytesFor}
+use Rattle.write_rules.specs.Write.{unusedOf}
 use Rattle.write.proofs.unused.Statement.{statement}
 use Rattle.write.proofs.unused.Tie as tie
 

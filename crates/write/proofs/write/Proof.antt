@@ -3,11 +3,11 @@ use mathlib.Core.Path.{sym, _∙_}
 use native.Mathlib.Omega.{arith}
 use lib.Pow.{pow-pos}
 use borrow.Author.Needs.{needs}
-use Rattle.base.specs.Written.{numberOf}
-use Rattle.base.proofs.Answers.{writes, leaves}
-use Rattle.write.specs.Write.{writeCall}
-use Rattle.write.proofs.Puts.{item-put}
-use Rattle.write.proofs.Refusals.{taken}
+use Rattle.base_rules.specs.Written.{numberOf}
+use Rattle.base_rules.proofs.Answers.{writes, leaves}
+use Rattle.write_rules.specs.Write.{writeCall}
+use Rattle.write_rules.proofs.Puts.{item-put}
+use Rattle.write_rules.proofs.Refusals.{taken}
 use Rattle.write.proofs.write.Statement.{statement}
 use Rattle.write.proofs.write.Tie as tie
 

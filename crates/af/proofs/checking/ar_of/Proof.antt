@@ -1,6 +1,6 @@
 -- `ar_of` meets its contract: a byte is a number of one byte. Assumes nothing.
 use borrow.Author.Needs.{needs}
-use Rattle.base.proofs.Numbers.{number-one}
+use Rattle.base_rules.proofs.Numbers.{number-one}
 use Rattle.af.proofs.checking.ar_of.Statement.{statement}
 use Rattle.af.proofs.checking.ar_of.Tie as tie
 

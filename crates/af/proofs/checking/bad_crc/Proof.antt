@@ -6,8 +6,8 @@ use native.Mathlib.Omega.{arith}
 use borrow.Author.Needs.{needs}
 use lib.Dec.{eqb}
 use lib.Seq.{length-take-le}
-use Rattle.af.specs.Calls.{badCrc}
-use Rattle.af.specs.Packet.{crcFor, coveredOf}
+use Rattle.af_rules.specs.Calls.{badCrc}
+use Rattle.af_rules.specs.Packet.{crcFor, coveredOf}
 use Rattle.af.proofs.checking.bad_crc.Statement.{statement}
 use Rattle.af.proofs.checking.bad_crc.Tie as tie
 

@@ -1,7 +1,7 @@
 -- `bad_length` meets its contract: LEN is the number that was read. Assumes nothing.
 use borrow.Author.Needs.{needs}
 use Rattle.af.proofs.checking.bad_length.Statement.{statement}
-use Rattle.af.proofs.Checks.{length-other, length-over}
+use Rattle.af_rules.proofs.Checks.{length-other, length-over}
 use Rattle.af.proofs.checking.bad_length.Tie as tie
 
 read4-requires : tie.Need-read4-requires

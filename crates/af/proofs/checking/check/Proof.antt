@@ -1,9 +1,9 @@
 -- `check` meets its contract: the number that is due, or the figures. Assumes nothing.
 use mathlib.Core.Path.{refl, sym, _∙_}
 use borrow.Author.Needs.{needs}
-use Rattle.af.specs.Calls.{numberOf}
+use Rattle.af_rules.specs.Calls.{numberOf}
 use Rattle.af.proofs.checking.check.Statement.{statement}
-use Rattle.af.proofs.Checks.{check-refused, check-granted}
+use Rattle.af_rules.proofs.Checks.{check-refused, check-granted}
 use Rattle.af.proofs.checking.check.Tie as tie
 
 fault-requires : tie.Need-fault-requires

@@ -4,13 +4,13 @@ use mathlib.Core.List.{List}
 use Prim.Native.Nat.{ℕ, _/_, _%_}
 use borrow.Author.Needs.{needs}
 use borrow.Author.Tests.{lt-ltb, le-ltb}
-use Rattle.base.specs.Tests.{first}
-use Rattle.base.proofs.Firsts.{due, skip, none-due}
-use Rattle.base.proofs.Logic.{told, same, other}
-use Rattle.base.proofs.Numbers.{number-one}
-use Rattle.af.specs.Calls.{afFault}
+use Rattle.base_rules.specs.Tests.{first}
+use Rattle.base_rules.proofs.Firsts.{due, skip, none-due}
+use Rattle.base_rules.proofs.Logic.{told, same, other}
+use Rattle.base_rules.proofs.Numbers.{number-one}
+use Rattle.af_rules.specs.Calls.{afFault}
 use Rattle.af.proofs.checking.fault.Statement.{statement}
-use Rattle.af.proofs.Checks as checks
+use Rattle.af_rules.proofs.Checks as checks
 use Rattle.af.proofs.checking.fault.Tie as tie
 
 -- the packet

@@ -1,6 +1,6 @@
 -- `ar_with` meets its contract, by CF. Assumes nothing.
 use borrow.Author.Needs.{needs}
-use Rattle.af.specs.Packet.{arWith}
+use Rattle.af_rules.specs.Packet.{arWith}
 use Rattle.af.proofs.wrapping.ar_with.Statement.{statement}
 use Rattle.af.proofs.wrapping.ar_with.Tie as tie
 

@@ -1,7 +1,7 @@
 -- `header` meets its contract: the ten bytes one by one. Assumes nothing.
 use borrow.Author.Needs.{needs}
 use Rattle.af.proofs.wrapping.header.Statement.{statement}
-use Rattle.af.proofs.Wraps.{laid}
+use Rattle.af_rules.proofs.Wraps.{laid}
 use Rattle.af.proofs.wrapping.header.Tie as tie
 
 bytes2-requires : tie.Need-bytes2-requires

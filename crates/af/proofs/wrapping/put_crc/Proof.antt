@@ -3,12 +3,12 @@ use mathlib.Core.Path.{sym, ap, _∙_}
 use native.Mathlib.Omega.{arith}
 use borrow.Author.Needs.{needs}
 use lib.ListN.{length}
-use Rattle.base.specs.Bytes.{splice, bytesOf}
-use Rattle.base.proofs.Numbers.{length-bytes}
-use Rattle.af.specs.Packet.{crcBytes}
+use Rattle.base_rules.specs.Bytes.{splice, bytesOf}
+use Rattle.base_rules.proofs.Numbers.{length-bytes}
+use Rattle.af_rules.specs.Packet.{crcBytes}
 use lib.Seq.{length-take-le}
 use Rattle.af.proofs.wrapping.put_crc.Statement.{statement}
-use Rattle.base.proofs.Answers.{put-is}
+use Rattle.base_rules.proofs.Answers.{put-is}
 use Rattle.af.proofs.wrapping.put_crc.Tie as tie
 
 slice-reshare-prefix-crc-for : tie.Need-slice-reshare-prefix-crc-for

@@ -4,10 +4,10 @@ use mathlib.Core.List.{List, _++_}
 use Prim.Native.Nat.{ℕ}
 use borrow.Author.Needs.{needs}
 use lib.ListN.{length}
-use Rattle.base.specs.Bytes.{splice}
-use Rattle.af.specs.Packet.{headerBytes}
+use Rattle.base_rules.specs.Bytes.{splice}
+use Rattle.af_rules.specs.Packet.{headerBytes}
 use Rattle.af.proofs.wrapping.put_front.Statement.{statement}
-use Rattle.af.proofs.Wraps.{length-header, both-put}
+use Rattle.af_rules.proofs.Wraps.{length-header, both-put}
 use Rattle.af.proofs.wrapping.put_front.Tie as tie
 
 cast-header : tie.Need-cast-header

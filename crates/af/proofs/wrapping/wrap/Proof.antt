@@ -1,9 +1,9 @@
 -- `wrap` meets its contract: each return is the law for its number. Assumes nothing.
 use native.Mathlib.Omega.{arith}
 use borrow.Author.Needs.{needs}
-use Rattle.base.specs.Written.{numberOf}
+use Rattle.base_rules.specs.Written.{numberOf}
 use Rattle.af.proofs.wrapping.wrap.Statement.{statement}
-use Rattle.af.proofs.Wraps as cases
+use Rattle.af_rules.proofs.Wraps as cases
 use Rattle.af.proofs.wrapping.wrap.Tie as tie
 
 returns : tie.Need-returns

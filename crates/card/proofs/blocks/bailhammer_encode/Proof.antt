@@ -1,5 +1,5 @@
 -- `bailhammer_encode` meets its contract: the outcome of crate code's call, and its number. Assumes nothing.
-use Rattle.card.proofs.ToldLaws.{handed-on}
+use Rattle.card_rules.proofs.ToldLaws.{handed-on}
 use borrow.Author.Needs.{needs}
 use Rattle.card.proofs.blocks.bailhammer_encode.Statement.{statement}
 use Rattle.card.proofs.blocks.bailhammer_encode.Tie as tie

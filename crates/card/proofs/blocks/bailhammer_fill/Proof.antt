@@ -3,9 +3,9 @@ use mathlib.Core.Path.{_≡_, subst}
 use mathlib.Core.Bool.{Bool}
 use mathlib.Core.List.{List}
 use Prim.Native.Nat.{ℕ}
-use Rattle.code.specs.Calls.{BlockFilled}
-use Rattle.code.specs.declared.Filled.{Filled}
-use Rattle.card.specs.Blocks.{keptOf, filledNumber, CardFilled}
+use Rattle.code_rules.specs.Calls.{BlockFilled}
+use Rattle.code_rules.specs.declared.Filled.{Filled}
+use Rattle.card_rules.specs.Blocks.{keptOf, filledNumber, CardFilled}
 use borrow.Author.Needs.{needs}
 use Rattle.card.proofs.blocks.bailhammer_fill.Statement.{statement}
 use Rattle.card.proofs.blocks.bailhammer_fill.Tie as tie

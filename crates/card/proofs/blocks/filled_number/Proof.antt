@@ -1,8 +1,8 @@
 -- `filled_number` meets its contract, case by case. Assumes nothing.
 use mathlib.Core.Path.{sym, ap}
 use borrow.Author.Needs.{needs}
-use Rattle.code.specs.Calls.{numberOf, valuesOf}
-use Rattle.card.specs.Blocks.{oneNumber, filledNumber}
+use Rattle.code_rules.specs.Calls.{numberOf, valuesOf}
+use Rattle.card_rules.specs.Blocks.{oneNumber, filledNumber}
 use Rattle.card.proofs.blocks.filled_number.Statement.{statement}
 use Rattle.card.proofs.blocks.filled_number.Tie as tie
 

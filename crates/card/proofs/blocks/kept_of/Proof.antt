@@ -6,9 +6,9 @@ use native.Mathlib.Nat.{zero-add}
 use native.Mathlib.Omega.{arith}
 use borrow.Author.Needs.{needs}
 use lib.ListN.{length, length-set, length-replicate, replicate}
-use Rattle.base.specs.Bounds.{most-f}
-use Rattle.card.specs.Blocks.{isKept, keptOf}
-use Rattle.card.proofs.FlagLaws.{Flags, flags-none, flags-more, flags-all}
+use Rattle.base_rules.specs.Bounds.{most-f}
+use Rattle.card_rules.specs.Blocks.{isKept, keptOf}
+use Rattle.card_rules.proofs.FlagLaws.{Flags, flags-none, flags-more, flags-all}
 use Rattle.card.proofs.blocks.kept_of.Statement.{statement}
 use Rattle.card.proofs.blocks.kept_of.Tie as tie
 

@@ -1,8 +1,8 @@
 -- `bailhammer_find` meets its contract: what is told is where the name is. Assumes nothing.
 use mathlib.Core.Path.{ap}
-use Rattle.tag.specs.Calls.{locatedNumber, locateCall}
-use Rattle.card.specs.Items.{found-widths}
-use Rattle.card.proofs.ToldLaws.{told-as}
+use Rattle.tag_rules.specs.Calls.{locatedNumber, locateCall}
+use Rattle.card_rules.specs.Items.{found-widths}
+use Rattle.card_rules.proofs.ToldLaws.{told-as}
 use borrow.Author.Needs.{needs}
 use Rattle.card.proofs.items.bailhammer_find.Statement.{statement}
 use Rattle.card.proofs.items.bailhammer_find.Tie as tie

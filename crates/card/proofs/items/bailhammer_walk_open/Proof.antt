@@ -1,8 +1,8 @@
 -- `bailhammer_walk_open` meets its contract: the walk's refusal, then the bytes' number, else the walk. Assumes nothing.
 use mathlib.Core.Path.{refl}
-use Rattle.card.specs.Told.{refusalIn}
-use Rattle.card.proofs.ItemLaws.{open-refused, open-short, open-done}
-use Rattle.card.proofs.ToldLaws.{handed-on}
+use Rattle.card_rules.specs.Told.{refusalIn}
+use Rattle.card_rules.proofs.ItemLaws.{open-refused, open-short, open-done}
+use Rattle.card_rules.proofs.ToldLaws.{handed-on}
 use borrow.Author.Needs.{needs}
 use Rattle.card.proofs.items.bailhammer_walk_open.Statement.{statement}
 use Rattle.card.proofs.items.bailhammer_walk_open.Tie as tie

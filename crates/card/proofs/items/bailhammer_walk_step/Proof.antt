@@ -1,7 +1,7 @@
 -- `bailhammer_walk_step` meets its contract: a refusal leaves the walk's bytes. Assumes nothing.
 use mathlib.Core.Path.{ap, _∙_}
-use Rattle.walk.specs.Step.{walkStep}
-use Rattle.card.proofs.ItemLaws.{step-short, step-on, step-not}
+use Rattle.walk_rules.specs.Step.{walkStep}
+use Rattle.card_rules.proofs.ItemLaws.{step-short, step-on, step-not}
 use borrow.Author.Needs.{needs}
 use Rattle.card.proofs.items.bailhammer_walk_step.Statement.{statement}
 use Rattle.card.proofs.items.bailhammer_walk_step.Tie as tie

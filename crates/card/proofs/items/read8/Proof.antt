@@ -1,6 +1,6 @@
 -- `read8` meets its contract: four bytes, and the four behind them. Assumes nothing.
-use Rattle.base.proofs.Numbers.{number-past}
-use Rattle.card.proofs.ItemLaws.{eight-read}
+use Rattle.base_rules.proofs.Numbers.{number-past}
+use Rattle.card_rules.proofs.ItemLaws.{eight-read}
 use borrow.Author.Needs.{needs}
 use Rattle.card.proofs.items.read8.Statement.{statement}
 use Rattle.card.proofs.items.read8.Tie as tie

@@ -1,10 +1,10 @@
 -- `tell_found` meets its contract, case by case: a refusal tells nothing. Assumes nothing.
 use mathlib.Core.Path.{refl, ap}
-use Rattle.base.specs.Bytes.{bytesOf}
-use Rattle.tag.specs.Calls.{locatedNumber}
-use Rattle.card.specs.Told.{inWidths}
-use Rattle.card.specs.Items.{found-widths}
-use Rattle.card.proofs.ToldLaws.{told-granted, told-refused}
+use Rattle.base_rules.specs.Bytes.{bytesOf}
+use Rattle.tag_rules.specs.Calls.{locatedNumber}
+use Rattle.card_rules.specs.Told.{inWidths}
+use Rattle.card_rules.specs.Items.{found-widths}
+use Rattle.card_rules.proofs.ToldLaws.{told-granted, told-refused}
 use borrow.Author.Needs.{needs}
 use Rattle.card.proofs.items.tell_found.Statement.{statement}
 use Rattle.card.proofs.items.tell_found.Tie as tie

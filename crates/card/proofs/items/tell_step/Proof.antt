@@ -1,9 +1,9 @@
 -- `tell_step` meets its contract, case by case: a refusal tells nothing. Assumes nothing.
 use mathlib.Core.Path.{refl, ap}
-use Rattle.base.specs.Bytes.{bytesOf}
-use Rattle.card.specs.Told.{inWidths}
-use Rattle.card.specs.Items.{step-widths, steppedNumber}
-use Rattle.card.proofs.ToldLaws.{told-granted, told-refused}
+use Rattle.base_rules.specs.Bytes.{bytesOf}
+use Rattle.card_rules.specs.Told.{inWidths}
+use Rattle.card_rules.specs.Items.{step-widths, steppedNumber}
+use Rattle.card_rules.proofs.ToldLaws.{told-granted, told-refused}
 use borrow.Author.Needs.{needs}
 use Rattle.card.proofs.items.tell_step.Statement.{statement}
 use Rattle.card.proofs.items.tell_step.Tie as tie

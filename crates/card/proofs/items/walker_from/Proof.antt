@@ -1,5 +1,5 @@
 -- `walker_from` meets its contract, number by number. Assumes nothing.
-use Rattle.card.proofs.ItemLaws.{walker-read}
+use Rattle.card_rules.proofs.ItemLaws.{walker-read}
 use borrow.Author.Needs.{needs}
 use Rattle.card.proofs.items.walker_from.Statement.{statement}
 use Rattle.card.proofs.items.walker_from.Tie as tie

@@ -1,9 +1,9 @@
 -- `write_walker` meets its contract: the numbers told are all of the bytes. Assumes nothing.
 use mathlib.Core.Path.{refl}
-use Rattle.base.specs.Bytes.{bytesOf}
-use Rattle.places.proofs.Records.{as-long}
-use Rattle.card.specs.Told.{inWidths}
-use Rattle.card.proofs.ItemLaws.{walker-laid}
+use Rattle.base_rules.specs.Bytes.{bytesOf}
+use Rattle.places_rules.proofs.Records.{as-long}
+use Rattle.card_rules.specs.Told.{inWidths}
+use Rattle.card_rules.proofs.ItemLaws.{walker-laid}
 use borrow.Author.Needs.{needs}
 use Rattle.card.proofs.items.write_walker.Statement.{statement}
 use Rattle.card.proofs.items.write_walker.Tie as tie

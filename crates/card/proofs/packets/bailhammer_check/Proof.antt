@@ -2,11 +2,11 @@
 use mathlib.Core.Path.{refl, sym, ap, _∙_}
 use mathlib.Core.List.{[], _∷_}
 use Prim.Native.Nat.{ℕ}
-use Rattle.af.specs.Calls.{numberOf}
-use Rattle.base.specs.Bytes.{bytesOf}
-use Rattle.card.specs.Told.{inWidths}
-use Rattle.card.specs.Packets.{check-widths}
-use Rattle.card.proofs.ToldLaws.{told-granted, told-refused}
+use Rattle.af_rules.specs.Calls.{numberOf}
+use Rattle.base_rules.specs.Bytes.{bytesOf}
+use Rattle.card_rules.specs.Told.{inWidths}
+use Rattle.card_rules.specs.Packets.{check-widths}
+use Rattle.card_rules.proofs.ToldLaws.{told-granted, told-refused}
 use borrow.Author.Needs.{needs}
 use Rattle.card.proofs.packets.bailhammer_check.Statement.{statement}
 use Rattle.card.proofs.packets.bailhammer_check.Tie as tie

@@ -1,5 +1,5 @@
 -- `bailhammer_item` meets its contract: the outcome of crate write's call, and its number. Assumes nothing.
-use Rattle.card.proofs.ToldLaws.{handed-on}
+use Rattle.card_rules.proofs.ToldLaws.{handed-on}
 use borrow.Author.Needs.{needs}
 use Rattle.card.proofs.packets.bailhammer_item.Statement.{statement}
 use Rattle.card.proofs.packets.bailhammer_item.Tie as tie

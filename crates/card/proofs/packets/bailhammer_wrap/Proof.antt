@@ -1,5 +1,5 @@
 -- `bailhammer_wrap` meets its contract: the outcome of crate af's call, and its number. Assumes nothing.
-use Rattle.card.proofs.ToldLaws.{handed-on}
+use Rattle.card_rules.proofs.ToldLaws.{handed-on}
 use borrow.Author.Needs.{needs}
 use Rattle.card.proofs.packets.bailhammer_wrap.Statement.{statement}
 use Rattle.card.proofs.packets.bailhammer_wrap.Tie as tie

@@ -1,6 +1,6 @@
 -- `bailhammer_clear` meets its contract: what is no record is refused, then what cannot be cleared; else a fresh record is packed. Assumes nothing.
 use lib.ListN.{length}
-use Rattle.card.proofs.QueryLaws.{clear-no-record, clear-refused, clear-done}
+use Rattle.card_rules.proofs.QueryLaws.{clear-no-record, clear-refused, clear-done}
 use borrow.Author.Needs.{needs}
 use Rattle.card.proofs.receiving.bailhammer_clear.Statement.{statement}
 use Rattle.card.proofs.receiving.bailhammer_clear.Tie as tie

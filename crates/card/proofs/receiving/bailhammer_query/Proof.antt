@@ -1,6 +1,6 @@
 -- `bailhammer_query` meets its contract: what is no record is refused, and else the query tells. Assumes nothing.
 use lib.ListN.{length}
-use Rattle.card.proofs.QueryLaws.{query-refused, query-done}
+use Rattle.card_rules.proofs.QueryLaws.{query-refused, query-done}
 use borrow.Author.Needs.{needs}
 use Rattle.card.proofs.receiving.bailhammer_query.Statement.{statement}
 use Rattle.card.proofs.receiving.bailhammer_query.Tie as tie

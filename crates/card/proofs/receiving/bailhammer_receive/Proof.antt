@@ -4,12 +4,12 @@ use mathlib.Core.Path.{_≡_, refl}
 use Prim.Native.Nat.{_<_}
 use native.Mathlib.Omega.{arith}
 use lib.ListN.{length}
-use Rattle.packed.specs.Claims.{TypedTable}
-use Rattle.packed.proofs.Proved.{packed-length}
-use Rattle.places.specs.Places.{four, placeAt}
-use Rattle.places.proofs.Records.{as-long}
-use Rattle.card.specs.Calls.{addressOf}
-use Rattle.card.proofs.ReceiveLaws.{receive-refused, received-there, typed-place}
+use Rattle.packed_rules.specs.Claims.{TypedTable}
+use Rattle.packed_rules.proofs.Proved.{packed-length}
+use Rattle.places_rules.specs.Places.{four, placeAt}
+use Rattle.places_rules.proofs.Records.{as-long}
+use Rattle.card_rules.specs.Calls.{addressOf}
+use Rattle.card_rules.proofs.ReceiveLaws.{receive-refused, received-there, typed-place}
 use borrow.Author.Needs.{needs}
 use Rattle.card.proofs.receiving.bailhammer_receive.Statement.{statement}
 use Rattle.card.proofs.receiving.bailhammer_receive.Tie as tie

@@ -1,6 +1,6 @@
 -- `receipt_values` meets its contract, case by case. Assumes nothing.
 use mathlib.Core.Path.{sym, ap}
-use Rattle.card.specs.Receiving.{displacedTold, receiptTold}
+use Rattle.card_rules.specs.Receiving.{displacedTold, receiptTold}
 use borrow.Author.Needs.{needs}
 use Rattle.card.proofs.receiving.receipt_values.Statement.{statement}
 use Rattle.card.proofs.receiving.receipt_values.Tie as tie

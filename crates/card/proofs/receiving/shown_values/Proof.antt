@@ -1,5 +1,5 @@
 -- `shown_values` meets its contract, place by place. Assumes nothing.
-use Rattle.card.proofs.QueryLaws.{eight}
+use Rattle.card_rules.proofs.QueryLaws.{eight}
 use borrow.Author.Needs.{needs}
 use Rattle.card.proofs.receiving.shown_values.Statement.{statement}
 use Rattle.card.proofs.receiving.shown_values.Tie as tie

@@ -1,10 +1,10 @@
 -- `tell_places` meets its contract: a refusal tells nothing. Assumes nothing.
 use mathlib.Core.Path.{ap}
-use Rattle.base.specs.Bytes.{bytesOf}
-use Rattle.card.specs.Told.{inWidths}
-use Rattle.card.specs.Receiving.{places-widths, queriedIn}
-use Rattle.card.proofs.ToldLaws.{told-granted, told-refused}
-use Rattle.card.proofs.TellLaws.{as-wide}
+use Rattle.base_rules.specs.Bytes.{bytesOf}
+use Rattle.card_rules.specs.Told.{inWidths}
+use Rattle.card_rules.specs.Receiving.{places-widths, queriedIn}
+use Rattle.card_rules.proofs.ToldLaws.{told-granted, told-refused}
+use Rattle.card_rules.proofs.TellLaws.{as-wide}
 use borrow.Author.Needs.{needs}
 use Rattle.card.proofs.receiving.tell_places.Statement.{statement}
 use Rattle.card.proofs.receiving.tell_places.Tie as tie

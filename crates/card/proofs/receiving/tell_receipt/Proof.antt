@@ -2,13 +2,13 @@
 use mathlib.Core.Path.{_≡_, sym, ap, _∙_}
 use mathlib.Core.List.{List}
 use Prim.Native.Nat.{ℕ}
-use Rattle.base.specs.Bytes.{bytesOf}
-use Rattle.places.specs.declared.Displaced.{Displaced}
-use Rattle.receiver.specs.Promise.{numberOf}
-use Rattle.receiver.specs.declared.Received.{Received}
-use Rattle.card.specs.Told.{toldIn, inWidths}
-use Rattle.card.specs.Receiving.{receiptTold, receipt-widths, toldAfter}
-use Rattle.card.proofs.TellLaws.{as-wide}
+use Rattle.base_rules.specs.Bytes.{bytesOf}
+use Rattle.places_rules.specs.declared.Displaced.{Displaced}
+use Rattle.receiver_rules.specs.Promise.{numberOf}
+use Rattle.receiver_rules.specs.declared.Received.{Received}
+use Rattle.card_rules.specs.Told.{toldIn, inWidths}
+use Rattle.card_rules.specs.Receiving.{receiptTold, receipt-widths, toldAfter}
+use Rattle.card_rules.proofs.TellLaws.{as-wide}
 use borrow.Author.Needs.{needs}
 use Rattle.card.proofs.receiving.tell_receipt.Statement.{statement}
 use Rattle.card.proofs.receiving.tell_receipt.Tie as tie

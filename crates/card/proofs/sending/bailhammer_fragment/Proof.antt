@@ -1,9 +1,9 @@
 -- `bailhammer_fragment` meets its contract: the outcome of crate sender's call, its number and the length. Assumes nothing.
 use mathlib.Core.Path.{ap, _∙_}
-use Rattle.cut.specs.declared.Settings.{Settings}
-use Rattle.sender.specs.Calls.{fragmentCall}
-use Rattle.card.specs.Sending.{twos}
-use Rattle.card.proofs.ToldLaws.{sent-as}
+use Rattle.cut_rules.specs.declared.Settings.{Settings}
+use Rattle.sender_rules.specs.Calls.{fragmentCall}
+use Rattle.card_rules.specs.Sending.{twos}
+use Rattle.card_rules.proofs.ToldLaws.{sent-as}
 use borrow.Author.Needs.{needs}
 use Rattle.card.proofs.sending.bailhammer_fragment.Statement.{statement}
 use Rattle.card.proofs.sending.bailhammer_fragment.Tie as tie

@@ -1,9 +1,9 @@
 -- `bailhammer_fragments` meets its contract: the outcome of crate sender's call, its number and the split. Assumes nothing.
 use mathlib.Core.Path.{ap, _∙_}
-use Rattle.cut.specs.declared.Settings.{Settings}
-use Rattle.sender.specs.Calls.{fragmentsCall}
-use Rattle.card.specs.Sending.{twos}
-use Rattle.card.proofs.ToldLaws.{sent-as}
+use Rattle.cut_rules.specs.declared.Settings.{Settings}
+use Rattle.sender_rules.specs.Calls.{fragmentsCall}
+use Rattle.card_rules.specs.Sending.{twos}
+use Rattle.card_rules.proofs.ToldLaws.{sent-as}
 use borrow.Author.Needs.{needs}
 use Rattle.card.proofs.sending.bailhammer_fragments.Statement.{statement}
 use Rattle.card.proofs.sending.bailhammer_fragments.Tie as tie

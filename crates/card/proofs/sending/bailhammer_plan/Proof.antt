@@ -1,9 +1,9 @@
 -- `bailhammer_plan` meets its contract: the answer of crate cut's call, its number and its figures. Assumes nothing.
 use mathlib.Core.Path.{ap, _∙_}
-use Rattle.cut.specs.Plan.{planOf}
-use Rattle.cut.specs.declared.Settings.{Settings}
-use Rattle.card.specs.Sending.{twos}
-use Rattle.card.proofs.ToldLaws.{told-as}
+use Rattle.cut_rules.specs.Plan.{planOf}
+use Rattle.cut_rules.specs.declared.Settings.{Settings}
+use Rattle.card_rules.specs.Sending.{twos}
+use Rattle.card_rules.proofs.ToldLaws.{told-as}
 use borrow.Author.Needs.{needs}
 use Rattle.card.proofs.sending.bailhammer_plan.Statement.{statement}
 use Rattle.card.proofs.sending.bailhammer_plan.Tie as tie

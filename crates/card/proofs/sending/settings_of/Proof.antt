@@ -4,9 +4,9 @@ use mathlib.Core.Bool.{not}
 use Prim.Native.Nat.{ℕ}
 use lib.Dec.{eqb}
 use borrow.Author.Needs.{needs}
-use Rattle.cut.specs.declared.Address.{Address}
-use Rattle.cut.specs.declared.Settings.{Settings}
-use Rattle.card.specs.Sending.{settingsOf}
+use Rattle.cut_rules.specs.declared.Address.{Address}
+use Rattle.cut_rules.specs.declared.Settings.{Settings}
+use Rattle.card_rules.specs.Sending.{settingsOf}
 use Rattle.card.proofs.sending.settings_of.Statement.{statement}
 use Rattle.card.proofs.sending.settings_of.Tie as tie
 

@@ -5,8 +5,8 @@ use Prim.Native.Nat.{_-_, _≤_}
 use native.Mathlib.Omega.{arith}
 use borrow.Author.Needs.{needs}
 use lib.ListN.{length, length-set}
-use Rattle.base.specs.Bytes.{splice, bytesOf}
-use Rattle.card.proofs.TellLaws.{byte-put, bytes-put}
+use Rattle.base_rules.specs.Bytes.{splice, bytesOf}
+use Rattle.card_rules.proofs.TellLaws.{byte-put, bytes-put}
 use Rattle.card.proofs.telling.put_number.Statement.{statement}
 use Rattle.card.proofs.telling.put_number.Tie as tie
 

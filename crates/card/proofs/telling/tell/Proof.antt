@@ -4,7 +4,7 @@ use Prim.Native.Nat.{_-_}
 use native.Mathlib.Omega.{arith}
 use borrow.Author.Needs.{needs}
 use lib.ListN.{length}
-use Rattle.card.proofs.TellLaws.{Telling, tells-none, tells-room, tells-more, tells-all, tells-short}
+use Rattle.card_rules.proofs.TellLaws.{Telling, tells-none, tells-room, tells-more, tells-all, tells-short}
 use Rattle.card.proofs.telling.tell.Statement.{statement}
 use Rattle.card.proofs.telling.tell.Tie as tie
 

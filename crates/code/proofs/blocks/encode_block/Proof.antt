@@ -3,9 +3,9 @@ use mathlib.Core.Path.{_≡_, refl, _∙_, subst}
 use Prim.Native.Nat.{_-_, _≤_, _<_}
 use borrow.Author.Needs.{needs}
 use lib.ListN.{length}
-use Rattle.code.specs.Kernel.{Made}
-use Rattle.code.specs.Block.{Encoded, EncSized}
-use Rattle.code.proofs.PartLaws.{encoded-more, encoded-start}
+use Rattle.code_rules.specs.Kernel.{Made}
+use Rattle.code_rules.specs.Block.{Encoded, EncSized}
+use Rattle.code_rules.proofs.PartLaws.{encoded-more, encoded-start}
 use Rattle.code.proofs.blocks.encode_block.Statement.{statement}
 use Rattle.code.proofs.blocks.encode_block.Tie as tie
 

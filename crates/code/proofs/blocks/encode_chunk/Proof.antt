@@ -3,8 +3,8 @@ use mathlib.Core.Path.{_≡_}
 use Prim.Native.Nat.{_+_, _≤_}
 use borrow.Author.Needs.{needs}
 use lib.ListN.{length}
-use Rattle.base.proofs.Answers.{put-is}
-use Rattle.code.proofs.CallCases.{encode-put}
+use Rattle.base_rules.proofs.Answers.{put-is}
+use Rattle.code_rules.proofs.CallCases.{encode-put}
 use Rattle.code.proofs.blocks.encode_chunk.Statement.{statement}
 use Rattle.code.proofs.blocks.encode_chunk.Tie as tie
 

@@ -4,7 +4,7 @@ use Prim.Native.Nat.{ℕ, _+_, _-_, _*_}
 use native.Mathlib.Omega.{arith}
 use borrow.Author.Needs.{needs}
 use lib.ListN.{length, take, drop}
-use Rattle.code.proofs.PartLaws.{room, length-part, mid-part, one-encoded}
+use Rattle.code_rules.proofs.PartLaws.{room, length-part, mid-part, one-encoded}
 use Rattle.code.proofs.blocks.encode_one.Statement.{statement}
 use Rattle.code.proofs.blocks.encode_one.Tie as tie
 

@@ -5,10 +5,10 @@ use native.Mathlib.Nat.{zero-mod}
 use native.Mathlib.Omega.{arith}
 use borrow.Author.Needs.{needs}
 use lib.ListN.{length}
-use Rattle.base.specs.Bytes.{splice}
-use Rattle.base.proofs.Tables.{filled-none}
-use Rattle.code.specs.Calls.{lostCells}
-use Rattle.code.proofs.CellLaws.{next-row, lost-on}
+use Rattle.base_rules.specs.Bytes.{splice}
+use Rattle.base_rules.proofs.Tables.{filled-none}
+use Rattle.code_rules.specs.Calls.{lostCells}
+use Rattle.code_rules.proofs.CellLaws.{next-row, lost-on}
 use Rattle.code.proofs.cells.mark_lost.Statement.{statement}
 use Rattle.code.proofs.cells.mark_lost.Tie as tie
 

@@ -6,11 +6,11 @@ use Prim.Native.Nat.{ℕ, _+_, _-_, _%_, _≤_}
 use native.Mathlib.Omega.{arith}
 use borrow.Author.Needs.{needs}
 use lib.ListN.{length, getD}
-use Rattle.base.specs.Bytes.{splice}
-use Rattle.base.specs.Tests.{bit}
-use Rattle.base.proofs.Tables.{filled-none, filled-more}
-use Rattle.code.specs.Calls.{lostCells}
-use Rattle.code.proofs.CellLaws.{in-row}
+use Rattle.base_rules.specs.Bytes.{splice}
+use Rattle.base_rules.specs.Tests.{bit}
+use Rattle.base_rules.proofs.Tables.{filled-none, filled-more}
+use Rattle.code_rules.specs.Calls.{lostCells}
+use Rattle.code_rules.proofs.CellLaws.{in-row}
 use Rattle.code.proofs.cells.mark_row.Statement.{statement}
 use Rattle.code.proofs.cells.mark_row.Tie as tie
 

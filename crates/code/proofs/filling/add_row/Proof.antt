@@ -5,14 +5,14 @@ use Prim.Native.Nat.{ℕ, _-_, _*_, _≤_, _<_}
 use native.Mathlib.Omega.{arith}
 use borrow.Author.Needs.{needs}
 use lib.ListN.{length}
-use Rattle.field.specs.Field.{_⊕_, _⊗_}
+use Rattle.field_rules.specs.Field.{_⊕_, _⊗_}
 use Rattle.codeword.proofs.Poly.{length-plus}
 use Rattle.codeword.specs.Code.{plus}
-use Rattle.code.specs.Kernel.{Chain}
-use Rattle.code.specs.Filling.{rowOf}
+use Rattle.code_rules.specs.Kernel.{Chain}
+use Rattle.code_rules.specs.Filling.{rowOf}
 use Rattle.codeword.proofs.Poly.{plus-at}
-use Rattle.code.proofs.LoopLaws.{Upto, upto-start, upto-more, upto-end}
-use Rattle.code.proofs.SolveLaws.{row-of-at, length-rowOf}
+use Rattle.code_rules.proofs.LoopLaws.{Upto, upto-start, upto-more, upto-end}
+use Rattle.code_rules.proofs.SolveLaws.{row-of-at, length-rowOf}
 use Rattle.code.proofs.filling.add_row.Statement.{statement}
 use Rattle.code.proofs.filling.add_row.Tie as tie
 

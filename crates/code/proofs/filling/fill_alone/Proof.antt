@@ -2,8 +2,8 @@
 use mathlib.Core.Path.{subst}
 use Prim.Native.Nat.{_-_, _≤_}
 use borrow.Author.Needs.{needs}
-use Rattle.code.specs.Words.{table}
-use Rattle.code.specs.Filling.{Pattern}
+use Rattle.code_rules.specs.Words.{table}
+use Rattle.code_rules.specs.Filling.{Pattern}
 use Rattle.code.proofs.filling.fill_alone.Statement.{statement}
 use Rattle.code.proofs.filling.fill_alone.Tie as tie
 

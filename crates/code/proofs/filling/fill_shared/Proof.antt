@@ -5,8 +5,8 @@ use borrow.Author.Needs.{needs}
 use lib.ListN.{length}
 use Rattle.codeword.specs.Erasure.{marks}
 use Rattle.codeword.proofs.Erasure.{length-erase}
-use Rattle.code.specs.Sharing.{ZeroTest}
-use Rattle.code.proofs.FillLaws.{fills-found, fills-none}
+use Rattle.code_rules.specs.Sharing.{ZeroTest}
+use Rattle.code_rules.proofs.FillLaws.{fills-found, fills-none}
 use Rattle.code.proofs.filling.fill_shared.Statement.{statement}
 use Rattle.code.proofs.filling.fill_shared.Tie as tie
 

@@ -4,7 +4,7 @@ use Prim.Native.Nat.{ℕ, _-_, _≤_, _<_}
 use native.Mathlib.Omega.{arith}
 use borrow.Author.Needs.{needs}
 use lib.ListN.{length, getD}
-use Rattle.code.proofs.FillLaws.{zero-start, zero-more, zero-end, zero-not}
+use Rattle.code_rules.proofs.FillLaws.{zero-start, zero-more, zero-end, zero-not}
 use Rattle.code.proofs.filling.is_zero.Statement.{statement}
 use Rattle.code.proofs.filling.is_zero.Tie as tie
 

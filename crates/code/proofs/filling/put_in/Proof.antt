@@ -5,9 +5,9 @@ use native.Mathlib.Omega.{arith}
 use borrow.Author.Needs.{needs}
 use lib.ListN.{length, replicate}
 use lib.Seq.{length-take-le}
-use Rattle.code.specs.Filling.{mixed}
-use Rattle.code.proofs.LaneLaws.{length-lane}
-use Rattle.code.proofs.FillLaws.{guessed}
+use Rattle.code_rules.specs.Filling.{mixed}
+use Rattle.code_rules.proofs.LaneLaws.{length-lane}
+use Rattle.code_rules.proofs.FillLaws.{guessed}
 use Rattle.code.proofs.filling.put_in.Statement.{statement}
 use Rattle.code.proofs.filling.put_in.Tie as tie
 

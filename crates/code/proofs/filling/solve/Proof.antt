@@ -4,11 +4,11 @@ use Prim.Native.Nat.{_-_, _≤_}
 use native.Mathlib.Omega.{arith}
 use borrow.Author.Needs.{needs}
 use lib.ListN.{length, drop, replicate}
-use Rattle.code.specs.Words.{table}
-use Rattle.code.proofs.LaneLaws.{length-table}
-use Rattle.code.specs.Kernel.{Doubles, lane}
-use Rattle.code.specs.Filling.{rowOf, colOf, mix}
-use Rattle.code.proofs.SolveLaws.{mixed-start, mixed-more, mixed-end}
+use Rattle.code_rules.specs.Words.{table}
+use Rattle.code_rules.proofs.LaneLaws.{length-table}
+use Rattle.code_rules.specs.Kernel.{Doubles, lane}
+use Rattle.code_rules.specs.Filling.{rowOf, colOf, mix}
+use Rattle.code_rules.proofs.SolveLaws.{mixed-start, mixed-more, mixed-end}
 use Rattle.code.proofs.filling.solve.Statement.{statement}
 use Rattle.code.proofs.filling.solve.Tie as tie
 

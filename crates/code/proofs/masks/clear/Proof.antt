@@ -6,8 +6,8 @@ use borrow.Author.Needs.{needs}
 use lib.ListN.{length, getD}
 use Rattle.codeword.specs.Erasure.{erase, marks}
 use Rattle.codeword.proofs.Erasure.{length-erase}
-use Rattle.code.proofs.LoopLaws.{Upto, upto-start, upto-more, upto-end}
-use Rattle.code.proofs.MaskLaws.{erase-at}
+use Rattle.code_rules.proofs.LoopLaws.{Upto, upto-start, upto-more, upto-end}
+use Rattle.code_rules.proofs.MaskLaws.{erase-at}
 use Rattle.code.proofs.masks.clear.Statement.{statement}
 use Rattle.code.proofs.masks.clear.Tie as tie
 

@@ -5,7 +5,7 @@ use Prim.Native.Nat.{ℕ, _-_, _≤_, _<_}
 use native.Mathlib.Omega.{arith}
 use borrow.Author.Needs.{needs}
 use lib.ListN.{length}
-use Rattle.code.proofs.MaskLaws.{Filled, filled-start, filled-skip, filled-more, filled-end}
+use Rattle.code_rules.proofs.MaskLaws.{Filled, filled-start, filled-skip, filled-more, filled-end}
 use Rattle.code.proofs.masks.fill_in.Statement.{statement}
 use Rattle.code.proofs.masks.fill_in.Tie as tie
 

@@ -5,7 +5,7 @@ use Prim.Native.Nat.{ℕ, _-_, _≤_, _<_}
 use native.Mathlib.Omega.{arith}
 use borrow.Author.Needs.{needs}
 use lib.ListN.{length}
-use Rattle.code.proofs.MaskLaws.{Located, located-start, located-skip, located-room, located-more, located-end}
+use Rattle.code_rules.proofs.MaskLaws.{Located, located-start, located-skip, located-room, located-more, located-end}
 use Rattle.code.proofs.masks.locate.Statement.{statement}
 use Rattle.code.proofs.masks.locate.Tie as tie
 

@@ -6,7 +6,7 @@ use borrow.Author.Needs.{needs}
 use lib.ListN.{length, drop, replicate}
 use lib.Seq.{length-take-le, take-at}
 use Rattle.codeword.proofs.Chunk.{length-full}
-use Rattle.code.proofs.FillLaws.{length-locs, locs-full}
+use Rattle.code_rules.proofs.FillLaws.{length-locs, locs-full}
 use Rattle.code.proofs.masks.locators_of.Statement.{statement}
 use Rattle.code.proofs.masks.locators_of.Tie as tie
 

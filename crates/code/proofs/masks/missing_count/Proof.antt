@@ -7,7 +7,7 @@ use native.Mathlib.Omega.{arith}
 use borrow.Author.Needs.{needs}
 use lib.ListN.{length, drop}
 use Rattle.codeword.specs.Erasure.{marks, count}
-use Rattle.code.proofs.MaskLaws.{count-marked, count-unmarked, count-end}
+use Rattle.code_rules.proofs.MaskLaws.{count-marked, count-unmarked, count-end}
 use Rattle.code.proofs.masks.missing_count.Statement.{statement}
 use Rattle.code.proofs.masks.missing_count.Tie as tie
 

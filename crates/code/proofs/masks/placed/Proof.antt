@@ -2,7 +2,7 @@
 use mathlib.Core.Path.{sym}
 use Prim.Native.Nat.{_-_}
 use borrow.Author.Needs.{needs}
-use Rattle.code.proofs.PlaceLaws.{full-data, full-gap, full-parity}
+use Rattle.code_rules.proofs.PlaceLaws.{full-data, full-gap, full-parity}
 use Rattle.code.proofs.masks.placed.Statement.{statement}
 use Rattle.code.proofs.masks.placed.Tie as tie
 

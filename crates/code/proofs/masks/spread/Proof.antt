@@ -6,7 +6,7 @@ use borrow.Author.Needs.{needs}
 use lib.ListN.{length}
 use Rattle.codeword.specs.Code.{full}
 use Rattle.codeword.proofs.Chunk.{length-full}
-use Rattle.code.proofs.LoopLaws.{Upto, upto-start, upto-more, upto-end}
+use Rattle.code_rules.proofs.LoopLaws.{Upto, upto-start, upto-more, upto-end}
 use Rattle.code.proofs.masks.spread.Statement.{statement}
 use Rattle.code.proofs.masks.spread.Tie as tie
 

@@ -5,9 +5,9 @@ use native.Mathlib.Omega.{arith}
 use borrow.Author.Needs.{needs}
 use lib.ListN.{length, take, replicate}
 use lib.Seq.{length-take-le}
-use Rattle.base.proofs.Splice.{splice-start}
-use Rattle.code.specs.Calls.{lostCells}
-use Rattle.code.proofs.CellLaws.{length-lost, ready-by, mended-by}
+use Rattle.base_rules.proofs.Splice.{splice-start}
+use Rattle.code_rules.specs.Calls.{lostCells}
+use Rattle.code_rules.proofs.CellLaws.{length-lost, ready-by, mended-by}
 use Rattle.code.proofs.mending.mend.Statement.{statement}
 use Rattle.code.proofs.mending.mend.Tie as tie
 

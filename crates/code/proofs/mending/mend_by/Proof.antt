@@ -2,8 +2,8 @@
 use mathlib.Core.Path.{_≡_, subst}
 use borrow.Author.Needs.{needs}
 use lib.ListN.{length}
-use Rattle.code.specs.Block.{FoundTest}
-use Rattle.code.proofs.CellLaws.{mended-all, unmended}
+use Rattle.code_rules.specs.Block.{FoundTest}
+use Rattle.code_rules.proofs.CellLaws.{mended-all, unmended}
 use Rattle.code.proofs.mending.mend_by.Statement.{statement}
 use Rattle.code.proofs.mending.mend_by.Tie as tie
 

@@ -6,11 +6,11 @@ use native.Mathlib.Omega.{arith}
 use borrow.Author.Needs.{needs}
 use lib.ListN.{length, take, getD}
 use Rattle.codeword.specs.Code.{horner}
-use Rattle.code.specs.Words.{table}
-use Rattle.code.specs.Kernel.{Doubles}
-use Rattle.code.specs.Filling.{Columns}
-use Rattle.code.proofs.LaneLaws.{horner-none}
-use Rattle.code.proofs.SolveLaws.{columns-start, row-next, columns-more}
+use Rattle.code_rules.specs.Words.{table}
+use Rattle.code_rules.specs.Kernel.{Doubles}
+use Rattle.code_rules.specs.Filling.{Columns}
+use Rattle.code_rules.proofs.LaneLaws.{horner-none}
+use Rattle.code_rules.proofs.SolveLaws.{columns-start, row-next, columns-more}
 use Rattle.code.proofs.pattern.columns.Statement.{statement}
 use Rattle.code.proofs.pattern.columns.Tie as tie
 

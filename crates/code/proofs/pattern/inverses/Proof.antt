@@ -3,8 +3,8 @@ use mathlib.Core.Path.{_≡_}
 use mathlib.Core.List.{List}
 use Prim.Native.Nat.{ℕ, _-_, _≤_}
 use borrow.Author.Needs.{needs}
-use Rattle.code.specs.Filling.{timesAll}
-use Rattle.code.proofs.SolveLaws.{expS, expP, powers, power-start, power-more, power-end}
+use Rattle.code_rules.specs.Filling.{timesAll}
+use Rattle.code_rules.proofs.SolveLaws.{expS, expP, powers, power-start, power-more, power-end}
 use Rattle.code.proofs.pattern.inverses.Statement.{statement}
 use Rattle.code.proofs.pattern.inverses.Tie as tie
 

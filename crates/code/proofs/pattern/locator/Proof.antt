@@ -5,8 +5,8 @@ use Prim.Native.Nat.{ℕ, _-_, _≤_}
 use native.Mathlib.Omega.{arith}
 use borrow.Author.Needs.{needs}
 use lib.ListN.{length, take, getD}
-use Rattle.code.specs.Filling.{locatorOf, Same}
-use Rattle.code.proofs.SolveLaws.{length-rootStep, locator-start, locator-more}
+use Rattle.code_rules.specs.Filling.{locatorOf, Same}
+use Rattle.code_rules.proofs.SolveLaws.{length-rootStep, locator-start, locator-more}
 use Rattle.code.proofs.pattern.locator.Statement.{statement}
 use Rattle.code.proofs.pattern.locator.Tie as tie
 

@@ -1,7 +1,7 @@
 -- `one` meets its contract. Assumes nothing.
 use Prim.Native.Nat.{_-_}
 use borrow.Author.Needs.{needs}
-use Rattle.code.proofs.SolveLaws.{same-one}
+use Rattle.code_rules.proofs.SolveLaws.{same-one}
 use Rattle.code.proofs.pattern.one.Statement.{statement}
 use Rattle.code.proofs.pattern.one.Tie as tie
 

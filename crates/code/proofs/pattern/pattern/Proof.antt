@@ -4,8 +4,8 @@ use mathlib.Core.List.{List}
 use Prim.Native.Nat.{ℕ, _-_}
 use borrow.Author.Needs.{needs}
 use lib.ListN.{length}
-use Rattle.code.specs.Kernel.{Multiples}
-use Rattle.code.proofs.SolveLaws.{pattern-right}
+use Rattle.code_rules.specs.Kernel.{Multiples}
+use Rattle.code_rules.proofs.SolveLaws.{pattern-right}
 use Rattle.code.proofs.pattern.pattern.Statement.{statement}
 use Rattle.code.proofs.pattern.pattern.Tie as tie
 

@@ -3,7 +3,7 @@ use mathlib.Core.Path.{_≡_}
 use Prim.Native.Nat.{_-_, _*_, _≤_, _<_}
 use borrow.Author.Needs.{needs}
 use lib.ListN.{length}
-use Rattle.code.proofs.SolveLaws.{PutTo, put-start, put-more, put-end}
+use Rattle.code_rules.proofs.SolveLaws.{PutTo, put-start, put-more, put-end}
 use Rattle.code.proofs.pattern.put_row48.Statement.{statement}
 use Rattle.code.proofs.pattern.put_row48.Tie as tie
 

@@ -1,7 +1,7 @@
 -- `scales` meets its contract. Assumes nothing.
 use Prim.Native.Nat.{_-_}
 use borrow.Author.Needs.{needs}
-use Rattle.code.proofs.SolveLaws.{scales-is}
+use Rattle.code_rules.proofs.SolveLaws.{scales-is}
 use Rattle.code.proofs.pattern.scales.Statement.{statement}
 use Rattle.code.proofs.pattern.scales.Tie as tie
 

@@ -5,11 +5,11 @@ use Prim.Native.Nat.{ℕ, _+_, _-_, _≤_, _<_}
 use native.Mathlib.Omega.{arith}
 use borrow.Author.Needs.{needs}
 use lib.ListN.{length, getD}
-use Rattle.field.specs.Field.{_⊕_}
-use Rattle.code.specs.Kernel.{Chain}
-use Rattle.code.specs.Filling.{rootStep}
-use Rattle.code.proofs.LoopLaws.{Upto, upto-more, upto-end}
-use Rattle.code.proofs.SolveLaws.{rootStep-at, length-rootStep, rootStep-start}
+use Rattle.field_rules.specs.Field.{_⊕_}
+use Rattle.code_rules.specs.Kernel.{Chain}
+use Rattle.code_rules.specs.Filling.{rootStep}
+use Rattle.code_rules.proofs.LoopLaws.{Upto, upto-more, upto-end}
+use Rattle.code_rules.proofs.SolveLaws.{rootStep-at, length-rootStep, rootStep-start}
 use Rattle.code.proofs.pattern.times_root.Statement.{statement}
 use Rattle.code.proofs.pattern.times_root.Tie as tie
 

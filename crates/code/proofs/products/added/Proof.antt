@@ -7,9 +7,9 @@ use borrow.Author.Needs.{needs}
 use lib.ListN.{length}
 use Rattle.codeword.proofs.Poly.{length-plus}
 use Rattle.codeword.specs.Code.{plus}
-use Rattle.code.specs.Kernel.{Chain}
+use Rattle.code_rules.specs.Kernel.{Chain}
 use Rattle.codeword.proofs.Poly.{plus-at}
-use Rattle.code.proofs.LoopLaws.{Upto, upto-start, upto-more, upto-end}
+use Rattle.code_rules.proofs.LoopLaws.{Upto, upto-start, upto-more, upto-end}
 use Rattle.code.proofs.products.added.Statement.{statement}
 use Rattle.code.proofs.products.added.Tie as tie
 

@@ -1,7 +1,7 @@
 -- `dot` meets its contract. Assumes nothing.
 use Prim.Native.Nat.{_-_, _<_}
 use borrow.Author.Needs.{needs}
-use Rattle.code.proofs.BitLaws.{dot-is}
+use Rattle.code_rules.proofs.BitLaws.{dot-is}
 use Rattle.code.proofs.products.dot.Statement.{statement}
 use Rattle.code.proofs.products.dot.Tie as tie
 

@@ -4,7 +4,7 @@ use Prim.Native.Nat.{_-_, _≤_}
 use native.Mathlib.Omega.{arith}
 use native.Mathlib.Nat.{not-suc-le-zero}
 use borrow.Author.Needs.{needs}
-use Rattle.code.proofs.LaneLaws.{Copied, copied-more}
+use Rattle.code_rules.proofs.LaneLaws.{Copied, copied-more}
 use Rattle.code.proofs.products.first_row.Statement.{statement}
 use Rattle.code.proofs.products.first_row.Tie as tie
 

@@ -5,11 +5,11 @@ use Prim.Native.Nat.{ℕ, _-_, _≤_, _<_}
 use native.Mathlib.Omega.{arith}
 use borrow.Author.Needs.{needs}
 use lib.ListN.{getD, replicate}
-use Rattle.field.specs.Field.{_⊕_}
-use Rattle.field.proofs.Products.{mul-comm}
-use Rattle.code.specs.Kernel.{Doubles, lane}
-use Rattle.code.proofs.LoopLaws.{Upto, upto-start, upto-more, upto-end}
-use Rattle.code.proofs.LaneLaws.{chain-at, lane-at, length-lane}
+use Rattle.field_rules.specs.Field.{_⊕_}
+use Rattle.field_rules.proofs.Products.{mul-comm}
+use Rattle.code_rules.specs.Kernel.{Doubles, lane}
+use Rattle.code_rules.proofs.LoopLaws.{Upto, upto-start, upto-more, upto-end}
+use Rattle.code_rules.proofs.LaneLaws.{chain-at, lane-at, length-lane}
 use Rattle.code.proofs.products.lanes.Statement.{statement}
 use Rattle.code.proofs.products.lanes.Tie as tie
 

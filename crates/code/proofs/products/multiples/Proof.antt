@@ -3,8 +3,8 @@ use mathlib.Core.Path.{refl, _∙_}
 use Prim.Native.Nat.{_-_, _≤_}
 use native.Mathlib.Omega.{arith}
 use borrow.Author.Needs.{needs}
-use Rattle.code.specs.Kernel.{Multiples}
-use Rattle.code.proofs.LaneLaws.{Doubled, doubled-start, doubled-more, multiples-end}
+use Rattle.code_rules.specs.Kernel.{Multiples}
+use Rattle.code_rules.proofs.LaneLaws.{Doubled, doubled-start, doubled-more, multiples-end}
 use Rattle.code.proofs.products.multiples.Statement.{statement}
 use Rattle.code.proofs.products.multiples.Tie as tie
 

@@ -5,9 +5,9 @@ use Prim.Native.Nat.{ℕ, _-_, _≤_, _<_}
 use native.Mathlib.Omega.{arith}
 use borrow.Author.Needs.{needs}
 use lib.ListN.{replicate}
-use Rattle.code.specs.Filling.{timesAll}
-use Rattle.code.proofs.LoopLaws.{Upto, upto-start, upto-more, upto-end}
-use Rattle.code.proofs.SolveLaws.{timesAll-at, length-timesAll}
+use Rattle.code_rules.specs.Filling.{timesAll}
+use Rattle.code_rules.proofs.LoopLaws.{Upto, upto-start, upto-more, upto-end}
+use Rattle.code_rules.proofs.SolveLaws.{timesAll-at, length-timesAll}
 use Rattle.code.proofs.products.times_lanes.Statement.{statement}
 use Rattle.code.proofs.products.times_lanes.Tie as tie
 

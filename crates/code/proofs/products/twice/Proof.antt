@@ -4,8 +4,8 @@ use mathlib.Core.Bool.{cond}
 use Prim.Native.Nat.{ℕ, _+_, _-_, _≤_, _<_}
 use borrow.Author.Needs.{needs}
 use borrow.Author.Tests.{lt-ltb, le-ltb}
-use Rattle.field.specs.Field.{_⊕_}
-use Rattle.code.proofs.BitLaws.{twice-is}
+use Rattle.field_rules.specs.Field.{_⊕_}
+use Rattle.code_rules.proofs.BitLaws.{twice-is}
 use Rattle.code.proofs.products.twice.Statement.{statement}
 use Rattle.code.proofs.products.twice.Tie as tie
 

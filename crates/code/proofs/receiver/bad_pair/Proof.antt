@@ -3,9 +3,9 @@ use Prim.Native.Nat.{_+_}
 use native.Mathlib.Omega.{arith}
 use borrow.Author.Tests.{eq-eqb, ne-eqb}
 use borrow.Author.Needs.{needs}
-use Rattle.base.proofs.ChunkSize.{k-most}
-use Rattle.base.proofs.Logic.{told}
-use Rattle.code.specs.Calls.{badPair}
+use Rattle.base_rules.proofs.ChunkSize.{k-most}
+use Rattle.base_rules.proofs.Logic.{told}
+use Rattle.code_rules.specs.Calls.{badPair}
 use Rattle.code.proofs.receiver.bad_pair.Statement.{statement}
 use Rattle.code.proofs.receiver.bad_pair.Tie as tie
 

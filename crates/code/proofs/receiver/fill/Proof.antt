@@ -2,8 +2,8 @@
 use mathlib.Core.Path.{sym, ap, _∙_}
 use mathlib.Core.Bool.{true, false}
 use borrow.Author.Needs.{needs}
-use Rattle.weave.specs.Calls.{numberOf}
-use Rattle.code.proofs.CellLaws.{standing, fill-refused}
+use Rattle.weave_rules.specs.Calls.{numberOf}
+use Rattle.code_rules.proofs.CellLaws.{standing, fill-refused}
 use Rattle.code.proofs.receiver.fill.Statement.{statement}
 use Rattle.code.proofs.receiver.fill.Tie as tie
 

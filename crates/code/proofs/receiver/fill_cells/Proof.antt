@@ -6,10 +6,10 @@ use native.Mathlib.Nat.{div-mul-le-self}
 use borrow.Author.Needs.{needs}
 use lib.ListN.{take}
 use lib.Seq.{length-take-le}
-use Rattle.weave.proofs.CallCases.{chunk-some, f-some, f-most, fits-place}
-use Rattle.code.specs.Block.{Mended}
-use Rattle.code.specs.Calls.{lostCells}
-use Rattle.code.proofs.CellLaws as laws
+use Rattle.weave_rules.proofs.CallCases.{chunk-some, f-some, f-most, fits-place}
+use Rattle.code_rules.specs.Block.{Mended}
+use Rattle.code_rules.specs.Calls.{lostCells}
+use Rattle.code_rules.proofs.CellLaws as laws
 use Rattle.code.proofs.receiver.fill_cells.Statement.{statement}
 use Rattle.code.proofs.receiver.fill_cells.Tie as tie
 

@@ -1,8 +1,8 @@
 -- `fill_chunk` meets its contract. Assumes nothing.
 use borrow.Author.Needs.{needs}
-use Rattle.base.proofs.ChunkSize.{k-most}
-use Rattle.base.proofs.Logic.{told}
-use Rattle.code.proofs.CallCases as cases
+use Rattle.base_rules.proofs.ChunkSize.{k-most}
+use Rattle.base_rules.proofs.Logic.{told}
+use Rattle.code_rules.proofs.CallCases as cases
 use Rattle.code.proofs.receiver.fill_chunk.Statement.{statement}
 use Rattle.code.proofs.receiver.fill_chunk.Tie as tie
 

@@ -7,11 +7,11 @@ use borrow.Author.Needs.{needs}
 use lib.ListN.{length}
 use Rattle.codeword.proofs.Poly.{length-plus}
 use Rattle.codeword.specs.Code.{plus}
-use Rattle.code.specs.Kernel.{power, Made}
+use Rattle.code_rules.specs.Kernel.{power, Made}
 use Rattle.codeword.proofs.Poly.{plus-at}
-use Rattle.code.proofs.LoopLaws.{Upto, upto-start, upto-more, upto-end}
-use Rattle.code.proofs.RegisterLaws.{length-power}
-use Rattle.code.proofs.RowLaws.{halves}
+use Rattle.code_rules.proofs.LoopLaws.{Upto, upto-start, upto-more, upto-end}
+use Rattle.code_rules.proofs.RegisterLaws.{length-power}
+use Rattle.code_rules.proofs.RowLaws.{halves}
 use Rattle.code.proofs.register.byte_in.Statement.{statement}
 use Rattle.code.proofs.register.byte_in.Tie as tie
 

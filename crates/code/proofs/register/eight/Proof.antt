@@ -3,8 +3,8 @@ use mathlib.Core.Path.{_≡_}
 use Prim.Native.Nat.{_+_, _-_, _≤_, _<_}
 use borrow.Author.Needs.{needs}
 use lib.ListN.{length, take, drop}
-use Rattle.code.specs.Kernel.{Made}
-use Rattle.code.proofs.RegisterLaws.{behind, eight-start, length-eight, eight-more, eight-end}
+use Rattle.code_rules.specs.Kernel.{Made}
+use Rattle.code_rules.proofs.RegisterLaws.{behind, eight-start, length-eight, eight-more, eight-end}
 use Rattle.code.proofs.register.eight.Statement.{statement}
 use Rattle.code.proofs.register.eight.Tie as tie
 

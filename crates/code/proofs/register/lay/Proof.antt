@@ -5,10 +5,10 @@ use Prim.Native.Nat.{ℕ, _+_, _-_, _≤_}
 use native.Mathlib.Omega.{arith}
 use borrow.Author.Needs.{needs}
 use lib.ListN.{length, getD, replicate}
-use Rattle.code.specs.Kernel.{laid}
-use Rattle.code.proofs.LoopLaws.{Upto, upto-more}
-use Rattle.code.proofs.RowLaws.{upto-rest}
-use Rattle.code.proofs.LaneLaws.{laid-at, length-laid, laid-start, laid-past}
+use Rattle.code_rules.specs.Kernel.{laid}
+use Rattle.code_rules.proofs.LoopLaws.{Upto, upto-more}
+use Rattle.code_rules.proofs.RowLaws.{upto-rest}
+use Rattle.code_rules.proofs.LaneLaws.{laid-at, length-laid, laid-start, laid-past}
 use Rattle.code.proofs.register.lay.Statement.{statement}
 use Rattle.code.proofs.register.lay.Tie as tie
 

@@ -4,7 +4,7 @@ use Prim.Native.Nat.{_-_}
 use borrow.Author.Needs.{needs}
 use lib.ListN.{length, replicate}
 use Rattle.codeword.specs.Code.{run}
-use Rattle.code.proofs.LaneLaws.{length-laid, run-laid}
+use Rattle.code_rules.proofs.LaneLaws.{length-laid, run-laid}
 use Rattle.code.proofs.register.parity_of.Statement.{statement}
 use Rattle.code.proofs.register.parity_of.Tie as tie
 

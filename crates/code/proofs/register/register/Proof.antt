@@ -4,8 +4,8 @@ use Prim.Native.Nat.{_-_, _*_, _≤_}
 use borrow.Author.Needs.{needs}
 use lib.ListN.{length, take, replicate}
 use Rattle.codeword.specs.Code.{run}
-use Rattle.code.specs.Kernel.{Made}
-use Rattle.code.proofs.RegisterLaws.{run-eight, register-start, register-end}
+use Rattle.code_rules.specs.Kernel.{Made}
+use Rattle.code_rules.proofs.RegisterLaws.{run-eight, register-start, register-end}
 use Rattle.code.proofs.register.register.Statement.{statement}
 use Rattle.code.proofs.register.register.Tie as tie
 

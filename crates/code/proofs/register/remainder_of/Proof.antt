@@ -5,8 +5,8 @@ use native.Mathlib.Omega.{arith}
 use borrow.Author.Needs.{needs}
 use lib.ListN.{length, take, drop}
 use lib.Seq.{length-take-le}
-use Rattle.code.specs.Kernel.{sumOf, remainder}
-use Rattle.code.proofs.LaneLaws.{bytes-of, fits-byte}
+use Rattle.code_rules.specs.Kernel.{sumOf, remainder}
+use Rattle.code_rules.proofs.LaneLaws.{bytes-of, fits-byte}
 use Rattle.code.proofs.register.remainder_of.Statement.{statement}
 use Rattle.code.proofs.register.remainder_of.Tie as tie
 

@@ -6,9 +6,9 @@ use native.Mathlib.Omega.{arith}
 use borrow.Author.Needs.{needs}
 use lib.ListN.{length, drop}
 use lib.Seq.{getD-drop}
-use Rattle.code.specs.Kernel.{sumOf}
-use Rattle.code.proofs.LoopLaws.{Upto, upto-start, upto-more, upto-end}
-use Rattle.code.proofs.LaneLaws.{sumOf-at, length-sumOf, drop-size}
+use Rattle.code_rules.specs.Kernel.{sumOf}
+use Rattle.code_rules.proofs.LoopLaws.{Upto, upto-start, upto-more, upto-end}
+use Rattle.code_rules.proofs.LaneLaws.{sumOf-at, length-sumOf, drop-size}
 use Rattle.code.proofs.register.summed.Statement.{statement}
 use Rattle.code.proofs.register.summed.Tie as tie
 

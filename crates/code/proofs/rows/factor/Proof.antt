@@ -5,7 +5,7 @@ use Prim.Native.Nat.{ℕ, _-_, _*_, _%_, _≤_, _<_}
 use native.Mathlib.Omega.{arith}
 use borrow.Author.Needs.{needs}
 use borrow.Author.Tests.{lt-ltb, le-ltb}
-use Rattle.code.specs.Kernel.{factorOf}
+use Rattle.code_rules.specs.Kernel.{factorOf}
 use Rattle.code.proofs.rows.factor.Statement.{statement}
 use Rattle.code.proofs.rows.factor.Tie as tie
 

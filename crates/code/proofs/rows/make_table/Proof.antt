@@ -5,9 +5,9 @@ use native.Mathlib.Omega.{arith}
 use borrow.Author.Needs.{needs}
 use lib.ListN.{length}
 use Rattle.codeword.specs.Code.{step, generator}
-use Rattle.code.specs.Kernel.{power, Made}
-use Rattle.code.proofs.RegisterLaws.{power-s, power-0}
-use Rattle.code.proofs.RowLaws.{made-0}
+use Rattle.code_rules.specs.Kernel.{power, Made}
+use Rattle.code_rules.proofs.RegisterLaws.{power-s, power-0}
+use Rattle.code_rules.proofs.RowLaws.{made-0}
 use Rattle.code.proofs.rows.make_table.Statement.{statement}
 use Rattle.code.proofs.rows.make_table.Tie as tie
 

@@ -4,8 +4,8 @@ use mathlib.Core.List.{List}
 use Prim.Native.Nat.{ℕ, _-_}
 use borrow.Author.Needs.{needs}
 use lib.ListN.{length, getD}
-use Rattle.field.proofs.Sums.{add-0-r}
-use Rattle.code.proofs.RegisterLaws.{back-one, step-is}
+use Rattle.field_rules.proofs.Sums.{add-0-r}
+use Rattle.code_rules.proofs.RegisterLaws.{back-one, step-is}
 use Rattle.code.proofs.rows.next_power.Statement.{statement}
 use Rattle.code.proofs.rows.next_power.Tie as tie
 

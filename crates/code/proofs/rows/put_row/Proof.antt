@@ -5,8 +5,8 @@ use Prim.Native.Nat.{ℕ, _+_, _-_, _*_, _≤_, _<_}
 use native.Mathlib.Omega.{arith}
 use borrow.Author.Needs.{needs}
 use lib.ListN.{length, getD, set}
-use Rattle.code.specs.Kernel.{Made, RowOf}
-use Rattle.code.proofs.RowLaws.{made-more, row-at}
+use Rattle.code_rules.specs.Kernel.{Made, RowOf}
+use Rattle.code_rules.proofs.RowLaws.{made-more, row-at}
 use Rattle.code.proofs.rows.put_row.Statement.{statement}
 use Rattle.code.proofs.rows.put_row.Tie as tie
 

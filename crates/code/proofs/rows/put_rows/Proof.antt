@@ -5,10 +5,10 @@ use Prim.Native.Nat.{ℕ, _+_, _-_, _*_, _≤_, _<_}
 use native.Mathlib.Omega.{arith}
 use borrow.Author.Needs.{needs}
 use lib.ListN.{length, getD, replicate}
-use Rattle.field.specs.Field.{_⊗_}
-use Rattle.code.specs.Kernel.{power, Made, Multiples, lane}
-use Rattle.code.proofs.RowLaws.{row-is}
-use Rattle.code.proofs.LaneLaws.{lane-same}
+use Rattle.field_rules.specs.Field.{_⊗_}
+use Rattle.code_rules.specs.Kernel.{power, Made, Multiples, lane}
+use Rattle.code_rules.proofs.RowLaws.{row-is}
+use Rattle.code_rules.proofs.LaneLaws.{lane-same}
 use Rattle.code.proofs.rows.put_rows.Statement.{statement}
 use Rattle.code.proofs.rows.put_rows.Tie as tie
 

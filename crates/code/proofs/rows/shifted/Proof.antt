@@ -5,10 +5,10 @@ use Prim.Native.Nat.{ℕ, _+_, _-_, _≤_}
 use native.Mathlib.Omega.{arith}
 use borrow.Author.Needs.{needs}
 use lib.ListN.{length, getD, replicate}
-use Rattle.code.specs.Kernel.{back}
-use Rattle.code.proofs.LoopLaws.{Upto, upto-start, upto-more}
-use Rattle.code.proofs.RegisterLaws.{back-at, length-back}
-use Rattle.code.proofs.RowLaws.{upto-rest, past-end, zeros-at}
+use Rattle.code_rules.specs.Kernel.{back}
+use Rattle.code_rules.proofs.LoopLaws.{Upto, upto-start, upto-more}
+use Rattle.code_rules.proofs.RegisterLaws.{back-at, length-back}
+use Rattle.code_rules.proofs.RowLaws.{upto-rest, past-end, zeros-at}
 use Rattle.code.proofs.rows.shifted.Statement.{statement}
 use Rattle.code.proofs.rows.shifted.Tie as tie
 

@@ -6,12 +6,12 @@ use native.Mathlib.Omega.{arith}
 use borrow.Author.Needs.{needs}
 use lib.ListN.{length}
 use lib.Seq.{length-take-le}
-use Rattle.base.proofs.Logic.{told}
-use Rattle.base.specs.Written.{numberOf}
-use Rattle.base.specs.Bounds.{badK}
-use Rattle.base.proofs.ChunkSize.{k-most}
-use Rattle.code.specs.Calls.{overPlace, misfits}
-use Rattle.code.proofs.CallCases as cases
+use Rattle.base_rules.proofs.Logic.{told}
+use Rattle.base_rules.specs.Written.{numberOf}
+use Rattle.base_rules.specs.Bounds.{badK}
+use Rattle.base_rules.proofs.ChunkSize.{k-most}
+use Rattle.code_rules.specs.Calls.{overPlace, misfits}
+use Rattle.code_rules.proofs.CallCases as cases
 use Rattle.code.proofs.sender.encode.Statement.{statement}
 use Rattle.code.proofs.sender.encode.Tie as tie
 

@@ -2,7 +2,7 @@
 use Prim.Native.Nat.{_*_}
 use borrow.Author.Tests.{lt-ltb, le-ltb}
 use borrow.Author.Needs.{needs}
-use Rattle.code.specs.Calls.{misfits}
+use Rattle.code_rules.specs.Calls.{misfits}
 use Rattle.code.proofs.sender.misfit.Statement.{statement}
 use Rattle.code.proofs.sender.misfit.Tie as tie
 

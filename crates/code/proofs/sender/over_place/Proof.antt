@@ -4,8 +4,8 @@ use Prim.Native.Nat.{_+_, _≤_}
 use native.Mathlib.Omega.{arith}
 use native.Mathlib.Nat.{mul-le-mul}
 use borrow.Author.Needs.{needs}
-use Rattle.code.specs.Calls.{overPlace}
-use Rattle.code.proofs.CallCases.{many-chunks}
+use Rattle.code_rules.specs.Calls.{overPlace}
+use Rattle.code_rules.proofs.CallCases.{many-chunks}
 use Rattle.code.proofs.sender.over_place.Statement.{statement}
 use Rattle.code.proofs.sender.over_place.Tie as tie
 

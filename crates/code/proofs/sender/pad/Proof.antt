@@ -1,6 +1,6 @@
 -- `pad` meets its contract. Assumes nothing.
 use borrow.Author.Needs.{needs}
-use Rattle.code.proofs.CallCases.{pad-put}
+use Rattle.code_rules.proofs.CallCases.{pad-put}
 use Rattle.code.proofs.sender.pad.Statement.{statement}
 use Rattle.code.proofs.sender.pad.Tie as tie
 

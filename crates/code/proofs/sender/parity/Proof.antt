@@ -1,10 +1,10 @@
 -- `parity` meets its contract. Assumes nothing.
 use borrow.Author.Needs.{needs}
 use lib.ListN.{length}
-use Rattle.base.proofs.Logic.{told}
-use Rattle.base.specs.Written.{numberOf}
-use Rattle.base.proofs.ChunkSize.{k-most}
-use Rattle.code.proofs.CallCases as cases
+use Rattle.base_rules.proofs.Logic.{told}
+use Rattle.base_rules.specs.Written.{numberOf}
+use Rattle.base_rules.proofs.ChunkSize.{k-most}
+use Rattle.code_rules.proofs.CallCases as cases
 use Rattle.code.proofs.sender.parity.Statement.{statement}
 use Rattle.code.proofs.sender.parity.Tie as tie
 

@@ -5,9 +5,9 @@ use native.Mathlib.Omega.{arith}
 use borrow.Author.Needs.{needs}
 use lib.ListN.{length, take}
 use lib.Seq.{length-take-le}
-use Rattle.cut.specs.Block.{padded, blockOf}
+use Rattle.cut_rules.specs.Block.{padded, blockOf}
 use Rattle.codeword.specs.Code.{parityOf}
-use Rattle.code.proofs.CallCases.{pad-take, block-is}
+use Rattle.code_rules.proofs.CallCases.{pad-take, block-is}
 use Rattle.code.proofs.sender.write_block.Statement.{statement}
 use Rattle.code.proofs.sender.write_block.Tie as tie
 

@@ -2,7 +2,7 @@
 use mathlib.Core.Path.{subst}
 use Prim.Native.Nat.{_-_}
 use borrow.Author.Needs.{needs}
-use Rattle.code.specs.Kernel.{Multiples}
+use Rattle.code_rules.specs.Kernel.{Multiples}
 use Rattle.code.proofs.syndromes.make_roots.Statement.{statement}
 use Rattle.code.proofs.syndromes.make_roots.Tie as tie
 

@@ -4,10 +4,10 @@ use Prim.Native.Nat.{ℕ, suc, _-_, _≤_, _<_}
 use native.Mathlib.Omega.{arith}
 use borrow.Author.Needs.{needs}
 use lib.ListN.{replicate}
-use Rattle.field.specs.Field.{alpha, times2}
-use Rattle.code.specs.Kernel.{rootsList}
-use Rattle.code.proofs.LoopLaws.{Upto, upto-start, upto-more, upto-end}
-use Rattle.code.proofs.LaneLaws.{roots-at, length-roots, alpha-next, alpha-0}
+use Rattle.field_rules.specs.Field.{alpha, times2}
+use Rattle.code_rules.specs.Kernel.{rootsList}
+use Rattle.code_rules.proofs.LoopLaws.{Upto, upto-start, upto-more, upto-end}
+use Rattle.code_rules.proofs.LaneLaws.{roots-at, length-roots, alpha-next, alpha-0}
 use Rattle.code.proofs.syndromes.roots.Statement.{statement}
 use Rattle.code.proofs.syndromes.roots.Tie as tie
 

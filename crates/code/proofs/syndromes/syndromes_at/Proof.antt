@@ -6,9 +6,9 @@ use native.Mathlib.Omega.{arith}
 use borrow.Author.Needs.{needs}
 use lib.ListN.{length, take, getD}
 use Rattle.codeword.specs.Code.{horner}
-use Rattle.code.specs.Words.{table}
-use Rattle.code.specs.Kernel.{Multiples, rootsList}
-use Rattle.code.proofs.LaneLaws.{lane-horner, horner-none, syndromes-all}
+use Rattle.code_rules.specs.Words.{table}
+use Rattle.code_rules.specs.Kernel.{Multiples, rootsList}
+use Rattle.code_rules.proofs.LaneLaws.{lane-horner, horner-none, syndromes-all}
 use Rattle.code.proofs.syndromes.syndromes_at.Statement.{statement}
 use Rattle.code.proofs.syndromes.syndromes_at.Tie as tie
 

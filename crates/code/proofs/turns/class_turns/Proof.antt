@@ -5,9 +5,9 @@ use Prim.Native.Nat.{ℕ, _+_, _-_, _≤_, _<_}
 use native.Mathlib.Omega.{arith}
 use borrow.Author.Needs.{needs}
 use lib.ListN.{length}
-use Rattle.code.specs.Sharing.{Shared}
-use Rattle.code.specs.Block.{part, Sized, Later}
-use Rattle.code.proofs.PartLaws.{later-refl, later-trans, sized-later}
+use Rattle.code_rules.specs.Sharing.{Shared}
+use Rattle.code_rules.specs.Block.{part, Sized, Later}
+use Rattle.code_rules.proofs.PartLaws.{later-refl, later-trans, sized-later}
 use Rattle.code.proofs.turns.class_turns.Statement.{statement}
 use Rattle.code.proofs.turns.class_turns.Tie as tie
 

@@ -1,7 +1,7 @@
 -- `fill_block` meets its contract. Assumes nothing.
 use Prim.Native.Nat.{_-_}
 use borrow.Author.Needs.{needs}
-use Rattle.code.proofs.PartLaws.{sized-later, filling, sized-open}
+use Rattle.code_rules.proofs.PartLaws.{sized-later, filling, sized-open}
 use Rattle.code.proofs.turns.fill_block.Statement.{statement}
 use Rattle.code.proofs.turns.fill_block.Tie as tie
 

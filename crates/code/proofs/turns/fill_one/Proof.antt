@@ -5,7 +5,7 @@ use Prim.Native.Nat.{ℕ, _+_, _-_}
 use native.Mathlib.Omega.{arith}
 use borrow.Author.Needs.{needs}
 use lib.ListN.{length}
-use Rattle.code.proofs.PartLaws.{room, one-later, fills-part}
+use Rattle.code_rules.proofs.PartLaws.{room, one-later, fills-part}
 use Rattle.code.proofs.turns.fill_one.Statement.{statement}
 use Rattle.code.proofs.turns.fill_one.Tie as tie
 

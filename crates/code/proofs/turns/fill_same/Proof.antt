@@ -5,8 +5,8 @@ use Prim.Native.Nat.{ℕ, _+_, _-_, _*_}
 use native.Mathlib.Omega.{arith}
 use borrow.Author.Needs.{needs}
 use lib.ListN.{length, take, drop}
-use Rattle.code.specs.Sharing.{Shared}
-use Rattle.code.proofs.PartLaws.{room, length-part, one-later, mid-part, fills-part}
+use Rattle.code_rules.specs.Sharing.{Shared}
+use Rattle.code_rules.proofs.PartLaws.{room, length-part, one-later, mid-part, fills-part}
 use Rattle.code.proofs.turns.fill_same.Statement.{statement}
 use Rattle.code.proofs.turns.fill_same.Tie as tie
 

@@ -5,7 +5,7 @@ use native.Mathlib.Omega.{arith}
 use native.Mathlib.Nat.{not-suc-le-zero}
 use borrow.Author.Needs.{needs}
 use lib.ListN.{length, getD, length-set}
-use Rattle.code.proofs.PartLaws.{open-more}
+use Rattle.code_rules.proofs.PartLaws.{open-more}
 use Rattle.code.proofs.turns.mark.Statement.{statement}
 use Rattle.code.proofs.turns.mark.Tie as tie
 

@@ -5,9 +5,9 @@ use Prim.Native.Nat.{ℕ, _-_, _≤_, _<_}
 use native.Mathlib.Omega.{arith}
 use borrow.Author.Needs.{needs}
 use lib.ListN.{length}
-use Rattle.code.specs.Kernel.{Made, Multiples, rootsList}
-use Rattle.code.specs.Block.{Sized, Later, AllDone}
-use Rattle.code.proofs.PartLaws.{later-refl, later-trans, sized-later, done-more, done-start}
+use Rattle.code_rules.specs.Kernel.{Made, Multiples, rootsList}
+use Rattle.code_rules.specs.Block.{Sized, Later, AllDone}
+use Rattle.code_rules.proofs.PartLaws.{later-refl, later-trans, sized-later, done-more, done-start}
 use Rattle.code.proofs.turns.rest.Statement.{statement}
 use Rattle.code.proofs.turns.rest.Tie as tie
 

@@ -7,9 +7,9 @@ use Prim.Native.Nat.{ℕ, _+_, _-_, _≤_, _<_}
 use native.Mathlib.Nat.{not-suc-le-zero}
 use borrow.Author.Needs.{needs}
 use lib.ListN.{length, getD}
-use Rattle.base.proofs.Logic.{clash}
-use Rattle.code.specs.Block.{SameTest}
-use Rattle.code.proofs.PartLaws.{eq-more, eq-end}
+use Rattle.base_rules.proofs.Logic.{clash}
+use Rattle.code_rules.specs.Block.{SameTest}
+use Rattle.code_rules.proofs.PartLaws.{eq-more, eq-end}
 use Rattle.code.proofs.turns.same_at.Statement.{statement}
 use Rattle.code.proofs.turns.same_at.Tie as tie
 

@@ -4,9 +4,9 @@ use Prim.Native.Nat.{_+_, _-_, _*_, _≤_}
 use native.Mathlib.Omega.{arith}
 use borrow.Author.Needs.{needs}
 use lib.ListN.{length, take, drop, getD}
-use Rattle.code.specs.Sharing.{Shared}
-use Rattle.code.specs.Block.{SameTest}
-use Rattle.code.proofs.PartLaws.{room, later-refl, parts-same}
+use Rattle.code_rules.specs.Sharing.{Shared}
+use Rattle.code_rules.specs.Block.{SameTest}
+use Rattle.code_rules.proofs.PartLaws.{room, later-refl, parts-same}
 use Rattle.code.proofs.turns.turn.Statement.{statement}
 use Rattle.code.proofs.turns.turn.Tie as tie
 

@@ -1,7 +1,7 @@
 -- `receiving::record` is safe: the seat has the bytes of a packed record. Assumes nothing.
 use native.Mathlib.Omega.{arith}
 use borrow.Author.Needs.{needs}
-use Rattle.packed.specs.Packed.{table-bytes}
+use Rattle.packed_rules.specs.Packed.{table-bytes}
 use Rattle.console.proofs.Parts.{front}
 use Rattle.console.proofs.receiving.record.Statement.{statement}
 use Rattle.console.proofs.receiving.record.Tie as tie

@@ -1,8 +1,8 @@
 -- `replies::bytes` meets its contract: the bytes go on where the name stops. Assumes nothing.
 use native.Mathlib.Omega.{arith}
 use borrow.Author.Needs.{needs}
-use Rattle.text.specs.Text.{hexOf}
-use Rattle.text.proofs.Laws.{lays-more}
+use Rattle.text_rules.specs.Text.{hexOf}
+use Rattle.text_rules.proofs.Laws.{lays-more}
 use Rattle.console.proofs.Writing.{wrote}
 use Rattle.console.proofs.replies.bytes.Statement.{statement}
 use Rattle.console.proofs.replies.bytes.Tie as tie

@@ -1,7 +1,7 @@
 -- `replies::labelled` meets its contract: the number goes on where the label stops. Assumes nothing.
 use borrow.Author.Needs.{needs}
-use Rattle.text.specs.Text.{decimalOf}
-use Rattle.text.proofs.Laws.{lays-more}
+use Rattle.text_rules.specs.Text.{decimalOf}
+use Rattle.text_rules.proofs.Laws.{lays-more}
 use Rattle.console.proofs.replies.labelled.Statement.{statement}
 use Rattle.console.proofs.replies.labelled.Tie as tie
 

@@ -3,7 +3,7 @@ use Prim.Native.Nat.{ℕ, _+_, _-_, _*_, _≤_}
 use native.Mathlib.Omega.{arith}
 use native.Mathlib.Nat.{mul-le-mul}
 use borrow.Author.Needs.{needs}
-use Rattle.base.specs.Bounds.{most-f, most-mtu}
+use Rattle.base_rules.specs.Bounds.{most-f, most-mtu}
 use Rattle.console.proofs.sending.total.Statement.{statement}
 use Rattle.console.proofs.sending.total.Tie as tie
 

@@ -3,7 +3,7 @@ use mathlib.Core.Path.{ap, sym}
 use borrow.Author.Needs.{needs}
 use lib.Dec.{lit≤}
 use Rattle.cut.proofs.plans.address_bytes.Statement.{statement}
-use Rattle.cut.specs.Sizes as size
+use Rattle.cut_rules.specs.Sizes as size
 use Rattle.cut.proofs.plans.address_bytes.Tie as tie
 
 enum-told : tie.Need-enum-told

@@ -2,8 +2,8 @@
 use native.Mathlib.Omega.{arith}
 use borrow.Author.Needs.{needs}
 use Rattle.cut.proofs.plans.chunks.Statement.{statement}
-use Rattle.cut.specs.Sizes as size
-use Rattle.cut.proofs.ChunkSizes as chunk
+use Rattle.cut_rules.specs.Sizes as size
+use Rattle.cut_rules.proofs.ChunkSizes as chunk
 use Rattle.cut.proofs.plans.chunks.Tie as tie
 
 round-up-requires : tie.Need-round-up-requires

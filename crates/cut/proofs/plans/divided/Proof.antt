@@ -2,8 +2,8 @@
 use mathlib.Core.Path.{refl}
 use native.Mathlib.Omega.{arith}
 use Rattle.cut.proofs.plans.divided.Statement.{statement}
-use Rattle.cut.specs.Sizes as size
-use Rattle.cut.proofs.PlanCases as cases
+use Rattle.cut_rules.specs.Sizes as size
+use Rattle.cut_rules.proofs.PlanCases as cases
 use Rattle.cut.proofs.plans.divided.Tie as tie
 
 add-result : tie.Need-add-result

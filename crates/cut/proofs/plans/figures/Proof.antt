@@ -4,11 +4,11 @@ use Prim.Native.Nat.{ℕ, _*_, _≤_}
 use native.Mathlib.Nat.{mul-le-mul}
 use native.Mathlib.Omega.{arith}
 use borrow.Author.Needs.{needs}
-use Rattle.base.specs.Bounds.{most-l, most-k}
+use Rattle.base_rules.specs.Bounds.{most-l, most-k}
 use Rattle.cut.proofs.plans.figures.Statement.{statement}
-use Rattle.cut.specs.Sizes as size
-use Rattle.cut.proofs.ChunkSizes as chunk
-use Rattle.cut.proofs.PlanCases as cases
+use Rattle.cut_rules.specs.Sizes as size
+use Rattle.cut_rules.proofs.ChunkSizes as chunk
+use Rattle.cut_rules.proofs.PlanCases as cases
 use Rattle.cut.proofs.plans.figures.Tie as tie
 
 chunks-requires : tie.Need-chunks-requires

@@ -1,7 +1,7 @@
 -- `fits` meets its contract: each return is the law for the tests passed so far. Assumes nothing.
 use borrow.Author.Needs.{needs}
 use Rattle.cut.proofs.plans.fits.Statement.{statement}
-use Rattle.cut.proofs.PlanCases as cases
+use Rattle.cut_rules.proofs.PlanCases as cases
 use Rattle.cut.proofs.plans.fits.Tie as tie
 
 returns : tie.Need-returns

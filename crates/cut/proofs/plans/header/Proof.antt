@@ -2,7 +2,7 @@
 use native.Mathlib.Omega.{arith}
 use borrow.Author.Needs.{needs}
 use Rattle.cut.proofs.plans.header.Statement.{statement}
-use Rattle.cut.proofs.PlanCases as cases
+use Rattle.cut_rules.proofs.PlanCases as cases
 use Rattle.cut.proofs.plans.header.Tie as tie
 
 address-bytes-requires : tie.Need-address-bytes-requires

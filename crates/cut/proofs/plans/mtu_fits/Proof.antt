@@ -3,7 +3,7 @@ use native.Mathlib.Omega.{arith}
 use borrow.Author.Tests.{lt-ltb, le-ltb}
 use borrow.Author.Needs.{needs}
 use Rattle.cut.proofs.plans.mtu_fits.Statement.{statement}
-use Rattle.cut.specs.Sizes as size
+use Rattle.cut_rules.specs.Sizes as size
 use Rattle.cut.proofs.plans.mtu_fits.Tie as tie
 
 header-requires : tie.Need-header-requires

@@ -2,10 +2,10 @@
 use mathlib.Core.Path.{_≡_, ap, _∙_}
 use native.Mathlib.Omega.{arith}
 use borrow.Author.Needs.{needs}
-use Rattle.base.specs.Round.{ceil}
+use Rattle.base_rules.specs.Round.{ceil}
 use Rattle.cut.proofs.plans.per_chunk.Statement.{statement}
-use Rattle.cut.specs.Sizes as size
-use Rattle.cut.proofs.ChunkSizes as chunk
+use Rattle.cut_rules.specs.Sizes as size
+use Rattle.cut_rules.proofs.ChunkSizes as chunk
 use Rattle.cut.proofs.plans.per_chunk.Tie as tie
 
 chunks-requires : tie.Need-chunks-requires

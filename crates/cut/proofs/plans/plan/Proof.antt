@@ -5,13 +5,13 @@ use Prim.Native.Nat.{_<_}
 use native.Mathlib.Omega.{arith}
 use borrow.Author.Tests.{not-true, not-false}
 use borrow.Author.Needs.{needs}
-use Rattle.base.specs.Answer.{granted}
-use Rattle.base.specs.Round.{ceil}
-use Rattle.base.proofs.Ceil as ceils
-use Rattle.cut.specs.Plan.{fit, numberOf}
+use Rattle.base_rules.specs.Answer.{granted}
+use Rattle.base_rules.specs.Round.{ceil}
+use Rattle.base_rules.proofs.Ceil as ceils
+use Rattle.cut_rules.specs.Plan.{fit, numberOf}
 use Rattle.cut.proofs.plans.plan.Statement.{statement}
-use Rattle.cut.specs.Sizes as size
-use Rattle.cut.proofs.PlanCases as cases
+use Rattle.cut_rules.specs.Sizes as size
+use Rattle.cut_rules.proofs.PlanCases as cases
 use Rattle.cut.proofs.plans.plan.Tie as tie
 
 fitting : (c : tie.Else1) → fit (c .before .before .args .g) ≡ true

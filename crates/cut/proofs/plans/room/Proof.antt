@@ -3,7 +3,7 @@ use Prim.Native.Nat.{_-_}
 use native.Mathlib.Omega.{arith}
 use borrow.Author.Needs.{needs}
 use Rattle.cut.proofs.plans.room.Statement.{statement}
-use Rattle.cut.proofs.PlanCases as cases
+use Rattle.cut_rules.proofs.PlanCases as cases
 use Rattle.cut.proofs.plans.room.Tie as tie
 
 header-requires : tie.Need-header-requires

@@ -1,7 +1,7 @@
 -- `round_up` meets its contract by computing. Assumes nothing.
 use mathlib.Core.Path.{refl}
 use borrow.Author.Needs.{needs}
-use Rattle.base.specs.Round.{ceil}
+use Rattle.base_rules.specs.Round.{ceil}
 use Rattle.cut.proofs.plans.round_up.Statement.{statement}
 use Rattle.cut.proofs.plans.round_up.Tie as tie
 

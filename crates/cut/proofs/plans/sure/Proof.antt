@@ -1,7 +1,7 @@
 -- `sure` meets its contract by computing. Assumes nothing.
 use mathlib.Core.Path.{refl}
 use Rattle.cut.proofs.plans.sure.Statement.{statement}
-use Rattle.cut.specs.Sizes as size
+use Rattle.cut_rules.specs.Sizes as size
 use Rattle.cut.proofs.plans.sure.Tie as tie
 
 returns : tie.Need-returns

@@ -4,10 +4,10 @@ use Prim.Native.Nat.{ℕ, _+_, _*_, _≤_}
 use native.Mathlib.Omega.{arith}
 use native.Mathlib.Nat.{mul-le-mul}
 use borrow.Author.Needs.{needs}
-use Rattle.base.specs.Bounds.{most-l, most-k, parity}
+use Rattle.base_rules.specs.Bounds.{most-l, most-k, parity}
 use Rattle.cut.proofs.plans.total.Statement.{statement}
-use Rattle.cut.specs.Sizes as size
-use Rattle.cut.proofs.PlanCases as cases
+use Rattle.cut_rules.specs.Sizes as size
+use Rattle.cut_rules.proofs.PlanCases as cases
 use Rattle.cut.proofs.plans.total.Tie as tie
 
 chunks-requires : tie.Need-chunks-requires

@@ -1,7 +1,7 @@
 -- `accepted` meets its contract, by the answer of the check. Assumes nothing.
 use mathlib.Core.Path.{sym, ap, _∙_}
-use Rattle.af.specs.Calls.{numberOf}
-use Rattle.form.proofs.Checks.{passed, not-passed}
+use Rattle.af_rules.specs.Calls.{numberOf}
+use Rattle.form_rules.proofs.Checks.{passed, not-passed}
 use borrow.Author.Needs.{needs}
 use Rattle.form.proofs.calls.accepted.Statement.{statement}
 use Rattle.form.proofs.calls.accepted.Tie as tie

@@ -1,7 +1,7 @@
 -- `enough_in` meets its contract: with FEC as it is told, without it by what is missing. Assumes nothing.
 use borrow.Author.Needs.{needs}
-use Rattle.places.proofs.Ranges.{range-from}
-use Rattle.form.proofs.Checks.{enough-plain}
+use Rattle.places_rules.proofs.Ranges.{range-from}
+use Rattle.form_rules.proofs.Checks.{enough-plain}
 use Rattle.form.proofs.calls.enough_in.Statement.{statement}
 use Rattle.form.proofs.calls.enough_in.Tie as tie
 

@@ -4,12 +4,12 @@ use mathlib.Core.Bool.{false}
 use Prim.Native.Nat.{_≤_}
 use borrow.Author.Tests.{not-true, not-false}
 use lib.ListN.{length}
-use Rattle.base.specs.Bounds.{most-l, place}
-use Rattle.base.proofs.Logic.{told}
-use Rattle.places.specs.Faults.{badPlace}
-use Rattle.form.specs.Calls.{formFault}
-use Rattle.form.proofs.Checks.{fault-free}
-use Rattle.form.proofs.Handing.{form-refused, form-waits}
+use Rattle.base_rules.specs.Bounds.{most-l, place}
+use Rattle.base_rules.proofs.Logic.{told}
+use Rattle.places_rules.specs.Faults.{badPlace}
+use Rattle.form_rules.specs.Calls.{formFault}
+use Rattle.form_rules.proofs.Checks.{fault-free}
+use Rattle.form_rules.proofs.Handing.{form-refused, form-waits}
 use borrow.Author.Needs.{needs}
 use Rattle.form.proofs.calls.form.Statement.{statement}
 use Rattle.form.proofs.calls.form.Tie as tie

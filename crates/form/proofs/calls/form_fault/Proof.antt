@@ -1,6 +1,6 @@
 -- `form_fault` meets its contract. Assumes nothing.
-use Rattle.base.proofs.Logic.{told}
-use Rattle.form.proofs.Checks.{fault-14, fault-held, fault-room, fault-none}
+use Rattle.base_rules.proofs.Logic.{told}
+use Rattle.form_rules.proofs.Checks.{fault-14, fault-held, fault-room, fault-none}
 use borrow.Author.Needs.{needs}
 use Rattle.form.proofs.calls.form_fault.Statement.{statement}
 use Rattle.form.proofs.calls.form_fault.Tie as tie

@@ -5,10 +5,10 @@ use Prim.Native.Nat.{ℕ, _≤_}
 use borrow.Author.Tests.{not-true, not-false}
 use lib.ListN.{length, take}
 use lib.Seq.{length-take-le}
-use Rattle.base.proofs.Logic.{told}
-use Rattle.places.proofs.Ranges.{range-from}
-use Rattle.form.specs.Inner.{Only, Proposal}
-use Rattle.form.proofs.Handing.{form-nothing, not-accepted, form-packet}
+use Rattle.base_rules.proofs.Logic.{told}
+use Rattle.places_rules.proofs.Ranges.{range-from}
+use Rattle.form_rules.specs.Inner.{Only, Proposal}
+use Rattle.form_rules.proofs.Handing.{form-nothing, not-accepted, form-packet}
 use borrow.Author.Needs.{needs}
 use Rattle.form.proofs.calls.hand_out.Statement.{statement}
 use Rattle.form.proofs.calls.hand_out.Tie as tie

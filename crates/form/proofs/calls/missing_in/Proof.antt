@@ -4,11 +4,11 @@ use mathlib.Core.Logic.{⊎-elim}
 use Prim.Native.Nat.{ℕ, _-_, _≤_}
 use native.Mathlib.Omega.{arith}
 use borrow.Author.Needs.{needs}
-use Rattle.base.specs.Tests.{bit}
-use Rattle.cut.specs.Missing.{count, losses}
-use Rattle.weave.specs.Calls.{notKept}
-use Rattle.weave.proofs.PrefixSums.{one-more}
-use Rattle.form.specs.Agree.{missingIn}
+use Rattle.base_rules.specs.Tests.{bit}
+use Rattle.cut_rules.specs.Missing.{count, losses}
+use Rattle.weave_rules.specs.Calls.{notKept}
+use Rattle.weave_rules.proofs.PrefixSums.{one-more}
+use Rattle.form_rules.specs.Agree.{missingIn}
 use Rattle.form.proofs.calls.missing_in.Statement.{statement}
 use Rattle.form.proofs.calls.missing_in.Tie as tie
 

@@ -1,5 +1,5 @@
 -- `propose` meets its contract: with FEC what is decoded, without it what is joined. Assumes nothing.
-use Rattle.form.proofs.Handing.{proposed}
+use Rattle.form_rules.proofs.Handing.{proposed}
 use borrow.Author.Needs.{needs}
 use Rattle.form.proofs.calls.propose.Statement.{statement}
 use Rattle.form.proofs.calls.propose.Tie as tie

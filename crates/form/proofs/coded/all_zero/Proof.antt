@@ -4,8 +4,8 @@ use Prim.Native.Nat.{ℕ, _-_, _≤_, _<_}
 use native.Mathlib.Omega.{arith}
 use borrow.Author.Count.{below-none, below-more}
 use lib.ListN.{length, getD}
-use Rattle.base.proofs.Logic.{clash}
-use Rattle.form.proofs.Zeros.{zeros-from, zeros-not}
+use Rattle.base_rules.proofs.Logic.{clash}
+use Rattle.form_rules.proofs.Zeros.{zeros-from, zeros-not}
 use Rattle.form.proofs.coded.all_zero.Statement.{statement}
 use Rattle.form.proofs.coded.all_zero.Tie as tie
 

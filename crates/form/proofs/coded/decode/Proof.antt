@@ -3,12 +3,12 @@ use mathlib.Core.Path.{_≡_}
 use native.Mathlib.Omega.{arith}
 use borrow.Author.Needs.{needs}
 use lib.ListN.{length}
-use Rattle.base.specs.Bounds.{place}
-use Rattle.base.proofs.Logic.{clash}
-use Rattle.cut.specs.Sizes.{receivedC}
-use Rattle.code.specs.declared.Filled.{Filled}
-use Rattle.code.specs.declared.Filled.the-variants.{Done, Nothing, NotEnough, Refused}
-use Rattle.form.proofs.Decoding as laws
+use Rattle.base_rules.specs.Bounds.{place}
+use Rattle.base_rules.proofs.Logic.{clash}
+use Rattle.cut_rules.specs.Sizes.{receivedC}
+use Rattle.code_rules.specs.declared.Filled.{Filled}
+use Rattle.code_rules.specs.declared.Filled.the-variants.{Done, Nothing, NotEnough, Refused}
+use Rattle.form_rules.proofs.Decoding as laws
 use Rattle.form.proofs.coded.decode.Statement.{statement}
 use Rattle.form.proofs.coded.decode.Tie as tie
 

@@ -3,10 +3,10 @@ use mathlib.Core.Path.{_≡_}
 use Prim.Native.Nat.{_+_, _-_, _*_, _≤_}
 use native.Mathlib.Omega.{arith}
 use borrow.Author.Needs.{needs}
-use Rattle.base.specs.Bounds.{parity}
-use Rattle.base.specs.Bytes.{splice}
-use Rattle.form.specs.Inner.{dataOf}
-use Rattle.form.proofs.Gathering as gathering
+use Rattle.base_rules.specs.Bounds.{parity}
+use Rattle.base_rules.specs.Bytes.{splice}
+use Rattle.form_rules.specs.Inner.{dataOf}
+use Rattle.form_rules.proofs.Gathering as gathering
 use Rattle.form.proofs.coded.gather.Statement.{statement}
 use Rattle.form.proofs.coded.gather.Tie as tie
 

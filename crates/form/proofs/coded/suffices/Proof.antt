@@ -1,6 +1,6 @@
 -- `suffices` meets its contract: each answer is the law for its case. Assumes nothing.
 use borrow.Author.Needs.{needs}
-use Rattle.form.proofs.Decoding as laws
+use Rattle.form_rules.proofs.Decoding as laws
 use Rattle.form.proofs.coded.suffices.Statement.{statement}
 use Rattle.form.proofs.coded.suffices.Tie as tie
 

@@ -2,7 +2,7 @@
 use mathlib.Core.Path.{_≡_, refl}
 use Prim.Native.Nat.{_-_}
 use native.Mathlib.Omega.{arith}
-use Rattle.form.proofs.Joining.{front-none, front-fits}
+use Rattle.form_rules.proofs.Joining.{front-none, front-fits}
 use borrow.Author.Needs.{needs}
 use Rattle.form.proofs.plain.before_last.Statement.{statement}
 use Rattle.form.proofs.plain.before_last.Tie as tie

@@ -2,7 +2,7 @@
 use mathlib.Core.Path.{sym}
 use native.Mathlib.Omega.{arith}
 use lib.Seq.{length-take-le}
-use Rattle.form.proofs.Joining.{joined-length, joined-put}
+use Rattle.form_rules.proofs.Joining.{joined-length, joined-put}
 use borrow.Author.Needs.{needs}
 use Rattle.form.proofs.plain.join.Statement.{statement}
 use Rattle.form.proofs.plain.join.Tie as tie

@@ -1,8 +1,8 @@
 -- `address_at` meets its contract, by the FEC bit. Assumes nothing.
 use borrow.Author.Needs.{needs}
 use lib.Dec.{lit≤}
-use Rattle.base.proofs.Logic.{told}
-use Rattle.header.proofs.Fields.{at-fec, at-plain}
+use Rattle.base_rules.proofs.Logic.{told}
+use Rattle.header_rules.proofs.Fields.{at-fec, at-plain}
 use Rattle.header.proofs.reading.address_at.Statement.{statement}
 use Rattle.header.proofs.reading.address_at.Tie as tie
 

@@ -1,7 +1,7 @@
 -- `address_of` meets its contract, by the Addr bit. Assumes nothing.
 use borrow.Author.Needs.{needs}
-use Rattle.base.proofs.Logic.{told}
-use Rattle.header.proofs.Fields.{address-there, address-none}
+use Rattle.base_rules.proofs.Logic.{told}
+use Rattle.header_rules.proofs.Fields.{address-there, address-none}
 use Rattle.header.proofs.reading.address_of.Statement.{statement}
 use Rattle.header.proofs.reading.address_of.Tie as tie
 

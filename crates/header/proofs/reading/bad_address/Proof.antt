@@ -1,7 +1,7 @@
 -- `bad_address` meets its contract, by the address that the fragment carries. Assumes nothing.
 use mathlib.Core.Path.{sym, ap, _∙_}
 use borrow.Author.Needs.{needs}
-use Rattle.header.specs.Read.{badAddress}
+use Rattle.header_rules.specs.Read.{badAddress}
 use Rattle.header.proofs.reading.bad_address.Statement.{statement}
 use Rattle.header.proofs.reading.bad_address.Tie as tie
 

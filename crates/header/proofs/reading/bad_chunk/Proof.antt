@@ -1,6 +1,6 @@
 -- `bad_chunk` meets its contract, test by test. Assumes nothing.
 use borrow.Author.Needs.{needs}
-use Rattle.header.proofs.Fields.{chunk-none, chunk-over, chunk-less, chunk-rest}
+use Rattle.header_rules.proofs.Fields.{chunk-none, chunk-over, chunk-less, chunk-rest}
 use Rattle.header.proofs.reading.bad_chunk.Statement.{statement}
 use Rattle.header.proofs.reading.bad_chunk.Tie as tie
 

@@ -2,7 +2,7 @@
 use mathlib.Core.Path.{sym}
 use borrow.Author.Needs.{needs}
 use lib.Seq.{length-take-le}
-use Rattle.header.proofs.Fields.{covered, crc-read}
+use Rattle.header_rules.proofs.Fields.{covered, crc-read}
 use Rattle.header.proofs.reading.bad_crc.Statement.{statement}
 use Rattle.header.proofs.reading.bad_crc.Tie as tie
 

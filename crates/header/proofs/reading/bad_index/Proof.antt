@@ -1,7 +1,7 @@
 -- `bad_index` meets its contract, test by test. Assumes nothing.
 use native.Mathlib.Omega.{arith}
 use borrow.Author.Needs.{needs}
-use Rattle.header.proofs.Fields.{count-none, count-over, count-rest}
+use Rattle.header_rules.proofs.Fields.{count-none, count-over, count-rest}
 use Rattle.header.proofs.reading.bad_index.Statement.{statement}
 use Rattle.header.proofs.reading.bad_index.Tie as tie
 

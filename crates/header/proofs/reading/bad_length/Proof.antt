@@ -1,6 +1,6 @@
 -- `bad_length` meets its contract. Assumes nothing.
 use borrow.Author.Needs.{needs}
-use Rattle.header.proofs.Fields.{length-none, length-rest}
+use Rattle.header_rules.proofs.Fields.{length-none, length-rest}
 use Rattle.header.proofs.reading.bad_length.Statement.{statement}
 use Rattle.header.proofs.reading.bad_length.Tie as tie
 

@@ -3,8 +3,8 @@ use Prim.Native.Nat.{_≤_}
 use native.Mathlib.Nat.{mul-le-mul}
 use native.Mathlib.Omega.{arith}
 use borrow.Author.Needs.{needs}
-use Rattle.weave.proofs.CallCases.{f-most}
-use Rattle.header.proofs.Fields.{size-over, size-fec, size-plain}
+use Rattle.weave_rules.proofs.CallCases.{f-most}
+use Rattle.header_rules.proofs.Fields.{size-over, size-fec, size-plain}
 use Rattle.header.proofs.reading.bad_size.Statement.{statement}
 use Rattle.header.proofs.reading.bad_size.Tie as tie
 

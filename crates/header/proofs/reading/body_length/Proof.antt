@@ -1,8 +1,8 @@
 -- `body_length` meets its contract, by the Addr bit. Assumes nothing.
 use native.Mathlib.Omega.{arith}
 use borrow.Author.Needs.{needs}
-use Rattle.base.proofs.Logic.{told}
-use Rattle.header.proofs.Fields.{body-there, body-plain}
+use Rattle.base_rules.proofs.Logic.{told}
+use Rattle.header_rules.proofs.Fields.{body-there, body-plain}
 use Rattle.header.proofs.reading.body_length.Statement.{statement}
 use Rattle.header.proofs.reading.body_length.Tie as tie
 

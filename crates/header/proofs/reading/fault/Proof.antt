@@ -3,12 +3,12 @@ use mathlib.Core.List.{List}
 use mathlib.Core.Path.{_≡_, _∙_}
 use Prim.Native.Nat.{ℕ}
 use borrow.Author.Needs.{needs}
-use Rattle.base.specs.Tests.{first}
-use Rattle.base.proofs.Firsts.{due, skip, none-due}
-use Rattle.base.proofs.Logic.{told}
-use Rattle.cut.specs.declared.Address.{Address}
-use Rattle.header.specs.Read.{badLength, badIndex, badSize, faultOf}
-use Rattle.header.proofs.Checks as checks
+use Rattle.base_rules.specs.Tests.{first}
+use Rattle.base_rules.proofs.Firsts.{due, skip, none-due}
+use Rattle.base_rules.proofs.Logic.{told}
+use Rattle.cut_rules.specs.declared.Address.{Address}
+use Rattle.header_rules.specs.Read.{badLength, badIndex, badSize, faultOf}
+use Rattle.header_rules.proofs.Checks as checks
 use Rattle.header.proofs.reading.fault.Statement.{statement}
 use Rattle.header.proofs.reading.fault.Tie as tie
 

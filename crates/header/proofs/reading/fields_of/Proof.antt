@@ -1,6 +1,6 @@
 -- `fields_of` meets its contract, field by field. Assumes nothing.
 use borrow.Author.Needs.{needs}
-use Rattle.header.proofs.Fields.{fields-read}
+use Rattle.header_rules.proofs.Fields.{fields-read}
 use Rattle.header.proofs.reading.fields_of.Statement.{statement}
 use Rattle.header.proofs.reading.fields_of.Tie as tie
 

@@ -3,8 +3,8 @@ use mathlib.Core.Path.{ap}
 use Prim.Native.Nat.{ℕ, _%_}
 use borrow.Author.Needs.{needs}
 use lib.Dec.{leb}
-use Rattle.header.specs.Header.{fecBit, addrBit}
-use Rattle.header.specs.Read.{flagsAt, hasAddress}
+use Rattle.header_rules.specs.Header.{fecBit, addrBit}
+use Rattle.header_rules.specs.Read.{flagsAt, hasAddress}
 use Rattle.header.proofs.reading.has_address.Statement.{statement}
 use Rattle.header.proofs.reading.has_address.Tie as tie
 

@@ -2,8 +2,8 @@
 use mathlib.Core.Path.{ap}
 use borrow.Author.Needs.{needs}
 use lib.Dec.{leb}
-use Rattle.header.specs.Header.{fecBit}
-use Rattle.header.specs.Read.{flagsAt, hasFec}
+use Rattle.header_rules.specs.Header.{fecBit}
+use Rattle.header_rules.specs.Read.{flagsAt, hasFec}
 use Rattle.header.proofs.reading.has_fec.Statement.{statement}
 use Rattle.header.proofs.reading.has_fec.Tie as tie
 

@@ -1,6 +1,6 @@
 -- `is_short` meets its contract. Assumes nothing.
 use borrow.Author.Needs.{needs}
-use Rattle.header.proofs.Fields.{short-14, short-rest}
+use Rattle.header_rules.proofs.Fields.{short-14, short-rest}
 use Rattle.header.proofs.reading.is_short.Statement.{statement}
 use Rattle.header.proofs.reading.is_short.Tie as tie
 

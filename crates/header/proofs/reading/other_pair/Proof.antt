@@ -1,6 +1,6 @@
 -- `other_pair` meets its contract, by the configured address. Assumes nothing.
 use borrow.Author.Needs.{needs}
-use Rattle.header.proofs.Fields.{other-none, other-source, other-dest}
+use Rattle.header_rules.proofs.Fields.{other-none, other-source, other-dest}
 use Rattle.header.proofs.reading.other_pair.Statement.{statement}
 use Rattle.header.proofs.reading.other_pair.Tie as tie
 

@@ -1,6 +1,6 @@
 -- `parse` meets its contract: the number that is due, or the fields. Assumes nothing.
 use borrow.Author.Needs.{needs}
-use Rattle.header.proofs.Fields.{parse-refused, parse-read}
+use Rattle.header_rules.proofs.Fields.{parse-refused, parse-read}
 use Rattle.header.proofs.reading.parse.Statement.{statement}
 use Rattle.header.proofs.reading.parse.Tie as tie
 

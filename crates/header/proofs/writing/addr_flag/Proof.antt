@@ -2,7 +2,7 @@
 use mathlib.Core.Path.{ap, sym}
 use borrow.Author.Needs.{needs}
 use lib.Dec.{lit≤}
-use Rattle.header.specs.Header.{addrFlag}
+use Rattle.header_rules.specs.Header.{addrFlag}
 use Rattle.header.proofs.writing.addr_flag.Statement.{statement}
 use Rattle.header.proofs.writing.addr_flag.Tie as tie
 

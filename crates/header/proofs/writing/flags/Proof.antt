@@ -1,6 +1,6 @@
 -- `flags` meets its contract, by FEC. Assumes nothing.
 use borrow.Author.Needs.{needs}
-use Rattle.header.proofs.Lays.{flags-fec, flags-plain}
+use Rattle.header_rules.proofs.Lays.{flags-fec, flags-plain}
 use Rattle.header.proofs.writing.flags.Statement.{statement}
 use Rattle.header.proofs.writing.flags.Tie as tie
 

@@ -1,6 +1,6 @@
 -- `put_address` meets its contract, by the address. Assumes nothing.
 use borrow.Author.Needs.{needs}
-use Rattle.header.proofs.Lays.{address-absent, address-laid}
+use Rattle.header_rules.proofs.Lays.{address-absent, address-laid}
 use Rattle.header.proofs.writing.put_address.Statement.{statement}
 use Rattle.header.proofs.writing.put_address.Tie as tie
 

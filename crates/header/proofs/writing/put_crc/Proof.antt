@@ -3,7 +3,7 @@ use mathlib.Core.Path.{sym}
 use native.Mathlib.Omega.{arith}
 use borrow.Author.Needs.{needs}
 use lib.Seq.{length-take-le}
-use Rattle.header.proofs.Lays.{crc-laid}
+use Rattle.header_rules.proofs.Lays.{crc-laid}
 use Rattle.header.proofs.writing.put_crc.Statement.{statement}
 use Rattle.header.proofs.writing.put_crc.Tie as tie
 

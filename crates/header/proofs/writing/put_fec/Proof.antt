@@ -1,6 +1,6 @@
 -- `put_fec` meets its contract, by FEC. Assumes nothing.
 use borrow.Author.Needs.{needs}
-use Rattle.header.proofs.Lays.{fec-laid, fec-none}
+use Rattle.header_rules.proofs.Lays.{fec-laid, fec-none}
 use Rattle.header.proofs.writing.put_fec.Statement.{statement}
 use Rattle.header.proofs.writing.put_fec.Tie as tie
 

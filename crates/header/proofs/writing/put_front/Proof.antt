@@ -1,6 +1,6 @@
 -- `put_front` meets its contract: each field right behind the one before. Assumes nothing.
 use borrow.Author.Needs.{needs}
-use Rattle.header.proofs.Lays.{front-laid}
+use Rattle.header_rules.proofs.Lays.{front-laid}
 use Rattle.header.proofs.writing.put_front.Statement.{statement}
 use Rattle.header.proofs.writing.put_front.Tie as tie
 

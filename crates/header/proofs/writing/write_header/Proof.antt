@@ -3,7 +3,7 @@ use mathlib.Core.Path.{_∙_, sym}
 use native.Mathlib.Omega.{arith}
 use borrow.Author.Needs.{needs}
 use lib.Seq.{length-take-le}
-use Rattle.header.proofs.Lays.{fec-most, address-most, header-laid, header-put}
+use Rattle.header_rules.proofs.Lays.{fec-most, address-most, header-laid, header-put}
 use Rattle.header.proofs.writing.write_header.Statement.{statement}
 use Rattle.header.proofs.writing.write_header.Tie as tie
 

@@ -4,9 +4,9 @@ use Prim.Native.Nat.{ℕ, _-_, _≤_}
 use native.Mathlib.Omega.{arith}
 use lib.ListN.{take, drop, length-drop}
 use lib.Seq.{getD-drop}
-use Rattle.base.specs.Bounds.{most-f}
-use Rattle.packed.specs.Packed.{badFlag, badFlags}
-use Rattle.packed.proofs.FlagLaws.{bad-more}
+use Rattle.base_rules.specs.Bounds.{most-f}
+use Rattle.packed_rules.specs.Packed.{badFlag, badFlags}
+use Rattle.packed_rules.proofs.FlagLaws.{bad-more}
 use Rattle.packed.proofs.reading.bad_flags.Statement.{statement}
 use Rattle.packed.proofs.reading.bad_flags.Tie as tie
 

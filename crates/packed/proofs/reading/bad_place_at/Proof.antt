@@ -1,7 +1,7 @@
 -- `bad_place_at` meets its contract, test by test. Assumes nothing.
 use native.Mathlib.Omega.{arith}
 use borrow.Author.Needs.{needs}
-use Rattle.packed.proofs.FlagLaws.{fec-bad, fec-good}
+use Rattle.packed_rules.proofs.FlagLaws.{fec-bad, fec-good}
 use Rattle.packed.proofs.reading.bad_place_at.Statement.{statement}
 use Rattle.packed.proofs.reading.bad_place_at.Tie as tie
 

@@ -1,7 +1,7 @@
 -- `bad_record` meets its contract, place by place. Assumes nothing.
 use borrow.Author.Needs.{needs}
-use Rattle.base.proofs.Logic.{told}
-use Rattle.packed.specs.Packed.{badRecord}
+use Rattle.base_rules.proofs.Logic.{told}
+use Rattle.packed_rules.specs.Packed.{badRecord}
 use Rattle.packed.proofs.reading.bad_record.Statement.{statement}
 use Rattle.packed.proofs.reading.bad_record.Tie as tie
 

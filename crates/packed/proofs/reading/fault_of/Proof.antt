@@ -3,9 +3,9 @@ use mathlib.Core.Path.{_≡_}
 use native.Mathlib.Omega.{arith}
 use borrow.Author.Needs.{needs}
 use lib.ListN.{length}
-use Rattle.base.proofs.Logic.{told}
-use Rattle.packed.specs.Packed.{table-bytes}
-use Rattle.packed.proofs.Unpacks.{other-length, bad-record, no-fault}
+use Rattle.base_rules.proofs.Logic.{told}
+use Rattle.packed_rules.specs.Packed.{table-bytes}
+use Rattle.packed_rules.proofs.Unpacks.{other-length, bad-record, no-fault}
 use Rattle.packed.proofs.reading.fault_of.Statement.{statement}
 use Rattle.packed.proofs.reading.fault_of.Tie as tie
 

@@ -7,9 +7,9 @@ use native.Mathlib.Omega.{arith}
 use borrow.Author.Needs.{needs}
 use lib.ListN.{length, take, drop, length-drop, length-set, length-replicate}
 use lib.Seq.{getD-drop}
-use Rattle.base.specs.Bounds.{most-f}
-use Rattle.packed.specs.Packed.{isSet}
-use Rattle.packed.proofs.FlagLaws.{filled-more, filled-all}
+use Rattle.base_rules.specs.Bounds.{most-f}
+use Rattle.packed_rules.specs.Packed.{isSet}
+use Rattle.packed_rules.proofs.FlagLaws.{filled-more, filled-all}
 use Rattle.packed.proofs.reading.flags_from.Statement.{statement}
 use Rattle.packed.proofs.reading.flags_from.Tie as tie
 

@@ -1,7 +1,7 @@
 -- `oldest_by` meets its contract, case by case. Assumes nothing.
 use mathlib.Core.Path.{_∙_}
 use borrow.Author.Needs.{needs}
-use Rattle.packed.proofs.Unpacks.{by-none, by-some}
+use Rattle.packed_rules.proofs.Unpacks.{by-none, by-some}
 use Rattle.packed.proofs.reading.oldest_by.Statement.{statement}
 use Rattle.packed.proofs.reading.oldest_by.Tie as tie
 

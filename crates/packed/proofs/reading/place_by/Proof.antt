@@ -1,7 +1,7 @@
 -- `place_by` meets its contract, case by case. Assumes nothing.
 use mathlib.Core.Path.{_∙_}
 use borrow.Author.Needs.{needs}
-use Rattle.packed.proofs.Unpacks.{by-none, by-some, free-first}
+use Rattle.packed_rules.proofs.Unpacks.{by-none, by-some, free-first}
 use Rattle.packed.proofs.reading.place_by.Statement.{statement}
 use Rattle.packed.proofs.reading.place_by.Tie as tie
 

@@ -1,6 +1,6 @@
 -- `place_from` meets its contract, field by field. Assumes nothing.
 use borrow.Author.Needs.{needs}
-use Rattle.packed.specs.Packed.{placeFrom}
+use Rattle.packed_rules.specs.Packed.{placeFrom}
 use Rattle.packed.proofs.reading.place_from.Statement.{statement}
 use Rattle.packed.proofs.reading.place_from.Tie as tie
 

@@ -1,7 +1,7 @@
 -- `table_by` meets its contract, place by place. Assumes nothing.
 use native.Mathlib.Omega.{arith}
 use borrow.Author.Needs.{needs}
-use Rattle.packed.proofs.Unpacks.{table-read}
+use Rattle.packed_rules.proofs.Unpacks.{table-read}
 use Rattle.packed.proofs.reading.table_by.Statement.{statement}
 use Rattle.packed.proofs.reading.table_by.Tie as tie
 

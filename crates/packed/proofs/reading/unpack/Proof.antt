@@ -1,7 +1,7 @@
 -- `unpack` meets its contract: what is read is by the number that is due. Assumes nothing.
 use mathlib.Core.Path.{sym, _∙_}
 use borrow.Author.Needs.{needs}
-use Rattle.packed.proofs.Unpacks.{right-size, unpacked}
+use Rattle.packed_rules.proofs.Unpacks.{right-size, unpacked}
 use Rattle.packed.proofs.reading.unpack.Statement.{statement}
 use Rattle.packed.proofs.reading.unpack.Tie as tie
 

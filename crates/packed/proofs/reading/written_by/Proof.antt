@@ -2,8 +2,8 @@
 use mathlib.Core.Path.{refl, sym}
 use mathlib.Core.List.{[]}
 use native.Mathlib.Omega.{arith}
-use Rattle.base.specs.Written.{numberOf}
-use Rattle.base.proofs.Answers.{grants, refuses}
+use Rattle.base_rules.specs.Written.{numberOf}
+use Rattle.base_rules.proofs.Answers.{grants, refuses}
 use Rattle.packed.proofs.reading.written_by.Statement.{statement}
 use Rattle.packed.proofs.reading.written_by.Tie as tie
 

@@ -1,6 +1,6 @@
 -- `figures` meets its contract, field by field. Assumes nothing.
 use borrow.Author.Needs.{needs}
-use Rattle.packed.proofs.Lays.{figures-are}
+use Rattle.packed_rules.proofs.Lays.{figures-are}
 use Rattle.packed.proofs.writing.figures.Statement.{statement}
 use Rattle.packed.proofs.writing.figures.Tie as tie
 

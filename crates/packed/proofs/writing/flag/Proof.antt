@@ -1,6 +1,6 @@
 -- `flag` meets its contract, case by case. Assumes nothing.
 use mathlib.Core.Path.{sym, ap}
-use Rattle.base.specs.Tests.{bit}
+use Rattle.base_rules.specs.Tests.{bit}
 use Rattle.packed.proofs.writing.flag.Statement.{statement}
 use Rattle.packed.proofs.writing.flag.Tie as tie
 

@@ -7,9 +7,9 @@ use native.Mathlib.Omega.{arith}
 use borrow.Author.Needs.{needs}
 use lib.ListN.{length, take, length-set, length-replicate}
 use lib.Seq.{take-all}
-use Rattle.base.specs.Bounds.{most-f}
-use Rattle.base.specs.Tests.{bit}
-use Rattle.packed.proofs.FlagLaws.{filled-more, filled-all}
+use Rattle.base_rules.specs.Bounds.{most-f}
+use Rattle.base_rules.specs.Tests.{bit}
+use Rattle.packed_rules.proofs.FlagLaws.{filled-more, filled-all}
 use Rattle.packed.proofs.writing.flags.Statement.{statement}
 use Rattle.packed.proofs.writing.flags.Tie as tie
 

@@ -1,6 +1,6 @@
 -- `pack` meets its contract: each place right behind the one before. Assumes nothing.
 use borrow.Author.Needs.{needs}
-use Rattle.packed.proofs.Lays.{no-room, table-laid}
+use Rattle.packed_rules.proofs.Lays.{no-room, table-laid}
 use Rattle.packed.proofs.writing.pack.Statement.{statement}
 use Rattle.packed.proofs.writing.pack.Tie as tie
 

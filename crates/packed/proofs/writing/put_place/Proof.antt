@@ -2,9 +2,9 @@
 use mathlib.Core.Path.{_≡_}
 use borrow.Author.Needs.{needs}
 use lib.ListN.{length}
-use Rattle.base.specs.Bounds.{most-f}
-use Rattle.places.proofs.Records.{as-long}
-use Rattle.packed.proofs.Lays.{place-laid}
+use Rattle.base_rules.specs.Bounds.{most-f}
+use Rattle.places_rules.proofs.Records.{as-long}
+use Rattle.packed_rules.proofs.Lays.{place-laid}
 use Rattle.packed.proofs.writing.put_place.Statement.{statement}
 use Rattle.packed.proofs.writing.put_place.Tie as tie
 

@@ -1,7 +1,7 @@
 -- `bad_code` meets its contract. Assumes nothing.
 use borrow.Author.Tests.{not-true, not-false}
 use borrow.Author.Needs.{needs}
-use Rattle.places.proofs.Checks.{no-code, k-none, k-over, z-over}
+use Rattle.places_rules.proofs.Checks.{no-code, k-none, k-over, z-over}
 use Rattle.places.proofs.faults.bad_code.Statement.{statement}
 use Rattle.places.proofs.faults.bad_code.Tie as tie
 

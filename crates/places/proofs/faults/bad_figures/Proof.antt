@@ -3,8 +3,8 @@ use Prim.Native.Nat.{_≤_}
 use native.Mathlib.Nat.{mul-le-mul}
 use native.Mathlib.Omega.{arith}
 use borrow.Author.Needs.{needs}
-use Rattle.base.specs.Bounds.{most-f}
-use Rattle.places.proofs.Checks.{count-over, size-over, last-over, size-unknown, last-longer}
+use Rattle.base_rules.specs.Bounds.{most-f}
+use Rattle.places_rules.proofs.Checks.{count-over, size-over, last-over, size-unknown, last-longer}
 use Rattle.places.proofs.faults.bad_figures.Statement.{statement}
 use Rattle.places.proofs.faults.bad_figures.Tie as tie
 

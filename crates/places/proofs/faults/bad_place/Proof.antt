@@ -1,7 +1,7 @@
 -- `bad_place` meets its contract. Assumes nothing.
 use borrow.Author.Needs.{needs}
-use Rattle.base.proofs.Logic.{told}
-use Rattle.places.proofs.Checks.{condition-over, figures-bad, code-told}
+use Rattle.base_rules.proofs.Logic.{told}
+use Rattle.places_rules.proofs.Checks.{condition-over, figures-bad, code-told}
 use Rattle.places.proofs.faults.bad_place.Statement.{statement}
 use Rattle.places.proofs.faults.bad_place.Tie as tie
 

@@ -1,7 +1,7 @@
 -- `bad_place_at` meets its contract. Assumes nothing.
 use mathlib.Core.Path.{ap, _∙_}
 use borrow.Author.Needs.{needs}
-use Rattle.places.specs.Faults.{badPlace}
+use Rattle.places_rules.specs.Faults.{badPlace}
 use Rattle.places.proofs.faults.bad_place_at.Statement.{statement}
 use Rattle.places.proofs.faults.bad_place_at.Tie as tie
 

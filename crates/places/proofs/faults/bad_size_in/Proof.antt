@@ -1,6 +1,6 @@
 -- `bad_size_in` meets its contract. Assumes nothing.
 use borrow.Author.Needs.{needs}
-use Rattle.places.proofs.Checks.{size-coded, last-any, last-known, inner-any, inner-same, inner-other}
+use Rattle.places_rules.proofs.Checks.{size-coded, last-any, last-known, inner-any, inner-same, inner-other}
 use Rattle.places.proofs.faults.bad_size_in.Statement.{statement}
 use Rattle.places.proofs.faults.bad_size_in.Tie as tie
 

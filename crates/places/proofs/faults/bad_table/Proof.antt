@@ -1,7 +1,7 @@
 -- `bad_table` meets its contract. Assumes nothing.
 use borrow.Author.Needs.{needs}
-use Rattle.base.proofs.Logic.{told}
-use Rattle.places.proofs.Checks.{oldest-over, bad-0, bad-1, bad-2, bad-3}
+use Rattle.base_rules.proofs.Logic.{told}
+use Rattle.places_rules.proofs.Checks.{oldest-over, bad-0, bad-1, bad-2, bad-3}
 use Rattle.places.proofs.faults.bad_table.Statement.{statement}
 use Rattle.places.proofs.faults.bad_table.Tie as tie
 

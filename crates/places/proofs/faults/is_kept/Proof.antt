@@ -4,7 +4,7 @@ use mathlib.Core.Bool.{false}
 use native.Mathlib.Omega.{arith}
 use borrow.Author.Needs.{needs}
 use lib.ListN.{length, List·getD-eq-default}
-use Rattle.places.proofs.Records.{as-long}
+use Rattle.places_rules.proofs.Records.{as-long}
 use Rattle.places.proofs.faults.is_kept.Statement.{statement}
 use Rattle.places.proofs.faults.is_kept.Tie as tie
 

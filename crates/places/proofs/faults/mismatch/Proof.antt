@@ -1,6 +1,6 @@
 -- `mismatch` meets its contract. Assumes nothing.
 use borrow.Author.Needs.{needs}
-use Rattle.places.proofs.Checks.{count-other, fec-other, rsk-other, rsz-other, size-told}
+use Rattle.places_rules.proofs.Checks.{count-other, fec-other, rsk-other, rsz-other, size-told}
 use Rattle.places.proofs.faults.mismatch.Statement.{statement}
 use Rattle.places.proofs.faults.mismatch.Tie as tie
 

@@ -1,7 +1,7 @@
 -- `place_fault` meets its contract. Assumes nothing.
 use borrow.Author.Needs.{needs}
-use Rattle.base.proofs.Logic.{told}
-use Rattle.places.proofs.Checks.{due-9, due-10, due-11, due-12, due-none}
+use Rattle.base_rules.proofs.Logic.{told}
+use Rattle.places_rules.proofs.Checks.{due-9, due-10, due-11, due-12, due-none}
 use Rattle.places.proofs.faults.place_fault.Statement.{statement}
 use Rattle.places.proofs.faults.place_fault.Tie as tie
 

@@ -1,6 +1,6 @@
 -- `displaced_at` meets its contract. Assumes nothing.
 use borrow.Author.Needs.{needs}
-use Rattle.places.proofs.Records.{displaces, displaces-none}
+use Rattle.places_rules.proofs.Records.{displaces, displaces-none}
 use Rattle.places.proofs.record.displaced_at.Statement.{statement}
 use Rattle.places.proofs.record.displaced_at.Tie as tie
 

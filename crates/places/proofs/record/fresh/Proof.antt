@@ -1,6 +1,6 @@
 -- `fresh` meets its contract. Assumes nothing.
 use borrow.Author.Needs.{needs}
-use Rattle.places.specs.Places.{freshTable}
+use Rattle.places_rules.specs.Places.{freshTable}
 use Rattle.places.proofs.record.fresh.Statement.{statement}
 use Rattle.places.proofs.record.fresh.Tie as tie
 

@@ -1,9 +1,9 @@
 -- `held_at` meets its contract. Assumes nothing.
 use Prim.Native.Nat.{ℕ}
 use borrow.Author.Needs.{needs}
-use Rattle.base.proofs.Logic.{told}
-use Rattle.places.specs.Places.{four, placeAt, keyOf, holds, heldAt}
-use Rattle.places.proofs.Records.{first-0, first-1, first-2, first-3, first-none}
+use Rattle.base_rules.proofs.Logic.{told}
+use Rattle.places_rules.specs.Places.{four, placeAt, keyOf, holds, heldAt}
+use Rattle.places_rules.proofs.Records.{first-0, first-1, first-2, first-3, first-none}
 use Rattle.places.proofs.record.held_at.Statement.{statement}
 use Rattle.places.proofs.record.held_at.Tie as tie
 

@@ -1,6 +1,6 @@
 -- `in_condition` meets its contract. Assumes nothing.
 use mathlib.Core.Path.{refl}
-use Rattle.places.specs.Places.{inCondition}
+use Rattle.places_rules.specs.Places.{inCondition}
 use Rattle.places.proofs.record.in_condition.Statement.{statement}
 use Rattle.places.proofs.record.in_condition.Tie as tie
 

@@ -1,6 +1,6 @@
 -- `is_free` meets its contract. Assumes nothing.
 use borrow.Author.Needs.{needs}
-use Rattle.places.proofs.Records.{free-by}
+use Rattle.places_rules.proofs.Records.{free-by}
 use Rattle.places.proofs.record.is_free.Statement.{statement}
 use Rattle.places.proofs.record.is_free.Tie as tie
 

@@ -1,6 +1,6 @@
 -- `is_held` meets its contract. Assumes nothing.
 use borrow.Author.Needs.{needs}
-use Rattle.places.proofs.Records.{not-held, held-by}
+use Rattle.places_rules.proofs.Records.{not-held, held-by}
 use Rattle.places.proofs.record.is_held.Statement.{statement}
 use Rattle.places.proofs.record.is_held.Tie as tie
 

@@ -1,7 +1,7 @@
 -- `is_last` meets its contract. Assumes nothing.
 use mathlib.Core.Path.{refl}
 use borrow.Author.Needs.{needs}
-use Rattle.places.proofs.Records.{fec-not-last, last-at-end}
+use Rattle.places_rules.proofs.Records.{fec-not-last, last-at-end}
 use Rattle.places.proofs.record.is_last.Statement.{statement}
 use Rattle.places.proofs.record.is_last.Tie as tie
 

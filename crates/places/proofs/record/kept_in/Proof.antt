@@ -1,6 +1,6 @@
 -- `kept_in` meets its contract. Assumes nothing.
 use borrow.Author.Needs.{needs}
-use Rattle.places.proofs.Records.{keeps}
+use Rattle.places_rules.proofs.Records.{keeps}
 use Rattle.places.proofs.record.kept_in.Statement.{statement}
 use Rattle.places.proofs.record.kept_in.Tie as tie
 

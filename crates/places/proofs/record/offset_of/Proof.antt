@@ -3,7 +3,7 @@ use Prim.Native.Nat.{_≤_}
 use native.Mathlib.Nat.{mul-le-mul}
 use native.Mathlib.Omega.{arith}
 use borrow.Author.Needs.{needs}
-use Rattle.places.proofs.Records.{offset-last, offset-long, offset-other}
+use Rattle.places_rules.proofs.Records.{offset-last, offset-long, offset-other}
 use Rattle.places.proofs.record.offset_of.Statement.{statement}
 use Rattle.places.proofs.record.offset_of.Tie as tie
 

@@ -2,9 +2,9 @@
 use Prim.Native.Nat.{ℕ}
 use borrow.Author.Needs.{needs}
 use lib.Dec.{eqb}
-use Rattle.base.proofs.Logic.{told}
-use Rattle.places.specs.Places.{free, placeAt, openAt}
-use Rattle.places.proofs.Records.{first-0, first-1, first-2, first-3, first-none}
+use Rattle.base_rules.proofs.Logic.{told}
+use Rattle.places_rules.specs.Places.{free, placeAt, openAt}
+use Rattle.places_rules.proofs.Records.{first-0, first-1, first-2, first-3, first-none}
 use Rattle.places.proofs.record.open_at.Statement.{statement}
 use Rattle.places.proofs.record.open_at.Tie as tie
 

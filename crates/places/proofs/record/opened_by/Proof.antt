@@ -1,6 +1,6 @@
 -- `opened_by` meets its contract. Assumes nothing.
 use mathlib.Core.Path.{refl}
-use Rattle.places.specs.Places.{openedBy}
+use Rattle.places_rules.specs.Places.{openedBy}
 use Rattle.places.proofs.record.opened_by.Statement.{statement}
 use Rattle.places.proofs.record.opened_by.Tie as tie
 

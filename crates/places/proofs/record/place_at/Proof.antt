@@ -3,8 +3,8 @@ use mathlib.Core.Path.{_≡_}
 use native.Mathlib.Omega.{arith}
 use borrow.Author.Needs.{needs}
 use lib.ListN.{length}
-use Rattle.places.specs.Places.{four}
-use Rattle.places.proofs.Records.{as-long, place-within, place-past}
+use Rattle.places_rules.specs.Places.{four}
+use Rattle.places_rules.proofs.Records.{as-long, place-within, place-past}
 use Rattle.places.proofs.record.place_at.Statement.{statement}
 use Rattle.places.proofs.record.place_at.Tie as tie
 

@@ -1,6 +1,6 @@
 -- `turned` meets its contract. Assumes nothing.
 use borrow.Author.Needs.{needs}
-use Rattle.places.proofs.Records.{not-turned, turns}
+use Rattle.places_rules.proofs.Records.{not-turned, turns}
 use Rattle.places.proofs.record.turned.Statement.{statement}
 use Rattle.places.proofs.record.turned.Tie as tie
 

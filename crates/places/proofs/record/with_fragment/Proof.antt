@@ -5,7 +5,7 @@ use native.Mathlib.Omega.{arith}
 use borrow.Author.Needs.{needs}
 use lib.ListN.{length}
 use lib.Seq.{set-out}
-use Rattle.places.proofs.Records.{as-long}
+use Rattle.places_rules.proofs.Records.{as-long}
 use Rattle.places.proofs.record.with_fragment.Statement.{statement}
 use Rattle.places.proofs.record.with_fragment.Tie as tie
 

@@ -3,8 +3,8 @@ use mathlib.Core.Path.{_≡_, refl}
 use native.Mathlib.Omega.{arith}
 use borrow.Author.Needs.{needs}
 use lib.ListN.{length}
-use Rattle.places.specs.Places.{four, withPlace}
-use Rattle.places.proofs.Records.{as-long, with-past}
+use Rattle.places_rules.specs.Places.{four, withPlace}
+use Rattle.places_rules.proofs.Records.{as-long, with-past}
 use Rattle.places.proofs.record.with_place.Statement.{statement}
 use Rattle.places.proofs.record.with_place.Tie as tie
 

@@ -1,8 +1,8 @@
 -- `accept` meets its contract: by the place that holds the number, or a place that is opened. Assumes nothing.
 use mathlib.Core.Path.{refl}
 use borrow.Author.Needs.{needs}
-use Rattle.places.proofs.Records.{as-long}
-use Rattle.receiver.proofs.Arrivals.{refusal-is, turned-long, arrives-refused, arrives-there, arrives-new, there-fine, new-fine, new-below}
+use Rattle.places_rules.proofs.Records.{as-long}
+use Rattle.receiver_rules.proofs.Arrivals.{refusal-is, turned-long, arrives-refused, arrives-there, arrives-new, there-fine, new-fine, new-below}
 use Rattle.receiver.proofs.keeping.accept.Statement.{statement}
 use Rattle.receiver.proofs.keeping.accept.Tie as tie
 

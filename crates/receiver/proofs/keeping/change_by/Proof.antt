@@ -1,10 +1,10 @@
 -- `change_by` meets its contract: the checks in their order, and then the fragment arrives. Assumes nothing.
 use mathlib.Core.Path.{sym, _∙_}
 use borrow.Author.Needs.{needs}
-use Rattle.base.proofs.ByteLaws.{bytes-from}
-use Rattle.receiver.proofs.Ranges.{fine-table, fine-room}
-use Rattle.receiver.proofs.Arrivals.{refusal-is}
-use Rattle.receiver.proofs.Steps.{header-refused, header-passed, payload-within, heard, step-room, step-header, step-arrives}
+use Rattle.base_rules.proofs.ByteLaws.{bytes-from}
+use Rattle.receiver_rules.proofs.Ranges.{fine-table, fine-room}
+use Rattle.receiver_rules.proofs.Arrivals.{refusal-is}
+use Rattle.receiver_rules.proofs.Steps.{header-refused, header-passed, payload-within, heard, step-room, step-header, step-arrives}
 use Rattle.receiver.proofs.keeping.change_by.Statement.{statement}
 use Rattle.receiver.proofs.keeping.change_by.Tie as tie
 

@@ -2,8 +2,8 @@
 use mathlib.Core.Path.{ap, _∙_}
 use native.Mathlib.Omega.{arith}
 use borrow.Author.Needs.{needs}
-use Rattle.places.specs.Faults.{badPlace}
-use Rattle.receiver.proofs.Offsets.{offset-fits, kept-long, keeps-at}
+use Rattle.places_rules.specs.Faults.{badPlace}
+use Rattle.receiver_rules.proofs.Offsets.{offset-fits, kept-long, keeps-at}
 use Rattle.receiver.proofs.keeping.keep.Statement.{statement}
 use Rattle.receiver.proofs.keeping.keep.Tie as tie
 

@@ -1,6 +1,6 @@
 -- `receive` meets its contract: the record is made anew with what the datagram changes. Assumes nothing.
 use borrow.Author.Needs.{needs}
-use Rattle.receiver.proofs.Steps.{step-changed}
+use Rattle.receiver_rules.proofs.Steps.{step-changed}
 use Rattle.receiver.proofs.keeping.receive.Statement.{statement}
 use Rattle.receiver.proofs.keeping.receive.Tie as tie
 

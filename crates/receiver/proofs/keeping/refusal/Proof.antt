@@ -1,8 +1,8 @@
 -- `refusal` meets its contract: past the fourth place nothing changes. Assumes nothing.
 use mathlib.Core.Path.{refl}
 use borrow.Author.Needs.{needs}
-use Rattle.places.proofs.Records.{as-long}
-use Rattle.receiver.proofs.Forming.{unchanged}
+use Rattle.places_rules.proofs.Records.{as-long}
+use Rattle.receiver_rules.proofs.Forming.{unchanged}
 use Rattle.receiver.proofs.keeping.refusal.Statement.{statement}
 use Rattle.receiver.proofs.keeping.refusal.Tie as tie
 

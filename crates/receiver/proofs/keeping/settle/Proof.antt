@@ -1,10 +1,10 @@
 -- `settle` meets its contract: the place settles by what forming answered. Assumes nothing.
 use mathlib.Core.Path.{sym, ap, _∙_}
 use borrow.Author.Needs.{needs}
-use Rattle.places.specs.Places.{withPlace}
-use Rattle.places.specs.Faults.{badPlace}
-use Rattle.receiver.proofs.Ranges.{written-place}
-use Rattle.receiver.proofs.Forming.{changes, closes, formed-at, settles-waiting, settles-delivered, settles-damaged, never-refused}
+use Rattle.places_rules.specs.Places.{withPlace}
+use Rattle.places_rules.specs.Faults.{badPlace}
+use Rattle.receiver_rules.proofs.Ranges.{written-place}
+use Rattle.receiver_rules.proofs.Forming.{changes, closes, formed-at, settles-waiting, settles-delivered, settles-damaged, never-refused}
 use Rattle.receiver.proofs.keeping.settle.Statement.{statement}
 use Rattle.receiver.proofs.keeping.settle.Tie as tie
 

@@ -1,5 +1,5 @@
 -- `bad_room` meets its contract. Assumes nothing.
-use Rattle.receiver.proofs.Ranges.{room-other, room-told}
+use Rattle.receiver_rules.proofs.Ranges.{room-other, room-told}
 use Rattle.receiver.proofs.table.bad_room.Statement.{statement}
 use Rattle.receiver.proofs.table.bad_room.Tie as tie
 

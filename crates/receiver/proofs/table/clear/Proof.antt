@@ -1,6 +1,6 @@
 -- `clear` meets its contract. Assumes nothing.
 use borrow.Author.Needs.{needs}
-use Rattle.receiver.proofs.Shows.{clear-refused, clear-done}
+use Rattle.receiver_rules.proofs.Shows.{clear-refused, clear-done}
 use Rattle.receiver.proofs.table.clear.Statement.{statement}
 use Rattle.receiver.proofs.table.clear.Tie as tie
 

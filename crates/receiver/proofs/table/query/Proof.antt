@@ -1,8 +1,8 @@
 -- `query` meets its contract. Assumes nothing.
 use mathlib.Core.Path.{sym, _∙_}
 use borrow.Author.Needs.{needs}
-use Rattle.receiver.proofs.Ranges.{fine-table}
-use Rattle.receiver.proofs.Shows.{query-refused, query-shown}
+use Rattle.receiver_rules.proofs.Ranges.{fine-table}
+use Rattle.receiver_rules.proofs.Shows.{query-refused, query-shown}
 use Rattle.receiver.proofs.table.query.Statement.{statement}
 use Rattle.receiver.proofs.table.query.Tie as tie
 

@@ -1,7 +1,7 @@
 -- `room_fault` meets its contract. Assumes nothing.
 use borrow.Author.Needs.{needs}
-use Rattle.base.proofs.Logic.{told}
-use Rattle.receiver.proofs.Ranges.{due-14, due-1, due-none}
+use Rattle.base_rules.proofs.Logic.{told}
+use Rattle.receiver_rules.proofs.Ranges.{due-14, due-1, due-none}
 use Rattle.receiver.proofs.table.room_fault.Statement.{statement}
 use Rattle.receiver.proofs.table.room_fault.Tie as tie
 

@@ -1,5 +1,5 @@
 -- `seen` meets its contract: a record in range has no fifth condition. Assumes nothing.
-use Rattle.receiver.proofs.Shows.{shows-free, shows-open, shows-delivered, shows-spoiled}
+use Rattle.receiver_rules.proofs.Shows.{shows-free, shows-open, shows-delivered, shows-spoiled}
 use Rattle.receiver.proofs.table.seen.Statement.{statement}
 use Rattle.receiver.proofs.table.seen.Tie as tie
 

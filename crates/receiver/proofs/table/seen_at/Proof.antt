@@ -1,10 +1,10 @@
 -- `seen_at` meets its contract. Assumes nothing.
 use mathlib.Core.Path.{ap, _∙_}
 use borrow.Author.Needs.{needs}
-use Rattle.places.proofs.Records.{as-long}
-use Rattle.places.specs.Faults.{badPlace}
-use Rattle.receiver.specs.Calls.{shownOf}
-use Rattle.receiver.proofs.Ranges.{any-fine}
+use Rattle.places_rules.proofs.Records.{as-long}
+use Rattle.places_rules.specs.Faults.{badPlace}
+use Rattle.receiver_rules.specs.Calls.{shownOf}
+use Rattle.receiver_rules.proofs.Ranges.{any-fine}
 use Rattle.receiver.proofs.table.seen_at.Statement.{statement}
 use Rattle.receiver.proofs.table.seen_at.Tie as tie
 

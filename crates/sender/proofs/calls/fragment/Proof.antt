@@ -1,10 +1,10 @@
 -- `fragment` meets its contract: a refusal is handed on, and else the cut. Assumes nothing.
 use mathlib.Core.Path.{sym, ap, _∙_}
 use borrow.Author.Needs.{needs}
-use Rattle.cut.specs.Plan.{numberOf}
-use Rattle.sender.specs.Calls.{sentNumber}
-use Rattle.sender.proofs.Cases.{one-refused}
-use Rattle.sender.proofs.Checks.{figured, unready}
+use Rattle.cut_rules.specs.Plan.{numberOf}
+use Rattle.sender_rules.specs.Calls.{sentNumber}
+use Rattle.sender_rules.proofs.Cases.{one-refused}
+use Rattle.sender_rules.proofs.Checks.{figured, unready}
 use Rattle.sender.proofs.calls.fragment.Statement.{statement}
 use Rattle.sender.proofs.calls.fragment.Tie as tie
 

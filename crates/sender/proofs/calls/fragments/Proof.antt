@@ -1,10 +1,10 @@
 -- `fragments` meets its contract: a refusal is handed on, and else the cut. Assumes nothing.
 use mathlib.Core.Path.{sym, ap, _∙_}
 use borrow.Author.Needs.{needs}
-use Rattle.cut.specs.Plan.{numberOf}
-use Rattle.sender.specs.Calls.{allNumber}
-use Rattle.sender.proofs.Cases.{all-refused}
-use Rattle.sender.proofs.Checks.{figured, unready}
+use Rattle.cut_rules.specs.Plan.{numberOf}
+use Rattle.sender_rules.specs.Calls.{allNumber}
+use Rattle.sender_rules.proofs.Cases.{all-refused}
+use Rattle.sender_rules.proofs.Checks.{figured, unready}
 use Rattle.sender.proofs.calls.fragments.Statement.{statement}
 use Rattle.sender.proofs.calls.fragments.Tie as tie
 

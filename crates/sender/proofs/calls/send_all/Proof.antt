@@ -4,9 +4,9 @@ use Prim.Native.Nat.{_-_}
 use native.Mathlib.Omega.{arith}
 use borrow.Author.Needs.{needs}
 use lib.Seq.{length-take-le}
-use Rattle.sender.specs.Calls.{allNumber}
-use Rattle.sender.proofs.Cases as cases
-use Rattle.sender.proofs.PlannedFigures as figures
+use Rattle.sender_rules.specs.Calls.{allNumber}
+use Rattle.sender_rules.proofs.Cases as cases
+use Rattle.sender_rules.proofs.PlannedFigures as figures
 use Rattle.sender.proofs.calls.send_all.Statement.{statement}
 use Rattle.sender.proofs.calls.send_all.Tie as tie
 

@@ -3,9 +3,9 @@ use mathlib.Core.Path.{sym}
 use native.Mathlib.Omega.{arith}
 use borrow.Author.Needs.{needs}
 use lib.Seq.{length-take-le}
-use Rattle.sender.specs.Calls.{sentNumber}
-use Rattle.sender.proofs.Cases as cases
-use Rattle.sender.proofs.PlannedFigures as figures
+use Rattle.sender_rules.specs.Calls.{sentNumber}
+use Rattle.sender_rules.proofs.Cases as cases
+use Rattle.sender_rules.proofs.PlannedFigures as figures
 use Rattle.sender.proofs.calls.send_one.Statement.{statement}
 use Rattle.sender.proofs.calls.send_one.Tie as tie
 

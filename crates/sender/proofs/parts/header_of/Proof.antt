@@ -1,7 +1,7 @@
 -- `header_of` meets its contract: the figures fit the header's fields, and are those of the packet. Assumes nothing.
 use native.Mathlib.Omega.{arith}
 use borrow.Author.Needs.{needs}
-use Rattle.sender.proofs.PlannedFigures as figures
+use Rattle.sender_rules.proofs.PlannedFigures as figures
 use Rattle.sender.proofs.parts.header_of.Statement.{statement}
 use Rattle.sender.proofs.parts.header_of.Tie as tie
 

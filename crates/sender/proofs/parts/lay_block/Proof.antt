@@ -2,8 +2,8 @@
 use mathlib.Core.Path.{_≡_}
 use mathlib.Core.Bool.{true}
 use borrow.Author.Needs.{needs}
-use Rattle.base.proofs.Logic.{clash}
-use Rattle.sender.proofs.Laying.{block-laid}
+use Rattle.base_rules.proofs.Logic.{clash}
+use Rattle.sender_rules.proofs.Laying.{block-laid}
 use Rattle.sender.proofs.parts.lay_block.Statement.{statement}
 use Rattle.sender.proofs.parts.lay_block.Tie as tie
 

@@ -1,6 +1,6 @@
 -- `payload_length` meets its contract: s bytes, or without FEC what is left of the packet where that is less. Assumes nothing.
 use native.Mathlib.Omega.{arith}
-use Rattle.sender.proofs.PayloadPlaces as places
+use Rattle.sender_rules.proofs.PayloadPlaces as places
 use Rattle.sender.proofs.parts.payload_length.Statement.{statement}
 use Rattle.sender.proofs.parts.payload_length.Tie as tie
 

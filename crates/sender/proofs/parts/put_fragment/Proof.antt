@@ -1,6 +1,6 @@
 -- `put_fragment` meets its contract: the header stands at the front, and the payload in the part behind it. Assumes nothing.
 use borrow.Author.Needs.{needs}
-use Rattle.sender.proofs.Laying.{behind-header, room-behind, fragment-laid}
+use Rattle.sender_rules.proofs.Laying.{behind-header, room-behind, fragment-laid}
 use Rattle.sender.proofs.parts.put_fragment.Statement.{statement}
 use Rattle.sender.proofs.parts.put_fragment.Tie as tie
 

@@ -3,10 +3,10 @@ use mathlib.Core.Path.{_≡_}
 use Prim.Native.Nat.{_-_, _*_, _≤_}
 use native.Mathlib.Omega.{arith}
 use borrow.Author.Needs.{needs}
-use Rattle.base.specs.Bytes.{splice}
-use Rattle.sender.specs.Fragments.{fragmentsFrom}
-use Rattle.sender.proofs.PlannedFigures as figures
-use Rattle.sender.proofs.Run as run
+use Rattle.base_rules.specs.Bytes.{splice}
+use Rattle.sender_rules.specs.Fragments.{fragmentsFrom}
+use Rattle.sender_rules.proofs.PlannedFigures as figures
+use Rattle.sender_rules.proofs.Run as run
 use Rattle.sender.proofs.parts.put_fragments.Statement.{statement}
 use Rattle.sender.proofs.parts.put_fragments.Tie as tie
 

@@ -1,8 +1,8 @@
 -- `put_payload` meets its contract: with FEC what is interleaved, without FEC what is copied. Assumes nothing.
 use native.Mathlib.Omega.{arith}
 use borrow.Author.Needs.{needs}
-use Rattle.sender.proofs.Laying.{interleaved, copied}
-use Rattle.sender.proofs.PayloadPlaces.{start-within, ends-plain}
+use Rattle.sender_rules.proofs.Laying.{interleaved, copied}
+use Rattle.sender_rules.proofs.PayloadPlaces.{start-within, ends-plain}
 use Rattle.sender.proofs.parts.put_payload.Statement.{statement}
 use Rattle.sender.proofs.parts.put_payload.Tie as tie
 

@@ -1,8 +1,8 @@
 -- `af_fault` meets its contract, by the answer of the check. Assumes nothing.
 use mathlib.Core.Path.{sym, ap, _∙_}
 use borrow.Author.Needs.{needs}
-use Rattle.af.specs.Calls.{numberOf}
-use Rattle.sender.proofs.Checks.{af-refused, af-granted}
+use Rattle.af_rules.specs.Calls.{numberOf}
+use Rattle.sender_rules.proofs.Checks.{af-refused, af-granted}
 use Rattle.sender.proofs.ready.af_fault.Statement.{statement}
 use Rattle.sender.proofs.ready.af_fault.Tie as tie
 

@@ -1,8 +1,8 @@
 -- `ready` meets its contract: 40, then the AF checks, and then what the plan says. Assumes nothing.
 use mathlib.Core.Path.{sym, _∙_}
 use borrow.Author.Needs.{needs}
-use Rattle.cut.specs.Plan.{numberOf}
-use Rattle.sender.proofs.Checks as checks
+use Rattle.cut_rules.specs.Plan.{numberOf}
+use Rattle.sender_rules.proofs.Checks as checks
 use Rattle.sender.proofs.ready.ready.Statement.{statement}
 use Rattle.sender.proofs.ready.ready.Tie as tie
 

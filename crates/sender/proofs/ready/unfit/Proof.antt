@@ -1,6 +1,6 @@
 -- `unfit` meets its contract, by the plan's answer. Assumes nothing.
 use borrow.Author.Needs.{needs}
-use Rattle.sender.proofs.Checks.{refused-40, cut-no-40}
+use Rattle.sender_rules.proofs.Checks.{refused-40, cut-no-40}
 use Rattle.sender.proofs.ready.unfit.Statement.{statement}
 use Rattle.sender.proofs.ready.unfit.Tie as tie
 

@@ -1,7 +1,7 @@
 -- `walk::names::fault` meets its contract.
 use borrow.Author.Needs.{needs}
 use native.Mathlib.Omega.{arith}
-use Rattle.walk.proofs.ContainerNames.{too-many, cut-short, well-formed}
+use Rattle.walk_rules.proofs.ContainerNames.{too-many, cut-short, well-formed}
 use Rattle.walk.proofs.names.fault.Statement.{statement}
 use Rattle.walk.proofs.names.fault.Tie as tie
 use Rattle.walk.proofs.names.fault.Reads as reads

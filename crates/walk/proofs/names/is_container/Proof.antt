@@ -2,9 +2,9 @@
 use borrow.Author.Needs.{needs}
 use Prim.Native.Nat.{_-_}
 use mathlib.Core.Path.{_≡_, sym, _∙_}
-use Rattle.base.specs.Tests.{among}
-use Rattle.walk.specs.Names.{namesOf}
-use Rattle.walk.proofs.ContainerNames.{isLeft, left-first, left-here, left-next, left-none}
+use Rattle.base_rules.specs.Tests.{among}
+use Rattle.walk_rules.specs.Names.{namesOf}
+use Rattle.walk_rules.proofs.ContainerNames.{isLeft, left-first, left-here, left-next, left-none}
 use Rattle.walk.proofs.names.is_container.Statement.{statement}
 use Rattle.walk.proofs.names.is_container.Tie as tie
 use Rattle.walk.proofs.names.is_container.Reads as reads

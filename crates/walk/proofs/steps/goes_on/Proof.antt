@@ -1,7 +1,7 @@
 -- `walk::steps::goes_on` meets its contract.
 use borrow.Author.Needs.{needs}
 use mathlib.Core.Path.{sym, _∙_}
-use Rattle.walk.proofs.StepCases.{into, behind, behind-deepest}
+use Rattle.walk_rules.proofs.StepCases.{into, behind, behind-deepest}
 use Rattle.walk.proofs.steps.goes_on.Statement.{statement}
 use Rattle.walk.proofs.steps.goes_on.Tie as tie
 use Rattle.walk.proofs.steps.goes_on.Reads as reads

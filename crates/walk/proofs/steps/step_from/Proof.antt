@@ -4,11 +4,11 @@ use native.Mathlib.Omega.{arith}
 use Prim.Native.Nat.{ℕ, _≤_}
 use mathlib.Core.Path.{_≡_, refl, sym, ap, _∙_}
 use denote.Ref.{now}
-use Rattle.item.proofs.Steps.{item-fits}
-use Rattle.item.proofs.Runs.{item-begins}
-use Rattle.walk.specs.Names.{deepest, namesOf}
-use Rattle.walk.specs.Step.{endOf, stepFrom}
-use Rattle.walk.proofs.StepCases.{step-item, step-end, step-up, step-refused}
+use Rattle.item_rules.proofs.Steps.{item-fits}
+use Rattle.item_rules.proofs.Runs.{item-begins}
+use Rattle.walk_rules.specs.Names.{deepest, namesOf}
+use Rattle.walk_rules.specs.Step.{endOf, stepFrom}
+use Rattle.walk_rules.proofs.StepCases.{step-item, step-end, step-up, step-refused}
 use Rattle.walk.proofs.steps.step_from.Statement.{statement}
 use Rattle.walk.proofs.steps.step_from.Tie as tie
 use Rattle.walk.proofs.steps.step_from.Reads as reads

@@ -9,15 +9,15 @@ use mathlib.Core.Logic.{⊎-elim}
 use mathlib.Core.Path.{_≡_, refl, sym, ap, _∙_}
 use lib.Dec.{eqb}
 use lib.ListN.{length, length-replicate}
-use Rattle.base.specs.Tests.{among}
-use Rattle.item.specs.declared.Item.{Item}
-use Rattle.item.specs.Item.{head}
-use Rattle.item.specs.Run.{runOf, firstOf, isBefore, slots}
-use Rattle.item.proofs.Steps.{item-fits}
-use Rattle.item.proofs.Runs.{item-begins, falls as falls-short}
-use Rattle.item.proofs.Seen.{seen-none}
-use Rattle.walk.specs.Names.{deepest, namesOf}
-use Rattle.walk.proofs.Refusals.{own-first, not-whole, too-deep, no-fault, container-whole, no-container, own, contents, no-contents, one-deeper, WalkSeen, walk-ends, walk-refused, walk-turn, walk-stops}
+use Rattle.base_rules.specs.Tests.{among}
+use Rattle.item_rules.specs.declared.Item.{Item}
+use Rattle.item_rules.specs.Item.{head}
+use Rattle.item_rules.specs.Run.{runOf, firstOf, isBefore, slots}
+use Rattle.item_rules.proofs.Steps.{item-fits}
+use Rattle.item_rules.proofs.Runs.{item-begins, falls as falls-short}
+use Rattle.item_rules.proofs.Seen.{seen-none}
+use Rattle.walk_rules.specs.Names.{deepest, namesOf}
+use Rattle.walk_rules.proofs.Refusals.{own-first, not-whole, too-deep, no-fault, container-whole, no-container, own, contents, no-contents, one-deeper, WalkSeen, walk-ends, walk-refused, walk-turn, walk-stops}
 use borrow.Fn.Kinds.{In}
 use borrow.Fn.PlainCycle.{Measures, is, falls, and}
 use Rattle.walk.proofs.whole.walk_item.Reads as walk-item

@@ -1,6 +1,6 @@
 -- `walk::whole::check` meets its contract.
 use borrow.Author.Needs.{needs}
-use Rattle.walk.proofs.Refusals.{list-refused, list-taken}
+use Rattle.walk_rules.proofs.Refusals.{list-refused, list-taken}
 use Rattle.walk.proofs.whole.check.Statement.{statement}
 use Rattle.walk.proofs.whole.check.Tie as tie
 use Rattle.walk.proofs.whole.check.Reads as reads

@@ -2,9 +2,9 @@
 use mathlib.Core.Path.{_≡_, refl, ap, _∙_}
 use Prim.Native.Nat.{ℕ, _+_, _-_, _≤_}
 use native.Mathlib.Omega.{arith}
-use Rattle.base.specs.Bytes.{splice}
-use Rattle.base.specs.Table.{table}
-use Rattle.base.proofs.Tables as tables
+use Rattle.base_rules.specs.Bytes.{splice}
+use Rattle.base_rules.specs.Table.{table}
+use Rattle.base_rules.proofs.Tables as tables
 use Rattle.weave.proofs.rows.blank.Statement.{statement}
 use Rattle.weave.proofs.rows.blank.Tie as tie
 

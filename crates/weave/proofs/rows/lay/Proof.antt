@@ -4,11 +4,11 @@ use mathlib.Core.Path.{_≡_, ap, _∙_, sym}
 use Prim.Native.Nat.{ℕ, _*_, _-_, _≤_}
 use native.Mathlib.Omega.{arith}
 use native.Mathlib.Nat.{zero-mul, mul-comm, mul-le-mul-right}
-use Rattle.base.specs.Bytes.{splice}
-use Rattle.base.specs.Table.{table}
-use Rattle.base.proofs.Tables as tables
-use Rattle.cut.specs.Cells.{cellOf, cellsOf}
-use Rattle.weave.proofs.CallCases.{rows-more}
+use Rattle.base_rules.specs.Bytes.{splice}
+use Rattle.base_rules.specs.Table.{table}
+use Rattle.base_rules.proofs.Tables as tables
+use Rattle.cut_rules.specs.Cells.{cellOf, cellsOf}
+use Rattle.weave_rules.proofs.CallCases.{rows-more}
 use Rattle.weave.proofs.rows.lay.Statement.{statement}
 use Rattle.weave.proofs.rows.lay.Tie as tie
 

@@ -5,11 +5,11 @@ use native.Mathlib.Omega.{arith}
 use native.Mathlib.Nat.{zero-mul, mul-le-mul-right}
 use lib.ListN.{getD}
 use lib.Arith.{digits-lt}
-use Rattle.base.specs.Bytes.{splice}
-use Rattle.base.specs.Table.{table}
-use Rattle.base.proofs.Tables as tables
-use Rattle.cut.specs.Cells.{cellOf}
-use Rattle.cut.proofs.Interleaving.{cell-at}
+use Rattle.base_rules.specs.Bytes.{splice}
+use Rattle.base_rules.specs.Table.{table}
+use Rattle.base_rules.proofs.Tables as tables
+use Rattle.cut_rules.specs.Cells.{cellOf}
+use Rattle.cut_rules.proofs.Interleaving.{cell-at}
 use Rattle.weave.proofs.rows.lay_row.Statement.{statement}
 use Rattle.weave.proofs.rows.lay_row.Tie as tie
 

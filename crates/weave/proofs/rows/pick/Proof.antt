@@ -5,10 +5,10 @@ use Prim.Native.Nat.{ℕ, _+_, _*_, _-_, _≤_}
 use native.Mathlib.Omega.{arith}
 use native.Mathlib.Nat.{mul-zero}
 use lib.ListN.{getD}
-use Rattle.base.specs.Bytes.{splice}
-use Rattle.base.specs.Table.{table}
-use Rattle.base.proofs.Tables as tables
-use Rattle.cut.specs.Cells.{fragmentOf}
+use Rattle.base_rules.specs.Bytes.{splice}
+use Rattle.base_rules.specs.Table.{table}
+use Rattle.base_rules.proofs.Tables as tables
+use Rattle.cut_rules.specs.Cells.{fragmentOf}
 use Rattle.weave.proofs.rows.pick.Statement.{statement}
 use Rattle.weave.proofs.rows.pick.Tie as tie
 

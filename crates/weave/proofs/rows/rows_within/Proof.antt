@@ -3,7 +3,7 @@ use Prim.Native.Nat.{ℕ, _≤_, _<_, _-_}
 use native.Mathlib.Omega.{arith}
 use native.Mathlib.Nat.{div-le-self}
 use borrow.Author.Needs.{needs}
-use Rattle.weave.proofs.CallCases.{row-inside, row-outside}
+use Rattle.weave_rules.proofs.CallCases.{row-inside, row-outside}
 use Rattle.weave.proofs.rows.rows_within.Statement.{statement}
 use Rattle.weave.proofs.rows.rows_within.Tie as tie
 

@@ -1,7 +1,7 @@
 -- `bad_chunk` meets its contract. Assumes nothing.
 use borrow.Author.Needs.{needs}
-use Rattle.base.proofs.ChunkSize.{k-none, k-over, k-fits}
-use Rattle.weave.specs.Calls.{badChunk}
+use Rattle.base_rules.proofs.ChunkSize.{k-none, k-over, k-fits}
+use Rattle.weave_rules.specs.Calls.{badChunk}
 use Rattle.weave.proofs.tally.bad_chunk.Statement.{statement}
 use Rattle.weave.proofs.tally.bad_chunk.Tie as tie
 

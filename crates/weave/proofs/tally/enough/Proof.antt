@@ -5,11 +5,11 @@ use Prim.Native.Nat.{_+_, _*_}
 use native.Mathlib.Omega.{arith}
 use native.Mathlib.Nat.{div-mul-le-self}
 use borrow.Author.Needs.{needs}
-use Rattle.base.specs.Bounds.{parity}
-use Rattle.base.proofs.Logic.{told}
-use Rattle.weave.specs.Calls.{badCount, tooMuch, badChunk}
+use Rattle.base_rules.specs.Bounds.{parity}
+use Rattle.base_rules.proofs.Logic.{told}
+use Rattle.weave_rules.specs.Calls.{badCount, tooMuch, badChunk}
 use Rattle.weave.proofs.tally.enough.Statement.{statement}
-use Rattle.weave.proofs.CallCases as cases
+use Rattle.weave_rules.proofs.CallCases as cases
 use Rattle.weave.proofs.tally.enough.Tie as tie
 
 -- what the branches passed have told

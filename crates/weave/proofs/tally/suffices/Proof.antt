@@ -4,10 +4,10 @@ use Prim.Native.Nat.{ℕ, _+_, _*_, _-_, _≤_, _<_}
 use native.Mathlib.Omega.{arith}
 use native.Mathlib.Nat.{mod-lt, mul-le-mul-right, zero-mul, not-suc-le-zero}
 use borrow.Author.Count.{below-more}
-use Rattle.base.specs.Bounds.{parity, place}
-use Rattle.cut.specs.Missing.{missing}
-use Rattle.weave.specs.Calls.{notKept}
-use Rattle.weave.proofs.PrefixSums.{Sums, reading, reading-le, misses, suffice-read, suffice-fails}
+use Rattle.base_rules.specs.Bounds.{parity, place}
+use Rattle.cut_rules.specs.Missing.{missing}
+use Rattle.weave_rules.specs.Calls.{notKept}
+use Rattle.weave_rules.proofs.PrefixSums.{Sums, reading, reading-le, misses, suffice-read, suffice-fails}
 use Rattle.weave.proofs.tally.suffices.Statement.{statement}
 use Rattle.weave.proofs.tally.suffices.Tie as tie
 

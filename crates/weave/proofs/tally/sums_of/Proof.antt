@@ -4,10 +4,10 @@ use Prim.Native.Nat.{_+_, _-_, _≤_}
 use native.Mathlib.Omega.{arith}
 use borrow.Author.Needs.{needs}
 use lib.ListN.{length, length-set, replicate}
-use Rattle.base.specs.Bounds.{most-f}
-use Rattle.weave.specs.Calls.{notKept}
-use Rattle.cut.specs.Missing.{count}
-use Rattle.weave.proofs.PrefixSums.{Sums, one-more, sums-more, sums-none}
+use Rattle.base_rules.specs.Bounds.{most-f}
+use Rattle.weave_rules.specs.Calls.{notKept}
+use Rattle.cut_rules.specs.Missing.{count}
+use Rattle.weave_rules.proofs.PrefixSums.{Sums, one-more, sums-more, sums-none}
 use Rattle.weave.proofs.tally.sums_of.Statement.{statement}
 use Rattle.weave.proofs.tally.sums_of.Tie as tie
 

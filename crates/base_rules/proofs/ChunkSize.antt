@@ -1,0 +1,31 @@
+-- What the test tells that k is no chunk's size, and when it is false. Assumes nothing.
+use mathlib.Core.Path.{_≡_}
+use mathlib.Core.Bool.{true, false}
+use Prim.Native.Nat.{ℕ, _≤_, _<_}
+use native.Mathlib.Nat.{pos-of-ne-zero}
+use borrow.Author.Tests.{eqb-false, eq-eqb, ne-eqb, ltb-false, lt-ltb, le-ltb}
+use lib.Dec.{eqb}
+use Rattle.base_rules.specs.Bounds.{most-k, badK}
+use Rattle.base_rules.proofs.Logic.{or-left, or-right}
+
+module _ (k : ℕ) where
+  pub k-none : k ≡ 0 → badK k ≡ true
+  unfolding badK
+  k-none e = rw (eq-eqb k 0 e)
+
+  pub k-over : (k ≡ 0 → ⊥) → most-k < k → badK k ≡ true
+  unfolding badK
+  k-over some over = rw (ne-eqb k 0 some, lt-ltb most-k k over)
+
+  pub k-fits : (k ≡ 0 → ⊥) → k ≤ most-k → badK k ≡ false
+  unfolding badK
+  k-fits some few = rw (ne-eqb k 0 some, le-ltb most-k k few)
+
+  module _ (fine : badK k ≡ false) where
+    pub k-some : 0 < k
+    unfolding badK
+    k-some = pos-of-ne-zero (eqb-false _ _ (or-left (eqb k 0) _ fine))
+
+    pub k-most : k ≤ most-k
+    unfolding badK
+    k-most = ltb-false _ _ (or-right (eqb k 0) _ fine)

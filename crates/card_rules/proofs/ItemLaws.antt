@@ -1,0 +1,122 @@
+-- Numbers of eight bytes, and a walk as bytes. Assumes nothing.
+use mathlib.Core.Path.{_≡_, refl, sym, ap, _∙_}
+use mathlib.Core.Bool.{Bool, false, cond}
+use mathlib.Core.List.{List, [], _∷_}
+use Prim.Native.Nat.{ℕ, _+_, _*_}
+use native.Mathlib.Nat.{pos-of-ne-zero}
+use native.Mathlib.Omega.{arith}
+use borrow.Author.Tests.{eq-eqb, ne-eqb}
+use lib.Dec.{eqb, lit<}
+use lib.ListN.{length, getD}
+use Rattle.base_rules.specs.Answer.{granted, refused, outcome}
+use Rattle.base_rules.specs.Bytes.{numberAt, bytesOf}
+use Rattle.base_rules.proofs.Answers.{writes, leaves}
+use Rattle.base_rules.proofs.Firsts.{due, skip, none-due}
+use Rattle.base_rules.proofs.Logic.{same, other}
+use Rattle.walk_rules.specs.declared.Walked.{Walked}
+use Rattle.walk_rules.specs.declared.Walker.{Walker}
+use Rattle.walk_rules.specs.Step.{opens}
+use Rattle.card_rules.specs.Told.{refusalIn, toldIn, inWidths, toldOf, CardTold}
+use Rattle.card_rules.specs.Items.{walker-widths, walker-bytes, walkerBytes, walkerFrom, walkOpenFault, walkOpenCall}
+use Rattle.card_rules.specs.Items.{step-widths, steppedNumber, stepped, walkStepCall, walkerAfter, CardStepped}
+use Rattle.card_rules.proofs.TellLaws.{told-whole}
+use Rattle.card_rules.proofs.ToldLaws.{told-as}
+
+-- ---- numbers
+
+pub eight-read : (s : List ℕ) (i : ℕ) {a b : ℕ} → a ≡ numberAt 4 s i → b ≡ numberAt 4 s (i + 4) → a * 4294967296 + b ≡ numberAt 8 s i
+unfolding numberAt
+eight-read s i p q =
+    let at : (k n : ℕ) → i + 4 + k ≡ i + n → getD s (i + 4 + k) 0 ≡ getD s (i + n) 0 = λ k n e. ap (λ (j : ℕ). getD s j 0) e in
+    omega (arith, at 0 4 (omega arith), at 1 5 (omega arith), at 2 6 (omega arith), at 3 7 (omega arith))
+
+-- ---- a walk as bytes
+
+pub walker-read : (s : List ℕ) {at depth a b c d e : ℕ} → at ≡ numberAt 8 s 0 → depth ≡ numberAt 8 s 8 → a ≡ numberAt 8 s 16 → b ≡ numberAt 8 s 24
+    → c ≡ numberAt 8 s 32 → d ≡ numberAt 8 s 40 → e ≡ numberAt 8 s 48
+    → record { refusal = 0; at = at; depth = depth; ends = a ∷ b ∷ c ∷ d ∷ e ∷ [] } ≡ walkerFrom s
+unfolding walkerFrom
+walker-read s is-at is-depth is-a is-b is-c is-d is-e = rw (is-at, is-depth, is-a, is-b, is-c, is-d, is-e)
+
+-- the ends are five
+pub five : (l : List ℕ) → length l ≡ 5 → l ≡ getD l 0 0 ∷ getD l 1 0 ∷ getD l 2 0 ∷ getD l 3 0 ∷ getD l 4 0 ∷ []
+five (a ∷ b ∷ c ∷ d ∷ e ∷ []) h = refl
+five [] h = absurd (omega arith)
+five (a ∷ []) h = absurd (omega arith)
+five (a ∷ b ∷ []) h = absurd (omega arith)
+five (a ∷ b ∷ c ∷ []) h = absurd (omega arith)
+five (a ∷ b ∷ c ∷ d ∷ []) h = absurd (omega arith)
+five (a ∷ b ∷ c ∷ d ∷ e ∷ f ∷ l) h = absurd (omega arith)
+
+-- its numbers are all of the bytes
+pub walker-laid : (d : List ℕ) (w : Walker) {y : List ℕ} → length d ≡ walker-bytes → length (w .ends) ≡ 5
+    → (let ends = w .ends in
+    y ≡ toldIn d (inWidths walker-widths (w .at ∷ w .depth ∷ getD ends 0 0 ∷ getD ends 1 0 ∷ getD ends 2 0 ∷ getD ends 3 0 ∷ getD ends 4 0 ∷ [])))
+    → y ≡ walkerBytes w
+unfolding walkerBytes inWidths bytesOf
+walker-laid d w long ends told =
+    told ∙ told-whole d _ (sym long) ∙ ap (λ (l : List ℕ). inWidths walker-widths (w .at ∷ w .depth ∷ l)) (sym (five (w .ends) ends))
+
+-- ---- opening a walk
+
+module _ (packet names walker : List ℕ) (w : Walker) (e : w ≡ opens packet names) where
+  is-refusal : w .refusal ≡ opens packet names .refusal
+  is-refusal = ap (λ (x : Walker). x .refusal) e
+
+  pub open-refused : (w .refusal ≡ 0 → ⊥) → outcome (refused (w .refusal)) walker ≡ walkOpenCall packet names walker
+  unfolding walkOpenCall walkOpenFault
+  open-refused h =
+      leaves (w .refusal) _ _ _ _ (pos-of-ne-zero h)
+      (is-refusal ∙ due (opens packet names .refusal) _ (other (λ (z : opens packet names .refusal ≡ 0). h (is-refusal ∙ z))))
+
+  pub open-short : w .refusal ≡ 0 → (length walker ≡ walker-bytes → ⊥) → outcome (refused 1) walker ≡ walkOpenCall packet names walker
+  unfolding walkOpenCall walkOpenFault
+  open-short z h = leaves 1 _ _ _ _ (lit< tt) (skip _ _ (same (sym is-refusal ∙ z)) (due 1 _ (other h)))
+
+  pub open-done : {y : List ℕ} → w .refusal ≡ 0 → length walker ≡ walker-bytes → y ≡ walkerBytes w → outcome (granted []) y ≡ walkOpenCall packet names walker
+  unfolding walkOpenCall walkOpenFault
+  open-done z l is-y = writes _ _ _ _ _ (skip _ _ (same (sym is-refusal ∙ z)) (skip 1 _ (same l) none-due)) (is-y ∙ ap walkerBytes e)
+
+-- ---- a step
+
+-- what is answered where there are the bytes of a walk
+pub answers : (packet names walker : List ℕ) (x : Walked) → length walker ≡ walker-bytes → x ≡ stepped packet names walker
+    → steppedNumber (x .handed) ≡ walkStepCall packet names walker
+unfolding walkStepCall
+answers packet names walker x long is-x =
+    ap (λ (y : Walked). steppedNumber (y .handed)) is-x
+    ∙ sym (ap (λ (b : Bool). cond b (steppedNumber (stepped packet names walker .handed)) (refused 1)) (eq-eqb (length walker) walker-bytes long))
+
+module _ (packet names walker told : List ℕ) where
+  pub step-short : (length walker ≡ walker-bytes → ⊥) → CardStepped packet names walker walker told told 1
+  unfolding walkStepCall walkerAfter refusalIn toldOf
+  step-short h =
+      let no : eqb (length walker) walker-bytes ≡ false = ne-eqb (length walker) walker-bytes h in
+      record { number = rw no refl; tells = rw no refl; goes = rw no refl }
+
+  module _ (x : Walked) (long : length walker ≡ walker-bytes) (is-x : x ≡ stepped packet names walker) where
+    -- where a step goes on, and where it is refused
+    module _ {r : ℕ} {told-after : List ℕ} (said : CardTold step-widths (steppedNumber (x .handed)) told told-after r) where
+      there : CardTold step-widths (walkStepCall packet names walker) told told-after r
+      there = told-as step-widths told (answers packet names walker x long is-x) said
+
+      pub step-on : {y : List ℕ} → r ≡ 0 → y ≡ walkerBytes (x .next) → CardStepped packet names walker y told told-after r
+      unfolding walkerAfter
+      step-on z is-y = record {
+        number = there .number;
+        tells = there .told;
+        goes =
+            is-y ∙ ap (λ (y : Walked). walkerBytes (y .next)) is-x
+            ∙ sym (ap (λ (b : Bool). cond b (walkerBytes (stepped packet names walker .next)) walker)
+            (eq-eqb (refusalIn (walkStepCall packet names walker)) 0 (sym (there .number) ∙ z)));
+      }
+
+      pub step-not : (r ≡ 0 → ⊥) → CardStepped packet names walker walker told told-after r
+      unfolding walkerAfter
+      step-not h = record {
+        number = there .number;
+        tells = there .told;
+        goes =
+            sym (ap (λ (b : Bool). cond b (walkerBytes (stepped packet names walker .next)) walker)
+            (ne-eqb (refusalIn (walkStepCall packet names walker)) 0 (λ (z : refusalIn (walkStepCall packet names walker) ≡ 0). h (there .number ∙ z))));
+      }

@@ -1,0 +1,90 @@
+-- The claims of specs/Claims.antt on what is told of items. Assumes nothing.
+use mathlib.Core.Path.{_≡_, refl, sym, subst}
+use mathlib.Core.Bool.{Bool, true, false, cond}
+use mathlib.Core.List.{List}
+use Prim.Native.Nat.{ℕ, _+_, _^_, _<_, _≤_, min}
+use native.Mathlib.Omega.{arith}
+use borrow.Author.Tests.{eqb-true, eqb-false}
+use lib.Dec.{eqb, lit<}
+use lib.ListN.{length}
+use Rattle.base_rules.specs.Bytes.{Bytes}
+use Rattle.base_rules.proofs.Ceil as ceils
+use Rattle.base_rules.proofs.Logic.{either}
+use Rattle.base_rules.proofs.Numbers.{number-lt}
+use Rattle.item_rules.specs.declared.Found.{Found}
+use Rattle.item_rules.specs.declared.Found.the-variants as found
+use Rattle.item_rules.specs.declared.Item.{Item}
+use Rattle.item_rules.specs.declared.Step.the-variants as step
+use Rattle.item_rules.specs.Item.{bytesFor, itemAt, stepIn}
+use Rattle.item_rules.specs.Run.{firstOf}
+use Rattle.item_rules.proofs.Finds.{found-stands}
+use Rattle.item_rules.proofs.Runs.{item-begins}
+use Rattle.item_rules.proofs.Steps.{item-fits, item-at, end-few}
+use Rattle.tag_rules.specs.declared.Located.the-variants as located
+use Rattle.tag_rules.specs.Find.{wholeRun, checkOf, inPacket, inStanding, locateOf}
+use Rattle.walk_rules.specs.declared.Walked.{Walked}
+use Rattle.walk_rules.specs.Names.{deepest, namesOf}
+use Rattle.walk_rules.specs.Step.{endOf, stepFrom}
+use Rattle.walk_rules.proofs.StepCases.{stays, steps-on}
+use Rattle.card_rules.specs.Claims.{ItemWhole, LocatedWhole, FoundWhole, HandedWhole, StepWhole}
+use Rattle.card_rules.proofs.StepLaws.{by-steps, end-within}
+
+-- ---- an item that stands in a packet
+
+-- a value has no more bytes than bits
+few-bytes : (bits : ℕ) → bits < 2 ^ 32 → bytesFor bits < 2 ^ 32
+unfolding bytesFor
+few-bytes bits small = omega (arith, ceils.near bits 8 (lit< tt))
+
+module _ (s : List ℕ) (bytes : Bytes s) (at end : ℕ) (within : end < 2 ^ 64) (i : Item) (e : stepIn s at end ≡ step.Item i) where
+  stands-whole : ItemWhole i
+  unfolding itemAt
+  stands-whole =
+      let is : itemAt s at ≡ i = sym (item-at s at end i e) in
+      record {
+        name = subst (λ (j : Item). j .name < 2 ^ 32) is (number-lt 4 s at bytes);
+        bits = subst (λ (j : Item). j .bits .0 < 2 ^ 32) is (number-lt 4 s (at + 4) bytes);
+        from = omega (arith, item-fits s at end i e, item-begins s at end i e);
+        len = subst (λ (j : Item). j .len .0 < 2 ^ 32) is (few-bytes _ (number-lt 4 s (at + 4) bytes));
+      }
+
+-- ---- one that is found
+
+found-there : (s : List ℕ) (name : ℕ) → Bytes s → length s < 2 ^ 64 → (i : Item) → firstOf name (wholeRun s) ≡ found.At i → ItemWhole i
+found-there s name bytes long i q =
+    let w = found-stands s name (length s) i 0 q in
+    stands-whole s bytes (w .at) (length s) long i (w .here)
+
+-- by what the checks and the two searches say
+located-whole : (b b′ : Bool) (f g : Found) (n m : ℕ) → ((i : Item) → f ≡ found.At i → ItemWhole i) → ((i : Item) → g ≡ found.At i → ItemWhole i)
+    → LocatedWhole (cond b (cond b′ (inPacket f (inStanding g)) (located.Refused m)) (located.Refused n))
+located-whole true true (found.At i) g n m p q = p i refl
+located-whole true true found.Nothing (found.At i) n m p q = q i refl
+located-whole true true found.Nothing found.Nothing n m p q = tt
+located-whole true false f g n m p q = tt
+located-whole false b′ f g n m p q = tt
+
+pub found-whole : FoundWhole
+unfolding locateOf
+found-whole packet standing name bytes bytes′ long long′ =
+    located-whole (eqb (checkOf packet) 0) (eqb (checkOf standing) 0) (firstOf name (wholeRun packet)) (firstOf name (wholeRun standing))
+    (checkOf packet) (checkOf standing) (found-there packet name bytes long) (found-there standing name bytes′ long′)
+
+-- ---- one that a step hands out
+
+handed-whole : (s cs ends : List ℕ) → Bytes s → length s < 2 ^ 64 → (d at : ℕ) → d ≤ deepest → HandedWhole (stepFrom s cs at d ends .handed)
+handed-whole s cs ends bytes long =
+    by-steps s cs ends (λ (x : Walked). HandedWhole (x .handed)) (λ (at d : ℕ). d ≤ deepest)
+    (λ at d i shallow e. (shallow, stands-whole s bytes at (endOf s ends d) (omega (arith, end-within s ends d)) i e))
+    (λ at p shallow e. end-few s at (endOf s ends 0) p e)
+    (λ at d n shallow e. tt)
+    (λ at d shallow. omega arith)
+
+pub step-whole : StepWhole
+step-whole packet names w bytes long =
+    let P : Walked → Type 0 = λ (x : Walked). HandedWhole (x .handed) in
+    either (eqb (w .refusal) 0)
+    (λ e.
+    subst P (sym (steps-on packet names w (eqb-true (w .refusal) 0 e)))
+    (handed-whole packet (namesOf names) (w .ends) bytes long (min (w .depth) deepest) (w .at) (omega arith)))
+    (λ e. subst P (sym (stays packet names w (eqb-false (w .refusal) 0 e))) tt)

@@ -1,0 +1,55 @@
+-- The claims of specs/Claims.antt, each by citation. Assumes nothing.
+use Rattle.card_rules.specs.Claims.{PlanWhole, LengthWhole, SplitWhole}
+use Rattle.card_rules.specs.Claims.{ZerosFresh, ClearedZeros, OneReceipt, RefusedUnchanged, ReceiptWhole}
+use Rattle.card_rules.specs.Claims.{OneFilling}
+use Rattle.card_rules.specs.Claims.{OpensTyped, StepsTyped, ReadBack, StepNumbers, FoundWhole, StepWhole}
+use Rattle.card_rules.proofs.SendProved as sender
+use Rattle.card_rules.proofs.ReceiveProved as receiver
+use Rattle.card_rules.proofs.FillProved as filler
+use Rattle.card_rules.proofs.WalkProved as walk
+use Rattle.card_rules.proofs.ItemProved as item
+
+pub plan-whole : PlanWhole
+plan-whole = sender.plan-whole
+
+pub length-whole : LengthWhole
+length-whole = sender.length-whole
+
+pub split-whole : SplitWhole
+split-whole = sender.split-whole
+
+pub zeros-fresh : ZerosFresh
+zeros-fresh = receiver.zeros-fresh
+
+pub cleared-zeros : ClearedZeros
+cleared-zeros = receiver.cleared-zeros
+
+pub one-receipt : OneReceipt
+one-receipt = receiver.one-receipt
+
+pub refused-unchanged : RefusedUnchanged
+refused-unchanged = receiver.refused-unchanged
+
+pub receipt-whole : ReceiptWhole
+receipt-whole = receiver.receipt-whole
+
+pub one-filling : OneFilling
+one-filling = filler.one-filling
+
+pub opens-typed : OpensTyped
+opens-typed = walk.opens-typed
+
+pub steps-typed : StepsTyped
+steps-typed = walk.steps-typed
+
+pub read-back : ReadBack
+read-back = walk.read-back
+
+pub step-numbers : StepNumbers
+step-numbers = walk.step-numbers
+
+pub found-whole : FoundWhole
+found-whole = item.found-whole
+
+pub step-whole : StepWhole
+step-whole = item.step-whole

@@ -1,0 +1,147 @@
+-- What is claimed of the calls for C: the proofs are in proofs/Proved.antt.
+use mathlib.Core.Path.{_≡_}
+use mathlib.Core.List.{List, [], _∷_}
+use mathlib.Core.Logic.{_⊎_}
+use Prim.Native.Nat.{ℕ, _^_, _<_, _≤_}
+use lib.ListN.{length, getD, replicate}
+use Rattle.base_rules.specs.Answer.{granted}
+use Rattle.base_rules.specs.Bounds.{most-f, most-l}
+use Rattle.base_rules.specs.Bytes.{Bytes}
+use Rattle.cut_rules.specs.Plan.{planFault, figuresOf}
+use Rattle.cut_rules.specs.declared.Address.{Address}
+use Rattle.cut_rules.specs.declared.Settings.{Settings}
+use Rattle.sender_rules.specs.Calls.{fragmentCall, fragmentsCall}
+use Rattle.packed_rules.specs.Packed.{table-bytes, unpackCall}
+use Rattle.places_rules.specs.Places.{freshTable}
+use Rattle.places_rules.specs.declared.Displaced.{Displaced}
+use Rattle.receiver_rules.specs.Promise.{numberOf, Outcome, State, Step}
+use Rattle.receiver_rules.specs.declared.Received.the-variants.{Delivered}
+use Rattle.item_rules.specs.declared.Item.{Item}
+use Rattle.item_rules.specs.Item.{head}
+use Rattle.tag_rules.specs.declared.Located.{Located}
+use Rattle.tag_rules.specs.declared.Located.the-variants as located
+use Rattle.tag_rules.specs.Find.{locateOf}
+use Rattle.walk_rules.specs.declared.Handed.{Handed}
+use Rattle.walk_rules.specs.declared.Handed.the-variants as handed
+use Rattle.walk_rules.specs.declared.Walker.{Walker}
+use Rattle.walk_rules.specs.Names.{deepest}
+use Rattle.walk_rules.specs.Step.{opens, walkStep}
+use Rattle.card_rules.specs.Told.{refusalIn, answerIn, CardWritten}
+use Rattle.card_rules.specs.Receiving.{Held, CardReceived, clearFor}
+use Rattle.card_rules.specs.Items.{walker-bytes, walkerBytes, walkerFrom, walkStepCall}
+use Rattle.card_rules.specs.Blocks.{CardFilled}
+
+-- ---- the sender: what it tells
+
+-- each number fits two bytes
+pub data InTwo : List ℕ → Type 0 where
+  none : InTwo []
+  more : {x : ℕ} {values : List ℕ} → x < 65536 → InTwo values → InTwo (x ∷ values)
+
+-- clause 7.2: no figure of a plan that is not refused is cut off where it is told in two bytes,
+abbrev pub PlanWhole : Type 0
+PlanWhole = (g : Settings) (l : ℕ) → planFault g l ≡ 0 → InTwo (figuresOf g l)
+
+-- clause 7.3: nor is a fragment's length,
+abbrev pub LengthWhole : Type 0
+LengthWhole =
+    (g : Settings) (number : ℕ) (packet : List ℕ) (i : ℕ) (out values : List ℕ) → answerIn (fragmentCall g number packet i out) ≡ granted values
+    → InTwo values
+
+-- nor a figure of the split of all fragments
+abbrev pub SplitWhole : Type 0
+SplitWhole =
+    (g : Settings) (number : ℕ) (packet out values : List ℕ) → answerIn (fragmentsCall g number packet out) ≡ granted values → InTwo values
+
+-- ---- the receiver
+
+-- card.h, "all zeros for a fresh one": so they are taken,
+abbrev pub ZerosFresh : Type 0
+ZerosFresh = unpackCall (replicate table-bytes 0) ≡ (granted [], freshTable)
+
+-- and so a clearing leaves them
+abbrev pub ClearedZeros : Type 0
+ClearedZeros = (before after : List ℕ) (lent : ℕ) → CardWritten (clearFor before lent) after 0 → after ≡ replicate table-bytes 0
+
+-- document 01, "What a promise has to say here": no second outcome fits the promise of a receiving, neither what is lent after it nor its number
+abbrev pub OneReceipt : Type 0
+OneReceipt =
+    (own : Address) (datagram : List ℕ) (before after after′ : Held) (r r′ : ℕ)
+    → CardReceived own datagram before after r → CardReceived own datagram before after′ r′ → (after ≡ after′) × (r ≡ r′)
+
+-- card.h, "Where the number is neither 0, 13 nor 256, no byte lent is changed": the record too, which is packed again, is the bytes it was
+abbrev pub RefusedUnchanged : Type 0
+RefusedUnchanged =
+    (own : Address) (datagram : List ℕ) (before after : Held) (r : ℕ) → Bytes (before .record-bytes)
+    → CardReceived own datagram before after r → (r ≡ 0 → ⊥) → (r ≡ 13 → ⊥) → after ≡ before
+
+-- card.h, "its length (2), how many of its fragments are not held (2)": at most 8,192 and 256, neither is cut off
+abbrev pub ReceiptWhole : Type 0
+ReceiptWhole =
+    (own : Address) (s : State) (datagram out : List ℕ) (y : Outcome) → Step own s datagram out y
+    → (l m : ℕ) (d : Displaced) → y .answer ≡ numberOf (Delivered l m d)
+    → (l ≤ most-l) × (m ≤ most-f)
+
+-- ---- a filling
+
+-- document 01, "What a promise has to say here": no second answer fits the promise of a filling, neither the block after it nor its number
+abbrev pub OneFilling : Type 0
+OneFilling =
+    (kept : List ℕ) (f s k : ℕ) (block after after′ : List ℕ) (r r′ : ℕ)
+    → CardFilled kept f s k block after r → CardFilled kept f s k block after′ r′ → (after ≡ after′) × (r ≡ r′)
+
+-- ---- a walk: what it keeps between its calls
+
+-- what the code's types say of a walk: five ends, and numbers of 64 bits; and it is not refused
+pub record TypedWalk (w : Walker) : Type 0 where
+  pub unrefused : w .refusal ≡ 0
+  pub five : length (w .ends) ≡ 5
+  pub small : (i : ℕ) → getD (w .at ∷ w .depth ∷ w .ends) i 0 < 2 ^ 64
+
+-- such a walk is opened,
+abbrev pub OpensTyped : Type 0
+OpensTyped = (packet names : List ℕ) → length packet < 2 ^ 64 → opens packet names .refusal ≡ 0 → TypedWalk (opens packet names)
+
+-- and a step leaves one, so that what is said of such a walk holds between any two calls:
+abbrev pub StepsTyped : Type 0
+StepsTyped = (packet names : List ℕ) (w : Walker) → length packet < 2 ^ 64 → TypedWalk w → TypedWalk (walkStep packet names w .next)
+
+-- what a step reads is what the last call wrote
+abbrev pub ReadBack : Type 0
+ReadBack = (w : Walker) → TypedWalk w → walkerFrom (walkerBytes w) ≡ w
+
+-- whatever the 56 bytes are, a step gives 0 or 30
+abbrev pub StepNumbers : Type 0
+StepNumbers = (packet names walker : List ℕ) → length walker ≡ walker-bytes
+    → (refusalIn (walkStepCall packet names walker) ≡ 0) ⊎ (refusalIn (walkStepCall packet names walker) ≡ 30)
+
+-- ---- items: what is told of them
+
+-- no figure of an item is cut off where its name, its bits and its value's bytes are told in four bytes each, and its value's place in eight
+pub record ItemWhole (i : Item) : Type 0 where
+  pub name : i .name < 2 ^ 32
+  pub bits : i .bits .0 < 2 ^ 32
+  pub from : i .from < 2 ^ 64
+  pub len : i .len .0 < 2 ^ 32
+
+-- so it is of an item that was found, wherever,
+abbrev pub LocatedWhole : Located → Type 0
+LocatedWhole (located.Packet i) = ItemWhole i
+LocatedWhole (located.Standing i) = ItemWhole i
+LocatedWhole (located.Refused n) = Unit {0}
+
+-- whatever the two packets are
+abbrev pub FoundWhole : Type 0
+FoundWhole =
+    (packet standing : List ℕ) (name : ℕ) → Bytes packet → Bytes standing → length packet < 2 ^ 64 → length standing < 2 ^ 64
+    → LocatedWhole (locateOf packet standing name)
+
+-- of an item that a step hands out, with its depth; the padding is less than an item's head
+abbrev pub HandedWhole : Handed → Type 0
+HandedWhole (handed.Item v) = (v .depth ≤ deepest) × ItemWhole (v .item)
+HandedWhole (handed.End p) = p .0 < head
+HandedWhole (handed.Refused n) = Unit {0}
+
+-- whatever the walk is
+abbrev pub StepWhole : Type 0
+StepWhole = (packet names : List ℕ) (w : Walker) → Bytes packet → length packet < 2 ^ 64 → HandedWhole (walkStep packet names w .handed)

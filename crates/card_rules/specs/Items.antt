@@ -1,0 +1,87 @@
+-- What the calls for C on a packet's items answer: finding by name, and a walk, which C holds as bytes (document 01, "TAG layer").
+use mathlib.Core.Path.{_≡_}
+use mathlib.Core.Bool.{not, cond}
+use mathlib.Core.List.{List, [], _∷_}
+use Prim.Native.Nat.{ℕ}
+use lib.Dec.{eqb}
+use lib.ListN.{length}
+use Rattle.base_rules.specs.Answer.{Answer, granted, refused, Outcome, settled}
+use Rattle.base_rules.specs.Bytes.{numberAt}
+use Rattle.base_rules.specs.Tests.{first}
+use Rattle.item_rules.specs.Item.{valuesOf}
+use Rattle.walk_rules.specs.declared.Handed.{Handed}
+use Rattle.walk_rules.specs.declared.Handed.the-variants as handed
+use Rattle.walk_rules.specs.declared.Walker.{Walker}
+use Rattle.walk_rules.specs.declared.Walked.{Walked}
+use Rattle.walk_rules.specs.Step.{opens, walkStep}
+use Rattle.card_rules.specs.Told.{refusalIn, inWidths, toldOf}
+
+-- the widths of what finding tells: which packet 1 byte; the name, which was given, none; the bits 4, the value's place 8 and its bytes 4
+abbrev pub found-widths : List ℕ
+found-widths = 1 ∷ 0 ∷ 4 ∷ 8 ∷ 4 ∷ []
+
+-- ---- a walk as bytes
+
+-- its seven numbers have eight bytes each,
+abbrev pub walker-widths : List ℕ
+walker-widths = 8 ∷ 8 ∷ 8 ∷ 8 ∷ 8 ∷ 8 ∷ 8 ∷ []
+
+-- so it takes 56
+abbrev pub walker-bytes : ℕ
+walker-bytes = 56
+
+-- a walk that is not refused: its position, its depth, and where the packets of the five depths end
+unfoldable pub walkerBytes : Walker → List ℕ
+walkerBytes w = inWidths walker-widths (w .at ∷ w .depth ∷ w .ends)
+
+-- the walk that such bytes are
+unfoldable pub walkerFrom : List ℕ → Walker
+walkerFrom s = record {
+  refusal = 0;
+  at = numberAt 8 s 0;
+  depth = numberAt 8 s 8;
+  ends = numberAt 8 s 16 ∷ numberAt 8 s 24 ∷ numberAt 8 s 32 ∷ numberAt 8 s 40 ∷ numberAt 8 s 48 ∷ [];
+}
+
+-- ---- opening one
+
+-- the walk's refusal, and then 1 ROOM where there are not the bytes of a walk
+unfoldable pub walkOpenFault : List ℕ → List ℕ → List ℕ → ℕ
+walkOpenFault packet names walker =
+    first ((not (eqb (opens packet names .refusal) 0), opens packet names .refusal) ∷ (not (eqb (length walker) walker-bytes), 1) ∷ [])
+
+-- what is opened stands in the walk's bytes, which a refusal leaves
+unfoldable pub walkOpenCall : List ℕ → List ℕ → List ℕ → Outcome
+walkOpenCall packet names walker = settled (walkOpenFault packet names walker) [] (walkerBytes (opens packet names)) walker
+
+-- ---- a step
+
+-- what a step tells C: 1 and the item's depth and values; at the end zeros, and the bytes of padding in the place of the value's
+unfoldable pub steppedNumber : Handed → Answer
+steppedNumber (handed.Item v) = granted (1 ∷ v .depth ∷ valuesOf (v .item))
+steppedNumber (handed.End p) = granted (0 ∷ 0 ∷ 0 ∷ 0 ∷ 0 ∷ p .0 ∷ [])
+steppedNumber (handed.Refused n) = refused n
+
+-- the widths of that: 1 byte and 1 of depth, the name 4, the bits 4, the value's place 8 and its bytes 4
+abbrev pub step-widths : List ℕ
+step-widths = 1 ∷ 1 ∷ 4 ∷ 4 ∷ 8 ∷ 4 ∷ []
+
+-- the step of the walk that the bytes are
+abbrev pub stepped : List ℕ → List ℕ → List ℕ → Walked
+stepped packet names walker = walkStep packet names (walkerFrom walker)
+
+-- what is answered: 1 ROOM where there are not the bytes of a walk, else what the step hands out
+unfoldable pub walkStepCall : List ℕ → List ℕ → List ℕ → Answer
+walkStepCall packet names walker =
+    cond (eqb (length walker) walker-bytes) (steppedNumber (stepped packet names walker .handed)) (refused 1)
+
+-- the bytes of the walk afterwards: where it goes on; a refusal leaves them
+unfoldable pub walkerAfter : List ℕ → List ℕ → List ℕ → List ℕ
+walkerAfter packet names walker =
+    cond (eqb (refusalIn (walkStepCall packet names walker)) 0) (walkerBytes (stepped packet names walker .next)) walker
+
+-- a step for C: the number given back, what is told, and the bytes of the walk
+pub record CardStepped (packet names walker walker-after told told-after : List ℕ) (r : ℕ) : Type 0 where
+  pub number : r ≡ refusalIn (walkStepCall packet names walker)
+  pub tells : told-after ≡ toldOf step-widths (walkStepCall packet names walker) told
+  pub goes : walker-after ≡ walkerAfter packet names walker

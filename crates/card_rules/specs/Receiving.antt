@@ -1,0 +1,114 @@
+-- What the receiver's calls for C answer: their answers as numbers, and what C holds for them as bytes (document 01, "The four places").
+use mathlib.Core.Path.{_≡_}
+use mathlib.Core.Bool.{cond}
+use mathlib.Core.List.{List, [], _∷_, _++_}
+use Prim.Native.Nat.{ℕ}
+use lib.Dec.{eqb}
+use Rattle.base_rules.specs.Answer.{Answer, granted, refused, answered, Outcome, settled}
+use Rattle.base_rules.specs.Answer as answers
+use Rattle.base_rules.specs.Bounds.{most-l}
+use Rattle.cut_rules.specs.declared.Address.{Address}
+use Rattle.places_rules.specs.declared.Place.{Place}
+use Rattle.places_rules.specs.declared.Table.{Table}
+use Rattle.places_rules.specs.declared.Displaced.{Displaced}
+use Rattle.places_rules.specs.declared.Displaced.the-variants.{None, Number}
+use Rattle.places_rules.specs.Places.{free, open-now, delivered, spoiled, freshTable, placeAt}
+use Rattle.packed_rules.specs.Packed.{packedOf, tableFrom, unpackFault}
+use Rattle.receiver_rules.specs.Promise.{numberOf, outcome, roomFault, Step}
+use Rattle.receiver_rules.specs.declared.Received.{Received}
+use Rattle.receiver_rules.specs.declared.Received.the-variants.{Kept, Delivered, Damaged, Refused}
+use Rattle.receiver_rules.specs.declared.Seen.{Seen}
+use Rattle.receiver_rules.specs.declared.Seen.the-variants as seen
+use Rattle.receiver_rules.specs.declared.Shown.{Shown}
+use Rattle.receiver_rules.specs.declared.Queried.{Queried}
+use Rattle.receiver_rules.specs.declared.Queried.the-variants as queried
+use Rattle.card_rules.specs.Told.{toldIn, inWidths}
+
+-- ---- the record in its bytes
+
+-- what is no record is refused, before anything else is looked at, with the number that unpacking gives it, 1 or 14; else the call goes on
+-- with the record
+unfoldable pub onRecord {ℓ} : {A : Type ℓ} → List ℕ → (ℕ → A) → (Table → A) → A
+onRecord bytes refusal call = cond (eqb (unpackFault bytes) 0) (call (tableFrom bytes)) (refusal (unpackFault bytes))
+
+-- ---- query
+
+-- what is told of a place: its condition, and its packet's number, 0 where it is free
+unfoldable pub placeTold : Place → List ℕ
+placeTold p = p .condition ∷ cond (eqb (p .condition) free) 0 (p .number) ∷ []
+
+-- that of all four places,
+unfoldable pub placesTold : Table → List ℕ
+placesTold t = placeTold (placeAt t 0) ++ placeTold (placeAt t 1) ++ placeTold (placeAt t 2) ++ placeTold (placeAt t 3)
+
+-- and the bytes that each figure takes
+abbrev pub places-widths : List ℕ
+places-widths = 1 ∷ 2 ∷ 1 ∷ 2 ∷ 1 ∷ 2 ∷ 1 ∷ 2 ∷ []
+
+-- the query's answer: what is no record is refused; then "query and clearing check 14, then 1"
+unfoldable pub queryFor : List ℕ → ℕ → Answer
+queryFor bytes lent = onRecord bytes refused (λ t. answered (roomFault t lent most-l) (placesTold t))
+
+-- what is told of a place that `query` shows
+unfoldable pub seenTold : Seen → List ℕ
+seenTold seen.Free = free ∷ 0 ∷ []
+seenTold (seen.Open n) = open-now ∷ n ∷ []
+seenTold (seen.Delivered n) = delivered ∷ n ∷ []
+seenTold (seen.Spoiled n) = spoiled ∷ n ∷ []
+
+-- that of all four
+unfoldable pub shownTold : Shown → List ℕ
+shownTold p = seenTold (p .first) ++ seenTold (p .second) ++ seenTold (p .third) ++ seenTold (p .fourth)
+
+-- the answer of `query` with what is told of it
+unfoldable pub queriedIn : Queried → Answer
+queriedIn (queried.Places p) = granted (shownTold p)
+queriedIn (queried.Refused n) = refused n
+
+-- ---- clear
+
+-- the clearing's answer, and the record's bytes after it: refused as a query is, else a fresh record
+unfoldable pub clearFor : List ℕ → ℕ → Outcome
+clearFor bytes lent = onRecord bytes (λ n. answers.outcome (refused n) bytes) (λ t. settled (roomFault t lent most-l) [] (packedOf freshTable) bytes)
+
+-- ---- receive
+
+-- the displaced number: 1 and it, or zeros
+unfoldable pub displacedTold : Displaced → List ℕ
+displacedTold None = 0 ∷ 0 ∷ []
+displacedTold (Number n) = 1 ∷ n ∷ []
+
+-- what an answer tells: 1 where a packet was handed out, its length, the count of fragments not held, the displaced number;
+unfoldable pub receiptTold : ℕ → ℕ → ℕ → Displaced → List ℕ
+receiptTold handed length missing d = handed ∷ length ∷ missing ∷ displacedTold d
+
+-- in these widths
+abbrev pub receipt-widths : List ℕ
+receipt-widths = 1 ∷ 2 ∷ 2 ∷ 1 ∷ 2 ∷ []
+
+-- what stands afterwards in the bytes lent for what is told: that of the answer, where it has place; a refused datagram tells nothing
+unfoldable pub toldAfter : Received → List ℕ → List ℕ
+toldAfter (Kept d) before = toldIn before (inWidths receipt-widths (receiptTold 0 0 0 d))
+toldAfter (Delivered length missing d) before = toldIn before (inWidths receipt-widths (receiptTold 1 length missing d))
+toldAfter (Damaged d) before = toldIn before (inWidths receipt-widths (receiptTold 0 0 0 d))
+toldAfter (Refused n) before = before
+
+-- what C lends and gets back: the packed record, the lent bytes, the bytes told, the packet buffer
+pub record Held : Type 0 where
+  pub record-bytes : List ℕ
+  pub lent : List ℕ
+  pub told : List ℕ
+  pub out : List ℕ
+
+-- with the record t `receive` meets its promise; the record that it leaves is packed, its answer is told, and r is the answer's number
+pub record ReceivedWith (own : Address) (datagram : List ℕ) (before after : Held) (r : ℕ) (t : Table) : Type 0 where
+  pub answer : Received
+  pub table : Table
+  pub step : Step own (record { table = t; bytes = before .lent }) datagram (before .out) (outcome answer table (after .lent) (after .out))
+  pub packed : after .record-bytes ≡ packedOf table
+  pub told : after .told ≡ toldAfter answer (before .told)
+  pub number : r ≡ numberOf answer .0
+
+-- the call was answered with the number r: what is no record is refused, and nothing is changed; else as above with the record in the bytes
+unfoldable pub CardReceived : Address → List ℕ → Held → Held → ℕ → Type 0
+CardReceived own datagram before after r = onRecord (before .record-bytes) (λ n. (r ≡ n) × (after ≡ before)) (ReceivedWith own datagram before after r)

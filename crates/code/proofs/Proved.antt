@@ -1,6 +1,0 @@
--- The claim of specs/Claims.antt, by citation. Assumes nothing.
-use Rattle.code.specs.Claims.{R4}
-use Rattle.code.proofs.Only.{one-chunk-filled, one-block-filled}
-
-pub r4 : R4
-r4 = record { chunk = one-chunk-filled; block = one-block-filled }

@@ -1,0 +1,89 @@
+-- C2, C3 and C6 at the settings: the sizes of a cut that is not refused, and the losses that it bears. Assumes nothing.
+use mathlib.Core.Path.{_≡_, ap}
+use mathlib.Core.Bool.{Bool, true}
+use Prim.Native.Nat.{ℕ, zero, suc, _+_, _-_, _*_, _≤_, _<_}
+use native.Mathlib.Nat.{le-mul-of-pos-right}
+use native.Mathlib.Omega.{arith}
+use lib.Dec.{lit≤}
+use Rattle.base_rules.specs.Bounds.{least-l, most-m, parity}
+use Rattle.base_rules.specs.Round.{ceil}
+use Rattle.cut_rules.specs.Sizes.{c, k, n, divisor, S, L, f, s, assured, receivedC}
+use Rattle.cut_rules.specs.Missing.{losses, missing}
+use Rattle.cut_rules.specs.Claims.{Sized}
+use Rattle.cut_rules.specs.declared.Settings.{Settings}
+use Rattle.cut_rules.proofs.ChunkSizes as chunk
+use Rattle.cut_rules.proofs.FragmentSizes as fragment
+use Rattle.cut_rules.proofs.LossCounts as loss
+use Rattle.cut_rules.proofs.PlanCases.{Fit, fitted, Within, by-m, S-both, S-some, L-fec, L-some, L-most}
+
+module _ (g : Settings) (l : ℕ) (in-bounds : Within g l) where
+  some : 0 < l
+  some = omega (arith, in-bounds .from)
+
+  S>0 : 0 < S g l
+  S>0 = S-some g l (fitted g (in-bounds .ok)) (in-bounds .from)
+
+  L>0 : 0 < L g l
+  L>0 = L-some g l (in-bounds .from)
+
+  pub f-some : 0 < f g l
+  unfolding f
+  f-some = fragment.f-some (L g l) (S g l) L>0 S>0
+
+  pub s-some : 0 < s g l
+  unfolding f s
+  s-some = fragment.s-some (L g l) (S g l) L>0 S>0
+
+  pub sized : Sized g l
+  unfolding f s
+  sized =
+      record {
+        k-least = chunk.k-some l some;
+        k-most = chunk.k-most l some;
+        z-less = chunk.z-less l some;
+        chunks = chunk.filled l some;
+        s-most = fragment.s-most (L g l) (S g l) L>0 S>0;
+        all-held = fragment.holds (L g l) (S g l) L>0 S>0;
+        last-held = fragment.before-last (L g l) (S g l) L>0 S>0;
+        placed = omega (arith, fragment.over (L g l) (S g l) L>0 S>0, in-bounds .few, L-most g l (in-bounds .from) (in-bounds .to));
+      }
+
+  pub same-c : g .fec ≡ true → receivedC (f g l) (s g l) (k l) ≡ c l
+  unfolding receivedC f s n
+  same-c fec =
+      rw (L-fec g l fec) (fragment.c-same (c l) (n l) (S g l) (chunk.c-some l some) (omega (arith, chunk.n-least l some)) S>0 (omega (arith, chunk.c-most l (in-bounds .to), chunk.n-least l some)))
+
+-- ---- the losses
+
+-- m times 48 / (m + 1) rounded up is at most 48
+shares : (m : ℕ) → m ≤ most-m → m * ceil parity (m + 1) ≤ parity
+unfolding ceil
+shares zero h = lit≤ tt
+shares (suc zero) h = lit≤ tt
+shares (suc (suc zero)) h = lit≤ tt
+shares (suc (suc (suc zero))) h = lit≤ tt
+shares (suc (suc (suc (suc zero)))) h = lit≤ tt
+shares (suc (suc (suc (suc (suc zero))))) h = lit≤ tt
+shares (suc (suc (suc (suc (suc (suc m)))))) h = absurd (omega arith)
+
+-- a fragment has at most t bytes of a chunk, and so many times t is at most 48
+Thin : Settings → ℕ → Type 0
+Thin g l = (t : ℕ) × (S g l ≤ c l * t) × (assured g l * t ≤ parity)
+
+each-bears : (g : Settings) (l : ℕ) → Fit g → least-l ≤ l → Thin g l
+unfolding Thin assured divisor
+each-bears g l ok from =
+    by-m (Thin g l) (g .m)
+    (λ (none : g .m ≡ 0).
+    (S g l, omega (arith, le-mul-of-pos-right (S g l) (chunk.c-some l (omega arith))), omega (arith, ap (λ (x : ℕ). x * S g l) none)))
+    (λ (more : g .m ≡ 0 → ⊥).
+    (ceil parity (g .m + 1), loss.thin (c l) (g .m + 1) (S g l) (omega arith) (omega (arith, S-both g l more)), shares (g .m) (ok .m-most)))
+
+pub bears : (g : Settings) (l : ℕ) → Within g l → g .fec ≡ true
+    → (lost : ℕ → Bool) → losses lost (f g l) ≤ assured g l → (j : ℕ) → missing lost (f g l) (n l) j ≤ parity
+unfolding f Thin
+bears g l in-bounds fec =
+    let l>0 : 0 < l = omega (arith, in-bounds .from) in
+    let n>0 : 0 < n l = omega (arith, chunk.n-least l l>0) in
+    let t = each-bears g l (fitted g (in-bounds .ok)) (in-bounds .from) in
+    rw (L-fec g l fec) (loss.borne (c l) (n l) (S g l) (t .0) (assured g l) (chunk.c-some l l>0) n>0 (S>0 g l in-bounds) (t .1) (t .2))

@@ -1,0 +1,93 @@
+-- The claims of specs/Claims.antt, each by citation. Assumes nothing.
+use mathlib.Core.Path.{_≡_, refl, ap}
+use mathlib.Core.Bool.{Bool, false}
+use mathlib.Core.List.{List, map}
+use Prim.Native.Nat.{ℕ, _+_, _-_, _*_, _≤_, _<_}
+use native.Mathlib.Nat.{mul-le-mul-right}
+use native.Mathlib.Omega.{arith}
+use lib.ListN.{length}
+use Rattle.base_rules.specs.Bounds.{parity}
+use Rattle.base_rules.specs.Round.{ceil}
+use Rattle.cut_rules.specs.Claims.{Taken, C2, C3, C4, C5, C6, AnyThree, NoFour, Parted}
+use Rattle.cut_rules.specs.Edge.{Row, rows, fec}
+use Rattle.cut_rules.specs.Missing.{losses, missing, worst}
+use Rattle.cut_rules.specs.Sizes as size
+use Rattle.cut_rules.specs.declared.Settings.{Settings}
+use Rattle.cut_rules.proofs.Bearing as bearing
+use Rattle.cut_rules.proofs.Blocks.{window}
+use Rattle.cut_rules.proofs.Interleaving.{woven, joined, part-byte, length-part}
+use Rattle.cut_rules.proofs.LossCounts.{most, fewest, firsts-lost, firsts-take, worst-more}
+use Rattle.cut_rules.proofs.PlanCases.{within, L-plain}
+use Rattle.cut_rules.proofs.Sufficing.{suffice-from, suffice-no}
+
+pub c2 : C2
+c2 g l taken = bearing.sized g l (within g l taken)
+
+pub c3 : C3
+c3 g l taken = bearing.same-c g l (within g l taken)
+
+-- the fragments without FEC
+parted : (g : Settings) (packet : List ℕ) → Taken g (length packet) → g .fec ≡ false
+    → Parted packet (size.f g (length packet)) (size.s g (length packet))
+parted g packet taken plain =
+    let l : ℕ = length packet in
+    let f : ℕ = size.f g l in
+    let s : ℕ = size.s g l in
+    let in-bounds = within g l taken in
+    let sure = bearing.sized g l in-bounds in
+    let cut = L-plain g l plain in
+    let some = bearing.f-some g l in-bounds in
+    record {
+      byte = λ q. part-byte packet s q (bearing.s-some g l in-bounds);
+      full = λ i (h : i + 1 < f).
+          let far : (i + 1) * s ≤ (f - 1) * s = mul-le-mul-right s (omega arith) in
+          omega (arith, far, length-part packet s i, sure .last-held, cut);
+      last = λ i (e : i + 1 ≡ f).
+          let here : i * s ≡ (f - 1) * s = ap (λ (x : ℕ). x * s) (omega arith) in
+          let full = bearing.s-some g l in-bounds in
+          (omega (arith, here, length-part packet s i, sure .last-held, cut), omega (arith, length-part packet s i));
+    }
+
+pub c4 : C4
+c4 =
+    record {
+      woven = λ f s some. woven f s some;
+      joined = λ block f s q some h. joined f s some block q h;
+      windows = window;
+      parted = parted;
+    }
+
+pub c5 : C5
+unfolding missing
+c5 n f some =
+    ((λ lost j. most lost f some (j * n) n), (λ w few. (firsts-lost n f w some few, firsts-take n f w some few)))
+
+pub c6 : C6
+c6 g l taken with-fec lost few =
+    let all = bearing.bears g l (within g l taken) with-fec lost few in
+    (all, suffice-from lost (size.f g l) (size.n l) (size.c l) (λ j h. all j))
+
+-- ---- document 01's edge
+
+pub edge-rows : map (λ (r : Row). r .gives) rows ≡ map (λ (r : Row). r .says) rows
+unfolding rows ceil size.c size.k size.z size.n size.addressBytes size.h size.divisor size.S size.L size.f size.s
+edge-rows = refl
+
+-- at l 415 and m 2 there are chunks of 187 bytes in 12 fragments
+cut-415 : (size.f (fec 2) 415 ≡ 12) × (size.n 415 ≡ 187) × (size.c 415 ≡ 3)
+unfolding ceil size.c size.k size.n size.addressBytes size.h size.divisor size.S size.L size.f
+cut-415 = (refl, refl, refl)
+
+three : (lost : ℕ → Bool) → losses lost 12 ≤ 3 → (j : ℕ) → missing lost 12 187 j ≤ parity
+unfolding missing worst
+three lost few j = omega (arith, most lost 12 (omega arith) (j * 187) 187, worst-more 187 12 (losses lost 12) 3 few)
+
+four : (lost : ℕ → Bool) → 4 ≤ losses lost 12 → (j : ℕ) → parity < missing lost 12 187 j
+unfolding missing
+four lost many j = omega (arith, fewest lost 12 (omega arith) (j * 187) 187)
+
+pub any-three : AnyThree
+any-three lost = rw (cut-415 .0, cut-415 .1, cut-415 .2) (λ few. suffice-from lost 12 187 3 (λ j h. three lost few j))
+
+pub no-four : NoFour
+no-four lost = rw (cut-415 .0, cut-415 .1, cut-415 .2) (λ many. suffice-no lost 12 187 3 0 (omega arith) (four lost many 0))

@@ -1,0 +1,88 @@
+-- The theorems of the cut, C2 to C6, as they can be held against document 01. Each is proved in proofs/Proved.antt.
+use mathlib.Core.Path.{_≡_}
+use mathlib.Core.Bool.{Bool, true, false}
+use mathlib.Core.List.{List}
+use Prim.Native.Nat.{ℕ, _+_, _-_, _*_, _/_, _%_, _≤_, _<_}
+use lib.ListN.{length, getD, take, drop}
+use Rattle.base_rules.specs.Bounds.{most-k, place, parity}
+use Rattle.cut_rules.specs.Block.{chunkOf, wordOf, blockOf}
+use Rattle.cut_rules.specs.Cells.{fragmentOf, cellOf, partOf}
+use Rattle.cut_rules.specs.Edge.{fec}
+use Rattle.cut_rules.specs.Missing.{losses, missing, suffice, worst, firsts}
+use Rattle.cut_rules.specs.Plan.{planFault}
+use Rattle.cut_rules.specs.Sizes.{c, k, z, n, S, L, f, s, assured, receivedC}
+use Rattle.cut_rules.specs.declared.Settings.{Settings}
+
+-- a cut of l bytes at g that is not refused
+abbrev pub Taken : Settings → ℕ → Type 0
+Taken g l = planFault g l ≡ 0
+
+-- C2: the sizes fit together, and all fragments fit a place
+pub record Sized (g : Settings) (l : ℕ) : Type 0 where
+  pub k-least : 1 ≤ k l
+  pub k-most : k l ≤ most-k
+  pub z-less : z l < k l
+  pub chunks : c l * k l ≡ l + z l
+  pub s-most : s g l ≤ S g l
+  pub all-held : L g l ≤ f g l * s g l
+  pub last-held : (f g l - 1) * s g l < L g l
+  pub placed : f g l * s g l ≤ place
+
+-- they do for all settings and lengths that a plan takes
+abbrev pub C2 : Type 0
+C2 = (g : Settings) (l : ℕ) → Taken g l → Sized g l
+
+-- C3: "The receiver takes c = floor(fs / n). Within these bounds that equals the sender's c"
+abbrev pub C3 : Type 0
+C3 = (g : Settings) (l : ℕ) → Taken g l → g .fec ≡ true → receivedC (f g l) (s g l) (k l) ≡ c l
+
+-- C4: cells and fragments are one to one,
+pub record Woven (f s : ℕ) : Type 0 where
+  pub fragment : (q : ℕ) → q < f * s → q % f < f
+  pub offset : (q : ℕ) → q < f * s → q / f < s
+  pub cell : (q : ℕ) → q < f * s → q % f + f * (q / f) ≡ q
+  pub back : (i t : ℕ) → i < f → t < s → (i + f * t < f * s) × ((i + f * t) % f ≡ i) × ((i + f * t) / f ≡ t)
+
+-- byte q of the block stands in fragment q mod f at floor(q / f); so a place that holds that fragment has the byte in cell q,
+pub record Joined (block : List ℕ) (f s q : ℕ) : Type 0 where
+  pub byte : getD (fragmentOf block f s (q % f)) (q / f) 0 ≡ getD block q 0
+  pub held : (place : List ℕ) → take s (drop (q % f * s) place) ≡ fragmentOf block f s (q % f) → cellOf place f s q ≡ getD block q 0
+
+-- and the n cells of chunk j are the chunk and its parity
+abbrev pub Windows : Type 0
+Windows = (parityOf : List ℕ → List ℕ) (k : ℕ) → ((xs : List ℕ) → length xs ≡ k → length (parityOf xs) ≡ parity)
+    → (xs : List ℕ) (c j : ℕ) → c * k ≤ length xs → j < c
+    → take (k + parity) (drop (j * (k + parity)) (blockOf parityOf xs k c)) ≡ wordOf parityOf (chunkOf xs k j)
+
+-- without FEC byte q stands in fragment floor(q / s) at q mod s; each has s bytes, and the last 1 to s
+pub record Parted (packet : List ℕ) (f s : ℕ) : Type 0 where
+  pub byte : (q : ℕ) → getD (partOf packet s (q / s)) (q % s) 0 ≡ getD packet q 0
+  pub full : (i : ℕ) → i + 1 < f → length (partOf packet s i) ≡ s
+  pub last : (i : ℕ) → i + 1 ≡ f → (1 ≤ length (partOf packet s i)) × (length (partOf packet s i) ≤ s)
+
+-- C4: cells, fragments, chunks and parts go together, for every block and packet
+pub record C4 : Type 0 where
+  pub woven : (f s : ℕ) → 0 < f → Woven f s
+  pub joined : (block : List ℕ) (f s q : ℕ) → 0 < f → q < f * s → Joined block f s q
+  pub windows : Windows
+  pub parted : (g : Settings) (packet : List ℕ) → Taken g (length packet) → g .fec ≡ false
+      → Parted packet (f g (length packet)) (s g (length packet))
+
+-- C5: any w lost fragments take at most w (n div f) + min(w, n mod f) bytes of any chunk; the first w take that of chunk 0
+abbrev pub C5 : Type 0
+C5 = (n f : ℕ) → 0 < f
+    → ((lost : ℕ → Bool) (j : ℕ) → missing lost f n j ≤ worst n f (losses lost f))
+    × ((w : ℕ) → w ≤ f → (losses (firsts w) f ≡ w) × (missing (firsts w) f n 0 ≡ worst n f w))
+
+-- C6: "A sender set for m losses, 1 to 5, always leaves enough after any m"
+abbrev pub C6 : Type 0
+C6 = (g : Settings) (l : ℕ) → Taken g l → g .fec ≡ true → (lost : ℕ → Bool) → losses lost (f g l) ≤ assured g l
+    → ((j : ℕ) → missing lost (f g l) (n l) j ≤ parity) × (suffice lost (f g l) (n l) (c l) ≡ true)
+
+-- l 415, m 2: "Any three lost still rebuild, no four do"
+abbrev pub AnyThree : Type 0
+AnyThree = (lost : ℕ → Bool) → losses lost (f (fec 2) 415) ≤ 3 → suffice lost (f (fec 2) 415) (n 415) (c 415) ≡ true
+
+-- "no four do"
+abbrev pub NoFour : Type 0
+NoFour = (lost : ℕ → Bool) → 4 ≤ losses lost (f (fec 2) 415) → suffice lost (f (fec 2) 415) (n 415) (c 415) ≡ false

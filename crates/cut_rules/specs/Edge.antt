@@ -1,0 +1,46 @@
+-- Document 01, "On each side of the edge": the starred rows of sizes, as one table.
+use mathlib.Core.Bool.{true, false}
+use mathlib.Core.List.{List, [], _∷_}
+use Prim.Native.Nat.{ℕ, _-_, _*_}
+use Rattle.cut_rules.specs.Plan.{houseOf}
+use Rattle.cut_rules.specs.Sizes as size
+use Rattle.cut_rules.specs.declared.Address.the-variants.{None}
+use Rattle.cut_rules.specs.declared.Settings.{Settings}
+
+-- what the definitions give, and what the document says
+pub record Row : Type 0 where
+  pub gives : List ℕ
+  pub says : List ℕ
+
+-- a row of the table
+abbrev pub row : List ℕ → List ℕ → Row
+row a b = record { gives = a; says = b }
+
+-- MTU 1,400 without address: FEC at m
+abbrev pub fec : ℕ → Settings
+fec m = record { fec = true; m = m; mtu = 1400; address = None }
+
+-- the same without FEC
+abbrev pub plain : Settings
+plain = record { fec = false; m = 0; mtu = 1400; address = None }
+
+-- document 01, "On each side of the edge": the starred rows of sizes
+unfoldable pub rows : List Row
+rows =
+    -- l 207: c 1, k 207, z 0
+    row (size.c 207 ∷ size.k 207 ∷ size.z 207 ∷ []) (1 ∷ 207 ∷ 0 ∷ [])
+    -- l 208: c 2, k 104, z 0
+    ∷ row (size.c 208 ∷ size.k 208 ∷ size.z 208 ∷ []) (2 ∷ 104 ∷ 0 ∷ [])
+    -- l 12: c 1, k 12
+    ∷ row (size.c 12 ∷ size.k 12 ∷ []) (1 ∷ 12 ∷ [])
+    -- l 414, FEC, m 5, MTU 1,400: f 32, s 16
+    ∷ row (size.f (fec 5) 414 ∷ size.s (fec 5) 414 ∷ []) (32 ∷ 16 ∷ [])
+    -- l 415, m 2: c 3, k 139, z 2, f 12, s 47; 3 zero cells
+    ∷ row (size.c 415 ∷ size.k 415 ∷ size.z 415 ∷ size.f (fec 2) 415 ∷ size.s (fec 2) 415 ∷ []) (3 ∷ 139 ∷ 2 ∷ 12 ∷ 47 ∷ [])
+    ∷ row ((size.f (fec 2) 415 * size.s (fec 2) 415 - size.L (fec 2) 415) ∷ []) (3 ∷ [])
+    -- l 8,192, default: c 40, k 205, z 8, f 16, s 633
+    ∷ row (size.c 8192 ∷ size.k 8192 ∷ size.z 8192 ∷ size.f houseOf 8192 ∷ size.s houseOf 8192 ∷ []) (40 ∷ 205 ∷ 8 ∷ 16 ∷ 633 ∷ [])
+    -- no FEC, MTU 1,400: l 1,386 gives f 1; 1,387 gives f 2, s 694, last 693
+    ∷ row (size.f plain 1386 ∷ []) (1 ∷ [])
+    ∷ row (size.f plain 1387 ∷ size.s plain 1387 ∷ (1387 - (size.f plain 1387 - 1) * size.s plain 1387) ∷ []) (2 ∷ 694 ∷ 693 ∷ [])
+    ∷ []

@@ -1,0 +1,30 @@
+-- The claim of specs/Claims.antt. Assumes nothing.
+use Prim.Native.Nat.{ℕ}
+use mathlib.Core.Path.{_≡_, ap}
+use Rattle.item_rules.specs.declared.Item.{Item}
+use Rattle.item_rules.specs.declared.Step.the-variants as step
+use Rattle.item_rules.specs.Item.{valuesOf, numberOf}
+use Rattle.item_rules.specs.Claims.{OneStep}
+
+-- an item is what it tells
+abbrev made : ℕ → ℕ → ℕ → ℕ → Item
+made name bits from len = record { name = name; bits = record { 0 = bits }; from = from; len = record { 0 = len } }
+
+same : (n n′ b b′ f f′ l l′ : ℕ) → n ≡ n′ → b ≡ b′ → f ≡ f′ → l ≡ l′ → made n b f l ≡ made n′ b′ f′ l′
+same n n′ b b′ f f′ l l′ p q r s = cc
+
+one-item : (i j : Item) → valuesOf i ≡ valuesOf j → i ≡ j
+one-item i j e =
+    same (i .name) (j .name) (i .bits .0) (j .bits .0) (i .from) (j .from) (i .len .0) (j .len .0) (cc) (cc) (cc) (cc)
+
+pub one-step : OneStep
+unfolding numberOf
+one-step (step.Item i) (step.Item j) e = ap step.Item (one-item i j (cc))
+one-step (step.Item i) (step.End q) e = cc
+one-step (step.Item i) (step.Refused m) e = cc
+one-step (step.End p) (step.Item j) e = cc
+one-step (step.End p) (step.End q) e = ap (λ (n : ℕ). step.End (record { 0 = n })) (let z : p .0 ≡ q .0 = cc in z)
+one-step (step.End p) (step.Refused m) e = cc
+one-step (step.Refused n) (step.Item j) e = cc
+one-step (step.Refused n) (step.End q) e = cc
+one-step (step.Refused n) (step.Refused m) e = cc

@@ -1,0 +1,82 @@
+-- A packet is a run of items (document 01, "TAG layer"): what is found in it, and when an item is at fault.
+use mathlib.Core.Bool.{Bool, false, cond, not, _&&_}
+use mathlib.Core.List.{List, [], _∷_}
+use Prim.Native.Nat.{ℕ, zero, suc, _+_, _-_}
+use lib.Dec.{ltb, eqb}
+use Rattle.base_rules.specs.Tests.{first, among}
+use Rattle.item_rules.specs.declared.Item.{Item}
+use Rattle.item_rules.specs.declared.Step.{Step}
+use Rattle.item_rules.specs.declared.Step.the-variants as step
+use Rattle.item_rules.specs.declared.Found.{Found}
+use Rattle.item_rules.specs.declared.Found.the-variants as found
+use Rattle.item_rules.specs.Item.{stepIn}
+
+-- items, one after another, and how they end: with so many bytes of padding, or at an item that is refused
+pub data Run : Type 0 where
+  item : Item → Run → Run
+  padding : ℕ → Run
+  refused : ℕ → Run
+
+-- the byte after an item
+abbrev pub nextOf : Item → ℕ
+nextOf i = i .from + i .len .0
+
+-- what is made of an item, of padding, of a refusal
+abbrev pub onStep : {A : Type 0} → Step → (Item → A) → (ℕ → A) → (ℕ → A) → A
+onStep (step.Item i) f e r = f i
+onStep (step.End p) f e r = e (p .0)
+onStep (step.Refused n) f e r = r n
+
+-- the run of s from `at` to `end`, in at most so many steps
+unfoldable pub runIn : ℕ → List ℕ → ℕ → ℕ → Run
+runIn zero s at end = padding 0
+runIn (suc steps) s at end = onStep (stepIn s at end) (λ i. item i (runIn steps s (nextOf i) end)) padding refused
+
+-- the same in as many steps as there are bytes: each takes 8 or more of them, but the last
+unfoldable pub runOf : List ℕ → ℕ → ℕ → Run
+runOf s at end = runIn (end - at) s at end
+
+-- the first item of that name
+unfoldable pub firstOf : ℕ → Run → Found
+firstOf name (item i r) = cond (eqb (i .name) name) (found.At i) (firstOf name r)
+firstOf name (padding n) = found.Nothing
+firstOf name (refused n) = found.Nothing
+
+-- document 01: "*dmy" is filler
+abbrev pub dmy : ℕ
+dmy = 0x2A646D79
+
+-- document 01: "*ptr"
+abbrev pub ptr : ℕ
+ptr = 0x2A707472
+
+-- "has exactly 64 bits"
+abbrev pub ptr-bits : ℕ
+ptr-bits = 64
+
+-- document 01: a "*ptr" whose bits are not 64
+unfoldable pub badPtr : ℕ → ℕ → Bool
+badPtr name bits = eqb name ptr && not (eqb bits ptr-bits)
+
+-- document 01: an item's own fault, where its name has stood before or not: 31 TWICE for a name but "*dmy", 33 PTR
+unfoldable pub faultOf : Bool → Item → ℕ
+faultOf before i = first ((not (eqb (i .name) dmy) && before, 31) ∷ (badPtr (i .name) (i .bits .0), 33) ∷ [])
+
+-- the first number, or where it is 0 the second
+abbrev pub orElse : ℕ → ℕ → ℕ
+orElse m n = cond (eqb m 0) n m
+
+-- document 01: the number of the leftmost item at fault, after items of the names seen; 0 where none is
+unfoldable pub faultsOf : List ℕ → Run → ℕ
+faultsOf seen (item i r) = orElse (faultOf (among (i .name) seen) i) (faultsOf (i .name ∷ seen) r)
+faultsOf seen (padding n) = 0
+faultsOf seen (refused n) = n
+
+-- whether what was found stands before `at`
+abbrev pub isBefore : Found → ℕ → Bool
+isBefore (found.At j) at = ltb (j .from) at
+isBefore found.Nothing at = false
+
+-- the slots of the marks by which a name is known not to have stood before
+abbrev pub slots : ℕ
+slots = 4093

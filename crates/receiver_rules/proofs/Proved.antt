@@ -1,0 +1,38 @@
+-- The claims of specs/Claims.antt, each by citation. Assumes nothing.
+use mathlib.Core.Path.{_∙_}
+use Rattle.header_rules.specs.Read.{fieldsOf}
+use Rattle.receiver_rules.specs.declared.Received.the-variants.{Kept, Delivered, Damaged}
+use Rattle.receiver_rules.specs.Promise.{payloadOf}
+use Rattle.receiver_rules.specs.Claims.{SomeOutcome, OneOutcome, OneReceived, OneQueried, Refusing, Untouched, DeliveryWrites, CountTold}
+use Rattle.receiver_rules.proofs.Unique.{received-one, queried-one, outcome-one}
+use Rattle.receiver_rules.proofs.Exists.{outcome-some}
+use Rattle.receiver_rules.proofs.Left.{keeps-length, refusing, left-by}
+
+pub some-outcome : SomeOutcome
+some-outcome own s datagram out = outcome-some own s datagram out
+
+pub one-outcome : OneOutcome
+one-outcome own s datagram out y z p q = outcome-one own s datagram out y z p q
+
+pub one-received : OneReceived
+one-received a b e = received-one a b e
+
+pub one-queried : OneQueried
+one-queried a b e = queried-one a b e
+
+pub refuses : Refusing
+refuses own s datagram out y step n e some = refusing own s datagram out y step n e some
+
+pub untouched : Untouched
+untouched own s datagram out y step d = (
+  left-by own s datagram out y step (Kept d),
+  λ q.
+      let l = left-by own s datagram out y step (Damaged d) q in
+      (l .0, l .1, l .2, λ size. l .3 (keeps-length (s .table) (fieldsOf datagram) (s .bytes) (payloadOf datagram) ∙ size)),
+)
+
+pub delivery-writes : DeliveryWrites
+delivery-writes own s datagram out y step l m d q = left-by own s datagram out y step (Delivered l m d) q .0
+
+pub count-told : CountTold
+count-told own s datagram out y step l m d q = let r = left-by own s datagram out y step (Delivered l m d) q in (r .1, r .2)

@@ -1,0 +1,59 @@
+-- What is handed out or found lies in its packet. Assumes nothing.
+use Prim.Native.Nat.{ℕ, _≤_}
+use mathlib.Core.List.{List}
+use mathlib.Core.Path.{_≡_, refl, _∙_}
+use mathlib.Core.Bool.{Bool, true, false, cond}
+use native.Mathlib.Omega.{arith}
+use lib.Dec.{eqb}
+use lib.ListN.{length, drop, length-drop}
+use lib.Seq.{length-take-le}
+use Rattle.item_rules.specs.declared.Item.{Item}
+use Rattle.item_rules.specs.declared.Step.the-variants as step
+use Rattle.item_rules.specs.declared.Found.{Found}
+use Rattle.item_rules.specs.declared.Found.the-variants as found
+use Rattle.item_rules.specs.Item.{stepIn, itemAt, bytesFor}
+use Rattle.item_rules.specs.Run.{nextOf, firstOf}
+use Rattle.item_rules.proofs.Steps.{item-fits, item-at, zero-one}
+use Rattle.item_rules.proofs.Runs.{item-begins}
+use Rattle.item_rules.proofs.Finds.{found-stands}
+use Rattle.tag_rules.specs.declared.Located.the-variants as located
+use Rattle.tag_rules.specs.Find.{wholeRun, checkOf, inPacket, inStanding, locateOf, valueOf}
+use Rattle.tag_rules.specs.Claims.{Shown, FoundShown}
+
+-- an item that stands in a packet
+pub shown : (s : List ℕ) (at : ℕ) (i : Item) → stepIn s at (length s) ≡ step.Item i → Shown s i
+unfolding valueOf itemAt
+shown s at i e =
+    let fits : nextOf i ≤ length s = omega (arith, item-begins _ _ _ _ e, item-fits _ _ _ _ e) in
+    let sized : i .len .0 ≡ bytesFor (i .bits .0) = rw (item-at s at (length s) i e) refl in
+    record { inside = fits; whole = length-take-le (i .len .0) (drop (i .from) s) (omega (arith, length-drop (i .from) s)) ∙ sized }
+
+-- one that a search by name finds
+found-shown : (s : List ℕ) (name : ℕ) (i : Item) → firstOf name (wholeRun s) ≡ found.At i → Shown s i
+found-shown s name i q = let w = found-stands s name (length s) i 0 q in shown s (w .at) i (w .here)
+
+-- where it is found, by what the checks and the two searches say
+packet-by : (b b′ : Bool) (f g : Found) (n m : ℕ) (i : Item)
+    → cond b (cond b′ (inPacket f (inStanding g)) (located.Refused m)) (located.Refused n) ≡ located.Packet i → f ≡ found.At i
+packet-by true true (found.At j) g n m i q = cc
+packet-by true true found.Nothing (found.At j) n m i q = absurd (zero-one (cc))
+packet-by true true found.Nothing found.Nothing n m i q = absurd (zero-one (cc))
+packet-by true false f g n m i q = absurd (zero-one (cc))
+packet-by false b′ f g n m i q = absurd (zero-one (cc))
+
+standing-by : (b b′ : Bool) (f g : Found) (n m : ℕ) (i : Item)
+    → cond b (cond b′ (inPacket f (inStanding g)) (located.Refused m)) (located.Refused n) ≡ located.Standing i → g ≡ found.At i
+standing-by true true (found.At j) g n m i q = absurd (zero-one (cc))
+standing-by true true found.Nothing (found.At j) n m i q = cc
+standing-by true true found.Nothing found.Nothing n m i q = absurd (zero-one (cc))
+standing-by true false f g n m i q = absurd (zero-one (cc))
+standing-by false b′ f g n m i q = absurd (zero-one (cc))
+
+pub found-in : FoundShown
+unfolding locateOf
+found-in s t name i =
+    let f : Found = firstOf name (wholeRun s) in
+    let g : Found = firstOf name (wholeRun t) in
+    let in-packet = packet-by (eqb (checkOf s) 0) (eqb (checkOf t) 0) f g (checkOf s) (checkOf t) i in
+    let in-standing = standing-by (eqb (checkOf s) 0) (eqb (checkOf t) 0) f g (checkOf s) (checkOf t) i in
+    ((λ q. found-shown s name i (in-packet q)), (λ q. found-shown t name i (in-standing q)))

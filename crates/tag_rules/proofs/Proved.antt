@@ -1,0 +1,94 @@
+-- The claims of specs/Claims.antt, each by citation. Assumes nothing.
+use Prim.Native.Nat.{ℕ, zero, suc}
+use mathlib.Core.Path.{_≡_, refl, sym, ap, _∙_}
+use mathlib.Core.List.{[], _∷_}
+use native.Mathlib.Nat.{le-refl}
+use lib.Dec.{eqb}
+use lib.ListN.{take, replicate}
+use borrow.Author.Tests.{eqb-true, eqb-false}
+use Rattle.base_rules.specs.Answer.{granted, answered}
+use Rattle.base_rules.proofs.Logic.{either}
+use Rattle.item_rules.specs.declared.Item.{Item}
+use Rattle.item_rules.specs.declared.Step.{Step}
+use Rattle.item_rules.specs.declared.Step.the-variants as step
+use Rattle.item_rules.specs.Item.{valuesOf, numberOf}
+use Rattle.item_rules.proofs.Proved.{one-step}
+use Rattle.tag_rules.specs.declared.Located.the-variants as located
+use Rattle.tag_rules.specs.declared.Opened.{Opened}
+use Rattle.tag_rules.specs.declared.Opened.the-variants as opened
+use Rattle.tag_rules.specs.declared.Sought.the-variants as sought
+use Rattle.tag_rules.specs.Find.{checkOf}
+use Rattle.tag_rules.specs.Calls.{openedNumber, openCall, soughtNumber, locatedNumber, readOf}
+use Rattle.tag_rules.specs.Reading.{startOf, refusalOf, checkedRun, itemsOf, lastOf}
+use Rattle.tag_rules.specs.Claims.{OneOpened, OneSought, OneLocated, Opens, InOrder, Ends, StaysAtEnd, StaysRefused, ReadShown, FoundShown}
+use Rattle.tag_rules.proofs.Reading.{handed-stands, after-is, refused-reads, refused-after}
+use Rattle.tag_rules.proofs.HandedOut.{stays, repeats, hands-run}
+use Rattle.tag_rules.proofs.Endings as endings
+use Rattle.tag_rules.proofs.Inside as inside
+
+pub one-opened : OneOpened
+unfolding openedNumber
+one-opened (opened.At a) (opened.At b) e = cc
+one-opened (opened.At a) (opened.Refused m) e = cc
+one-opened (opened.Refused n) (opened.At b) e = cc
+one-opened (opened.Refused n) (opened.Refused m) e = cc
+
+pub one-sought : OneSought
+unfolding soughtNumber
+one-sought (sought.Found a) (sought.Found b) e = ap (λ (n : ℕ). sought.Found (record { 0 = n })) (let z : a .0 ≡ b .0 = cc in z)
+one-sought (sought.Found a) (sought.Refused m) e = cc
+one-sought (sought.Refused n) (sought.Found b) e = cc
+one-sought (sought.Refused n) (sought.Refused m) e = cc
+
+-- an item is what it tells
+one-item : (i j : Item) → valuesOf i ≡ valuesOf j → i ≡ j
+unfolding numberOf
+one-item i j e = let steps : step.Item i ≡ step.Item j = one-step (step.Item i) (step.Item j) (ap granted e) in cc
+
+pub one-located : OneLocated
+unfolding locatedNumber
+one-located (located.Packet i) (located.Packet j) e = ap located.Packet (one-item i j (cc))
+one-located (located.Packet i) (located.Standing j) e = cc
+one-located (located.Packet i) (located.Refused m) e = cc
+one-located (located.Standing i) (located.Packet j) e = cc
+one-located (located.Standing i) (located.Standing j) e = ap located.Standing (one-item i j (cc))
+one-located (located.Standing i) (located.Refused m) e = cc
+one-located (located.Refused n) (located.Packet j) e = cc
+one-located (located.Refused n) (located.Standing j) e = cc
+one-located (located.Refused n) (located.Refused m) e = cc
+
+-- what a check says, and what an opening then is
+opens-by : (n : ℕ) (o : Opened) → openedNumber o ≡ answered n (0 ∷ []) → (startOf o ≡ 0) × (refusalOf o ≡ n)
+unfolding openedNumber answered
+opens-by zero (opened.At at) e = (cc, refl)
+opens-by zero (opened.Refused m) e = (refl, cc)
+opens-by (suc n) (opened.At at) e = (cc, cc)
+opens-by (suc n) (opened.Refused m) e = (refl, cc)
+
+pub opens : Opens
+unfolding openCall
+opens s o e = opens-by (checkOf s) o e
+
+pub in-order : InOrder
+unfolding checkedRun itemsOf lastOf
+in-order s n =
+    either (eqb (checkOf s) 0) (λ q. rw (q, eqb-true (checkOf s) 0 q) (hands-run s n 0))
+    (λ q. rw q (repeats s 0 (checkOf s) (refused-after s 0 (checkOf s) (eqb-false (checkOf s) 0 q)) n n (le-refl n)
+    ∙ ap (λ (u : Step). take n (replicate n u)) (refused-reads s 0 (checkOf s) (eqb-false (checkOf s) 0 q))))
+
+pub ends : Ends
+ends = endings.ends
+
+pub stays-at-end : StaysAtEnd
+stays-at-end s at refusal p e = stays s at refusal (sym (after-is s at refusal (step.End p) e))
+
+pub stays-refused : StaysRefused
+stays-refused s at refusal h n =
+    let still = stays s at refusal (refused-after s at refusal h) n in
+    (still, ap (λ (b : ℕ). readOf s b refusal) still ∙ refused-reads s at refusal h)
+
+pub read-shown : ReadShown
+read-shown s at refusal i e = inside.shown s at i (handed-stands s at refusal i e)
+
+pub found-shown : FoundShown
+found-shown = inside.found-in

@@ -1,0 +1,60 @@
+-- What the calls on a packet answer; document 01, "Numbers given back", has the numbers.
+use mathlib.Core.Bool.{cond}
+use mathlib.Core.List.{List, [], _∷_}
+use Prim.Native.Nat.{ℕ}
+use lib.Dec.{eqb}
+use lib.ListN.{length}
+use Rattle.base_rules.specs.Answer.{Answer, granted, refused, answered}
+use Rattle.item_rules.specs.declared.Step.{Step}
+use Rattle.item_rules.specs.declared.Step.the-variants as step
+use Rattle.item_rules.specs.Item.{stepIn, valuesOf}
+use Rattle.item_rules.specs.Run.{nextOf, onStep}
+use Rattle.tag_rules.specs.declared.Located.{Located}
+use Rattle.tag_rules.specs.declared.Located.the-variants as located
+use Rattle.tag_rules.specs.declared.Opened.{Opened}
+use Rattle.tag_rules.specs.declared.Opened.the-variants as opened
+use Rattle.tag_rules.specs.declared.Sought.{Sought}
+use Rattle.tag_rules.specs.declared.Sought.the-variants as sought
+use Rattle.tag_rules.specs.Find.{checkOf, locateOf}
+
+-- document 01's number and values for each case: a reader opens at a position
+unfoldable pub openedNumber : Opened → Answer
+openedNumber (opened.At at) = granted (at ∷ [])
+openedNumber (opened.Refused n) = refused n
+
+-- document 01: opening checks the whole packet before the first item is handed out; a reader begins at 0
+unfoldable pub openCall : List ℕ → Answer
+openCall s = answered (checkOf s) (0 ∷ [])
+
+-- document 01: what a reader at a position hands out; `refusal` is the number with which its packet was refused, 0 for none
+unfoldable pub readOf : List ℕ → ℕ → ℕ → Step
+readOf s at refusal = cond (eqb refusal 0) (stepIn s at (length s)) (step.Refused refusal)
+
+-- document 01: where it stands then: behind the item; at the end, or refused, it stays
+unfoldable pub afterOf : List ℕ → ℕ → ℕ → ℕ
+afterOf s at refusal = onStep (readOf s at refusal) nextOf (λ p. at) (λ n. at)
+
+-- document 01's number and values for each case: the bits of the item found
+unfoldable pub soughtNumber : Sought → Answer
+soughtNumber (sought.Found bits) = granted (bits .0 ∷ [])
+soughtNumber (sought.Refused n) = refused n
+
+-- document 01: what a search answers, wherever it finds the name
+unfoldable pub searchAnswer : Located → Answer
+searchAnswer (located.Packet i) = granted (i .bits .0 ∷ [])
+searchAnswer (located.Standing i) = granted (i .bits .0 ∷ [])
+searchAnswer (located.Refused n) = refused n
+
+-- what a search is answered: the packet first, then the standing packet
+unfoldable pub searchCall : List ℕ → List ℕ → ℕ → Answer
+searchCall s t name = searchAnswer (locateOf s t name)
+
+-- document 01's number and values for each case: 0 for the packet and 1 for the standing packet, and what the item there tells
+unfoldable pub locatedNumber : Located → Answer
+locatedNumber (located.Packet i) = granted (0 ∷ valuesOf i)
+locatedNumber (located.Standing i) = granted (1 ∷ valuesOf i)
+locatedNumber (located.Refused n) = refused n
+
+-- document 01: where a name is, as number and values
+unfoldable pub locateCall : List ℕ → List ℕ → ℕ → Answer
+locateCall s t name = locatedNumber (locateOf s t name)

@@ -1,0 +1,19 @@
+-- The claims of specs/Claims.antt, each by citation. Assumes nothing.
+use mathlib.Core.Path.{ap, sym, _∙_}
+use Rattle.text_rules.specs.Claims.{Decimal, Hex, numberFrom, bytesIn}
+use Rattle.text_rules.proofs.Digits.{decimal-back, decimal-front, hex-back}
+
+pub decimal : Decimal
+decimal =
+    record {
+      back = decimal-back;
+      one = λ x y e. sym (decimal-back x) ∙ ap (numberFrom 0) e ∙ decimal-back y;
+      front = decimal-front;
+    }
+
+pub hex : Hex
+hex =
+    record {
+      back = hex-back;
+      one = λ s t e. sym (hex-back s) ∙ ap bytesIn e ∙ hex-back t;
+    }

@@ -1,0 +1,34 @@
+-- Texts are read back, so no two numbers and no two runs of bytes have the same text. Proved in proofs/Proved.antt.
+use mathlib.Core.Path.{_≡_}
+use mathlib.Core.Bool.{cond}
+use mathlib.Core.List.{List, [], _∷_}
+use Prim.Native.Nat.{ℕ, _+_, _-_, _*_, _<_}
+use lib.Dec.{ltb}
+use lib.ListN.{getD}
+use Rattle.text_rules.specs.Text.{decimalOf, hexOf}
+
+-- the number that decimal digits say behind a number x that was read before them
+unfoldable pub numberFrom : ℕ → List ℕ → ℕ
+numberFrom x [] = x
+numberFrom x (a ∷ t) = numberFrom (x * 10 + (a - 48)) t
+
+-- what a letter of `0` to `9` and `a` to `f` says
+unfoldable pub digitIn : ℕ → ℕ
+digitIn a = cond (ltb a 97) (a - 48) (a - 87)
+
+-- the bytes that hex digits say, two digits a byte
+unfoldable pub bytesIn : List ℕ → List ℕ
+bytesIn [] = []
+bytesIn (a ∷ []) = []
+bytesIn (a ∷ b ∷ t) = (digitIn a * 16 + digitIn b) ∷ bytesIn t
+
+-- the digits of a number are read back, so no two numbers have the same; no number but 0 has a `0` in front
+pub record Decimal : Type 0 where
+  pub back : (x : ℕ) → numberFrom 0 (decimalOf x) ≡ x
+  pub one : (x y : ℕ) → decimalOf x ≡ decimalOf y → x ≡ y
+  pub front : (x : ℕ) → 0 < x → 48 < getD (decimalOf x) 0 0
+
+-- bytes in hex are read back, so no two runs of bytes have the same
+pub record Hex : Type 0 where
+  pub back : (s : List ℕ) → bytesIn (hexOf s) ≡ s
+  pub one : (s t : List ℕ) → hexOf s ≡ hexOf t → s ≡ t

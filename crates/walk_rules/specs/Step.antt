@@ -1,0 +1,58 @@
+-- The step walk: the same items, handed out one after another.
+use mathlib.Core.Bool.{cond, _&&_}
+use mathlib.Core.List.{List, [], _∷_}
+use Prim.Native.Nat.{ℕ, zero, suc, _+_, min}
+use lib.Dec.{eqb, ltb}
+use lib.ListN.{length, getD, set}
+use Rattle.base_rules.specs.Answer.{Answer, granted, refused}
+use Rattle.base_rules.specs.Tests.{among}
+use Rattle.item_rules.specs.declared.Item.{Item}
+use Rattle.item_rules.specs.Item.{stepIn, valuesOf}
+use Rattle.item_rules.specs.Run.{nextOf, onStep}
+use Rattle.walk_rules.specs.declared.Handed.{Handed}
+use Rattle.walk_rules.specs.declared.Handed.the-variants as handed
+use Rattle.walk_rules.specs.declared.Walker.{Walker}
+use Rattle.walk_rules.specs.declared.Walked.{Walked}
+use Rattle.walk_rules.specs.Names.{deepest, namesOf}
+use Rattle.walk_rules.specs.Walk.{refusal, walkOf}
+
+-- document 01's number and values for each case: an item has its depth first
+unfoldable pub handedNumber : Handed → Answer
+handedNumber (handed.Item v) = granted (v .depth ∷ valuesOf (v .item))
+handedNumber (handed.End p) = granted (p .0 ∷ [])
+handedNumber (handed.Refused n) = refused n
+
+-- document 01: opening a walk checks the whole packet; the walk begins at the outer packet's start, or is refused
+unfoldable pub opens : List ℕ → List ℕ → Walker
+opens s l = record { refusal = refusal (walkOf s l); at = 0; depth = 0; ends = length s ∷ 0 ∷ 0 ∷ 0 ∷ 0 ∷ [] }
+
+-- where a walk goes on after an item at depth d: in a container's value, or behind the item
+unfoldable pub goesOn : List ℕ → ℕ → List ℕ → Item → Walker
+goesOn cs d ends i =
+    cond (ltb d deepest && among (i .name) cs)
+    (record { refusal = 0; at = i .from; depth = d + 1; ends = set ends (d + 1) (nextOf i) })
+    (record { refusal = 0; at = nextOf i; depth = d; ends = ends })
+
+-- the end of the packet of depth d, within s
+unfoldable pub endOf : List ℕ → List ℕ → ℕ → ℕ
+endOf s ends d = min (getD ends d 0) (length s)
+
+-- what is handed out at `at`, at depth d, and where the walk then stands; at the end of an inner packet it goes on behind the container
+unfoldable pub stepFrom : List ℕ → List ℕ → ℕ → ℕ → List ℕ → Walked
+stepFrom s cs at zero ends =
+    onStep (stepIn s at (endOf s ends 0))
+    (λ i. record { handed = handed.Item (record { depth = 0; item = i }); next = goesOn cs 0 ends i })
+    (λ p. record { handed = handed.End (record { 0 = p }); next = record { refusal = 0; at = at; depth = 0; ends = ends } })
+    (λ n. record { handed = handed.Refused n; next = record { refusal = 0; at = at; depth = 0; ends = ends } })
+stepFrom s cs at (suc d) ends =
+    onStep (stepIn s at (endOf s ends (suc d)))
+    (λ i. record { handed = handed.Item (record { depth = suc d; item = i }); next = goesOn cs (suc d) ends i })
+    (λ p. stepFrom s cs (endOf s ends (suc d)) d ends)
+    (λ n. record { handed = handed.Refused n; next = record { refusal = 0; at = at; depth = suc d; ends = ends } })
+
+-- a step: a walk that was refused answers its number and stays
+unfoldable pub walkStep : List ℕ → List ℕ → Walker → Walked
+walkStep s l w =
+    cond (eqb (w .refusal) 0)
+    (stepFrom s (namesOf l) (w .at) (min (w .depth) deepest) (w .ends))
+    (record { handed = handed.Refused (w .refusal); next = w })

@@ -1,0 +1,53 @@
+-- The theorems of writing, W1 to W3, as they can be held against document 01. Each is proved in proofs/Proved.antt.
+use mathlib.Core.Path.{_≡_}
+use mathlib.Core.Bool.{false}
+use mathlib.Core.List.{List, [], _∷_, _++_}
+use Prim.Native.Nat.{ℕ, _+_, _-_, _%_, _^_, _≤_, _<_}
+use lib.ListN.{length, getD, take, drop}
+use Rattle.item_rules.specs.Item.{head, bytesFor, stepIn}
+use Rattle.item_rules.specs.declared.Step.the-variants as step
+use Rattle.base_rules.specs.Answer.{granted}
+use Rattle.base_rules.specs.Tests.{among}
+use Rattle.tag_rules.specs.Find.{checkOf, locateOf, shownBy}
+use Rattle.tag_rules.specs.Calls.{openCall, searchCall}
+use Rattle.write_rules.specs.Write.{unusedOf, trimmed, itemBytes}
+use Rattle.write_rules.specs.Packet.{Entry, packetOf, namesOf, AllFit, Apart}
+
+-- W1: what stands at `at` in s is an item of that name, those bits and that value
+pub record ReadAs (s : List ℕ) (at end name bits : ℕ) (value : List ℕ) : Type 0 where
+  pub item : stepIn s at end
+      ≡ step.Item (record { name = name; bits = record { 0 = bits }; from = at + head; len = record { 0 = bytesFor bits } })
+  pub bytes : take (bytesFor bits) (drop (at + head) s) ≡ value
+
+-- an item written anywhere reads as itself
+abbrev pub ReadsBack : Type 0
+ReadsBack = (pre rest : List ℕ) (end name bits : ℕ) (v : List ℕ) → name < 2 ^ 32 → bits < 2 ^ 32 → length v ≡ bytesFor bits
+    → length pre + (head + bytesFor bits) ≤ end
+    → ReadAs (pre ++ (itemBytes name bits v ++ rest)) (length pre) end name bits (trimmed bits v)
+
+-- W2: a packet of written items opens,
+abbrev pub Opens : Type 0
+Opens = (es : List Entry) (pad : List ℕ) → AllFit es → Apart es → length pad ≤ 7 → openCall (packetOf es pad) ≡ granted (0 ∷ [])
+
+-- and the first item that was written under a name is found under it: the search answers its bits, and its value is shown
+pub record FoundAs (p standing : List ℕ) (e : Entry) : Type 0 where
+  pub bits : searchCall p standing (e .name) ≡ granted (e .bits ∷ [])
+  pub value : shownBy p standing (locateOf p standing (e .name)) ≡ trimmed (e .bits) (e .value)
+
+-- whatever standing packet is lent beside it, if that has no item at fault
+abbrev pub Finds : Type 0
+Finds = (before after : List Entry) (e : Entry) (pad standing : List ℕ) → AllFit (before ++ (e ∷ after)) → Apart (before ++ (e ∷ after))
+    → length pad ≤ 7 → checkOf standing ≡ 0 → among (e .name) (namesOf before) ≡ false
+    → FoundAs (packetOf (before ++ (e ∷ after)) pad) standing e
+
+-- W3: "Unused low bits of the last byte: the sender writes zeros": it is a multiple of their power of two,
+abbrev pub UnusedZero : Type 0
+UnusedZero = (bits : ℕ) (v : List ℕ) → getD (trimmed bits v) (length (trimmed bits v) - 1) 0 % 2 ^ unusedOf bits ≡ 0
+
+-- to write zeros again changes nothing,
+abbrev pub TrimmedOnce : Type 0
+TrimmedOnce = (bits : ℕ) (v : List ℕ) → trimmed bits (trimmed bits v) ≡ trimmed bits v
+
+-- and a value of whole bytes is written as it is
+abbrev pub WholeKept : Type 0
+WholeKept = (bits : ℕ) (v : List ℕ) → bits % 8 ≡ 0 → trimmed bits v ≡ v
