@@ -128,7 +128,8 @@ module _ (s : List ℕ) where
       → p .len ≡ lenOf s → numberOf (Packet p) ≡ checkCall s
   unfolding checkCall numberOf
   check-granted p ar e is-seq is-cf is-ar is-minor is-len =
-      let values : p .seq ∷ bit (p .cf) ∷ p .minor ∷ p .len ∷ [] ≡ seqOf s ∷ bit (cfOf s) ∷ minorOf s ∷ lenOf s ∷ [] = simp (is-seq, is-cf, is-minor, is-ar, is-len) in
+      let values : p .seq ∷ bit (p .cf) ∷ p .minor ∷ p .len ∷ [] ≡ seqOf s ∷ bit (cfOf s) ∷ minorOf s ∷ lenOf s ∷ [] = simp
+      (is-seq, is-cf, is-minor, is-ar, is-len) in
       ap granted values ∙ grants (afFault s) _ e
 
 -- no second answer fits

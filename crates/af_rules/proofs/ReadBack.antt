@@ -13,7 +13,8 @@ use Rattle.base_rules.specs.Bytes.{Bytes, numberAt, bytesOf}
 use Rattle.base_rules.proofs.ByteLaws.{bytes-append}
 use Rattle.base_rules.proofs.Numbers.{length-bytes, back-at}
 use Rattle.crc_rules.proofs.Over.{word-lt}
-use Rattle.af_rules.specs.Packet.{sync, packetType, major, minor, headerBytes, crcBytes, most-payload, syncOf, lenOf, seqOf, arOf, ptOf, cfOf, majorOf, minorOf, payloadOf, coveredOf, crcOf, arWith, headerOf, crcFor, closed, packetOf}
+use Rattle.af_rules.specs.Packet.{sync, packetType, major, minor, headerBytes, crcBytes, most-payload, syncOf, lenOf, seqOf, arOf, ptOf, cfOf}
+use Rattle.af_rules.specs.Packet.{majorOf, minorOf, payloadOf, coveredOf, crcOf, arWith, headerOf, crcFor, closed, packetOf}
 use Rattle.af_rules.proofs.Checks.{Passing}
 use Rattle.af_rules.proofs.Wraps.{ar-lt, length-header}
 
@@ -43,7 +44,8 @@ ar-parts false = (refl, refl, refl)
 module _ (cf : Bool) (front : List ℕ) where
   pub length-closed : length (closed cf front) ≡ length front + crcBytes
   unfolding closed
-  length-closed = length-append front (bytesOf crcBytes (crcFor cf front)) ∙ ap (λ (n : ℕ). length front + n) (length-bytes crcBytes (crcFor cf front))
+  length-closed = length-append front (bytesOf crcBytes (crcFor cf front))
+      ∙ ap (λ (n : ℕ). length front + n) (length-bytes crcBytes (crcFor cf front))
 
   at-end : length (closed cf front) - crcBytes ≡ length front
   at-end = omega (arith, length-closed)
@@ -56,7 +58,8 @@ module _ (cf : Bool) (front : List ℕ) where
   unfolding closed
   crc-back =
       ap (numberAt crcBytes (closed cf front)) at-end
-      ∙ back-at crcBytes (crcFor cf front) (length front) (closed cf front) [] (drop-at front _ (length front) refl ∙ sym (append-nil _)) (crc-lt cf front)
+      ∙ back-at crcBytes (crcFor cf front) (length front) (closed cf front) [] (drop-at front _ (length front) refl ∙ sym (append-nil _))
+      (crc-lt cf front)
 
 -- ---- the packet
 
@@ -82,7 +85,11 @@ module _ (seq : ℕ) (cf : Bool) (payload : List ℕ) where
 
   pub length-packet : length (packetOf seq cf payload) ≡ length payload + least-l
   unfolding packetOf
-  length-packet = length-closed cf front ∙ omega (arith, length-append (headerOf seq cf (length payload)) payload, length-header seq cf (length payload))
+  length-packet = length-closed cf front ∙ omega (
+    arith,
+    length-append (headerOf seq cf (length payload)) payload,
+    length-header seq cf (length payload),
+  )
 
   pub bytes-packet : Bytes payload → Bytes (packetOf seq cf payload)
   unfolding packetOf closed headerOf bytesOf

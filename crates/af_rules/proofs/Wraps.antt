@@ -51,7 +51,8 @@ unfolding packetOf closed
 packed seq cf payload out x y is-x is-y =
     let front : List ℕ = headerOf seq cf (length payload) ++ payload in
     let n : ℕ = headerBytes + length payload in
-    let long : length front ≡ n = length-append (headerOf seq cf (length payload)) payload ∙ ap (λ (k : ℕ). k + length payload) (length-header seq cf (length payload)) in
+    let long : length front ≡ n = length-append (headerOf seq cf (length payload)) payload
+    ∙ ap (λ (k : ℕ). k + length payload) (length-header seq cf (length payload)) in
     is-y
     ∙ ap (λ (l : List ℕ). splice l n (bytesOf crcBytes (crcFor cf (take n l)))) is-x
     ∙ ap (λ (l : List ℕ). splice (splice out 0 front) n (bytesOf crcBytes (crcFor cf l))) (splice-start out front n long)
@@ -67,10 +68,12 @@ module _ (seq : ℕ) (cf : Bool) (payload out : List ℕ) where
   module _ (few : length payload ≤ most-payload) where
     pub wrap-1 : length out < length payload + least-l → outcome (refused 1) out ≡ wrapCall seq cf payload out
     unfolding wrapCall wrapFault
-    wrap-1 h = leaves 1 _ _ _ _ (lit< tt) (skip 22 _ (le-ltb most-payload (length payload) few) (due 1 _ (lt-ltb (length out) (length payload + least-l) h)))
+    wrap-1 h = leaves 1 _ _ _ _ (lit< tt) (skip 22 _ (le-ltb most-payload (length payload) few)
+        (due 1 _ (lt-ltb (length out) (length payload + least-l) h)))
 
     pub wrap-done : (y : List ℕ) → length payload + least-l ≤ length out → y ≡ splice out 0 (packetOf seq cf payload)
         → outcome (granted []) y ≡ wrapCall seq cf payload out
     unfolding wrapCall wrapFault
     wrap-done y h e =
-        writes _ _ _ _ _ (skip 22 _ (le-ltb most-payload (length payload) few) (skip 1 _ (le-ltb (length out) (length payload + least-l) h) none-due)) e
+        writes _ _ _ _ _ (skip 22 _ (le-ltb most-payload (length payload) few)
+        (skip 1 _ (le-ltb (length out) (length payload + least-l) h) none-due)) e

@@ -11,7 +11,8 @@ use Rattle.base_rules.specs.Bounds.{least-l}
 use Rattle.base_rules.specs.Bytes.{Bytes, numberAt, bytesOf}
 use Rattle.base_rules.proofs.Logic.{either}
 use Rattle.base_rules.proofs.Numbers.{number-lt, bytes-back}
-use Rattle.af_rules.specs.Packet.{sync, packetType, major, minor, headerBytes, crcBytes, lenOf, seqOf, arOf, cfOf, minorOf, payloadOf, coveredOf, arWith, headerOf, closed, packetOf}
+use Rattle.af_rules.specs.Packet.{sync, packetType, major, minor, headerBytes, crcBytes, lenOf, seqOf, arOf, cfOf, minorOf, payloadOf}
+use Rattle.af_rules.specs.Packet.{coveredOf, arWith, headerOf, closed, packetOf}
 use Rattle.af_rules.proofs.Checks.{Passing}
 
 -- AR is written again from its parts

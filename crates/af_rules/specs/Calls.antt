@@ -8,7 +8,8 @@ use Rattle.base_rules.specs.Bounds.{least-l, most-l}
 use Rattle.base_rules.specs.Tests.{first, bit}
 use Rattle.base_rules.specs.Answer.{Answer, granted, refused, answered, Outcome, settled}
 use Rattle.base_rules.specs.Bytes.{splice}
-use Rattle.af_rules.specs.Packet.{sync, major, packetType, most-payload, syncOf, lenOf, seqOf, ptOf, cfOf, majorOf, minorOf, coveredOf, crcOf, crcFor, packetOf}
+use Rattle.af_rules.specs.Packet.{sync, major, packetType, most-payload, syncOf, lenOf, seqOf, ptOf, cfOf, majorOf, minorOf, coveredOf, crcOf}
+use Rattle.af_rules.specs.Packet.{crcFor, packetOf}
 use Rattle.af_rules.specs.declared.Checked.{Checked}
 use Rattle.af_rules.specs.declared.Checked.the-variants.{Packet, Refused}
 

@@ -5,7 +5,7 @@ use mathlib.Core.Path.{_≡_, sym}
 use mathlib.Core.List.{List, _++_}
 use lib.ListN.{length, take, drop, set, length-set, length-append, length-drop}
 use lib.Seq.{length-take-le}
-use Rattle.console.specs.Wrote.{Wrote}
+use Rattle.text_rules.specs.Wrote.{Wrote}
 
 -- the first n bytes are n
 pub front : (n : ℕ) (l : List ℕ) → n ≤ length l → n ≡ length (take n l)

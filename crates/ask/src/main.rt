@@ -2,7 +2,7 @@
 // done by the library; here a line is collected from what each read brings.
 ghost use Prim.Native.Nat.{_≤_};
 ghost use lib.ListN.{length};
-ghost use Rattle.ask.specs.Held.{heldOf};
+ghost use Rattle.ask.specs.inner.Held.{heldOf};
 use libc::STDIN_FILENO;
 use libc::STDOUT_FILENO;
 

@@ -64,7 +64,8 @@ number-back (suc w) x rest h =
     let more : List ℕ = x % 256 ∷ rest in
     let front : numberAt w (bytesOf w (x / 256) ++ more) 0 ≡ x / 256 = number-back w (x / 256) more low in
     let here : getD (bytesOf w (x / 256) ++ more) (0 + w) 0 ≡ x % 256 =
-    ap (λ (k : ℕ). getD (bytesOf w (x / 256) ++ more) k 0) (zero-add w) ∙ getD-at (bytesOf w (x / 256)) (x % 256) rest 0 w (length-bytes w (x / 256)) in
+    ap (λ (k : ℕ). getD (bytesOf w (x / 256) ++ more) k 0) (zero-add w)
+    ∙ getD-at (bytesOf w (x / 256)) (x % 256) rest 0 w (length-bytes w (x / 256)) in
     rw (append-assoc (bytesOf w (x / 256)) (x % 256 ∷ []) rest) (omega (arith, front, here))
 
 -- and it is read back where it stands in a list

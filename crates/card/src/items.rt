@@ -54,7 +54,8 @@ pub extern "C" fn bailhammer_find(
     name: u32,
     told: &mut [u8],
 ) -> usize
-    ensures { λ r. ⌜ CardTold found-widths (locateCall (now (packet .entry)) (now (standing .entry)) name) (now (told .entry)) (now (told .exit)) r ⌝ }
+    ensures { λ r. ⌜ CardTold found-widths (locateCall (now (packet .entry)) (now (standing .entry)) name) (now (told .entry))
+        (now (told .exit)) r ⌝ }
 {
     let l = tag::locate(packet, standing, name);
     tell_found(l, told)
@@ -151,7 +152,8 @@ pub extern "C" fn bailhammer_walk_step(
     walker: &mut [u8],
     told: &mut [u8],
 ) -> usize
-    ensures { λ r. ⌜ CardStepped (now (packet .entry)) (now (names .entry)) (now (walker .entry)) (now (walker .exit)) (now (told .entry)) (now (told .exit)) r ⌝ }
+    ensures { λ r. ⌜ CardStepped (now (packet .entry)) (now (names .entry)) (now (walker .entry)) (now (walker .exit)) (now (told .entry))
+        (now (told .exit)) r ⌝ }
 {
     if walker.len() != WALKER {
         return 1;

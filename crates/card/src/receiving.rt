@@ -15,7 +15,8 @@ ghost use mathlib.Core.Path.{_≡_};
 ghost use lib.ListN.{length};
 ghost use Rattle.card_rules.specs.Told.{CardWritten, CardTold};
 ghost use Rattle.card_rules.specs.Calls.{addressOf};
-ghost use Rattle.card_rules.specs.Receiving.{places-widths, queryFor, seenTold, shownTold, queriedIn, clearFor, receiptTold, toldAfter, CardReceived};
+ghost use Rattle.card_rules.specs.Receiving.{places-widths, queryFor, clearFor, receiptTold, toldAfter, CardReceived};
+ghost use Rattle.card_rules.specs.inner.Queried.{seenTold, shownTold, queriedIn};
 ghost use Rattle.receiver_rules.specs.Promise.{numberOf};
 
 // The widths of what an answer tells; specs/Receiving.antt says of what.
@@ -73,7 +74,9 @@ pub extern "C" fn bailhammer_receive(
     told: &mut [u8],
     out: &mut [u8],
 ) -> usize
-    ensures { λ r. ⌜ CardReceived (addressOf addressed source dest) (now (datagram .entry)) (record { record-bytes = now (table .entry); lent = now (lent .entry); told = now (told .entry); out = now (out .entry) }) (record { record-bytes = now (table .exit); lent = now (lent .exit); told = now (told .exit); out = now (out .exit) }) r ⌝ }
+    ensures { λ r. ⌜ CardReceived (addressOf addressed source dest) (now (datagram .entry))
+        (record { record-bytes = now (table .entry); lent = now (lent .entry); told = now (told .entry); out = now (out .entry) })
+        (record { record-bytes = now (table .exit); lent = now (lent .exit); told = now (told .exit); out = now (out .exit) }) r ⌝ }
 {
     let unpacked = packed::unpack(table);
     let fault = unpacked.answer;

@@ -99,7 +99,8 @@ pub extern "C" fn bailhammer_fragment(
     told: &mut [u8],
     out: &mut [u8],
 ) -> usize
-    ensures { λ r. ⌜ SentAs (twos 1) (fragmentCall (settingsOf fec m mtu addressed source dest) number (now (packet .entry)) index (now (out .entry))) (now (told .entry)) (now (told .exit)) (now (out .exit)) r ⌝ }
+    ensures { λ r. ⌜ SentAs (twos 1) (fragmentCall (settingsOf fec m mtu addressed source dest) number (now (packet .entry)) index
+        (now (out .entry))) (now (told .entry)) (now (told .exit)) (now (out .exit)) r ⌝ }
 {
     let g = settings_of(fec, m, mtu, addressed, source, dest);
     let a = sender::fragment(g, number, packet, index, out);
@@ -133,7 +134,8 @@ pub extern "C" fn bailhammer_fragments(
     told: &mut [u8],
     out: &mut [u8],
 ) -> usize
-    ensures { λ r. ⌜ SentAs (twos 4) (fragmentsCall (settingsOf fec m mtu addressed source dest) number (now (packet .entry)) (now (out .entry))) (now (told .entry)) (now (told .exit)) (now (out .exit)) r ⌝ }
+    ensures { λ r. ⌜ SentAs (twos 4) (fragmentsCall (settingsOf fec m mtu addressed source dest) number (now (packet .entry)) (now (out .entry)))
+        (now (told .entry)) (now (told .exit)) (now (out .exit)) r ⌝ }
 {
     let g = settings_of(fec, m, mtu, addressed, source, dest);
     let a = sender::fragments(g, number, packet, out);

@@ -17,7 +17,8 @@ pub record Flags (test : ℕ → Bool) (xs : List Bool) (i : ℕ) : Type 0 where
 pub flags-none : (test : ℕ → Bool) (xs : List Bool) → Flags test xs 0
 flags-none test xs = record { at = λ q (b : q < 0). absurd (omega arith) }
 
-pub flags-more : (test : ℕ → Bool) (xs : List Bool) (i : ℕ) (v : Bool) → Flags test xs i → i < length xs → v ≡ test i → Flags test (set xs i v) (i + 1)
+pub flags-more : (test : ℕ → Bool) (xs : List Bool) (i : ℕ) (v : Bool) → Flags test xs i → i < length xs → v ≡ test i
+    → Flags test (set xs i v) (i + 1)
 flags-more test xs i v h l e = record { at = λ q (b : q < i + 1). go q (eq-or-lt-of-le b) }
   where
     go : (q : ℕ) → (suc q ≡ i + 1) ⊎ (suc q < i + 1) → getD (set xs i v) q false ≡ test q
@@ -27,7 +28,8 @@ flags-more test xs i v h l e = record { at = λ q (b : q < i + 1). go q (eq-or-l
     go q (inr s) = getD-set-other xs i q v false (λ (z : q ≡ i). omega arith) ∙ h .at q (omega arith)
 
 -- a list whose elements are the test's values is the list of them
-pub flags-all : (test : ℕ → Bool) (a n : ℕ) (xs : List Bool) → length xs ≡ n → ((q : ℕ) → q < n → getD xs q false ≡ test (a + q)) → xs ≡ flags test a n
+pub flags-all : (test : ℕ → Bool) (a n : ℕ) (xs : List Bool) → length xs ≡ n → ((q : ℕ) → q < n → getD xs q false ≡ test (a + q))
+    → xs ≡ flags test a n
 unfolding flags
 flags-all test a zero [] e h = refl
 flags-all test a zero (x ∷ xs) e h = absurd (omega arith)

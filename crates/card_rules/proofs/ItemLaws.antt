@@ -73,7 +73,8 @@ module _ (packet names walker : List ℕ) (w : Walker) (e : w ≡ opens packet n
   unfolding walkOpenCall walkOpenFault
   open-short z h = leaves 1 _ _ _ _ (lit< tt) (skip _ _ (same (sym is-refusal ∙ z)) (due 1 _ (other h)))
 
-  pub open-done : {y : List ℕ} → w .refusal ≡ 0 → length walker ≡ walker-bytes → y ≡ walkerBytes w → outcome (granted []) y ≡ walkOpenCall packet names walker
+  pub open-done : {y : List ℕ} → w .refusal ≡ 0 → length walker ≡ walker-bytes → y ≡ walkerBytes w
+      → outcome (granted []) y ≡ walkOpenCall packet names walker
   unfolding walkOpenCall walkOpenFault
   open-done z l is-y = writes _ _ _ _ _ (skip _ _ (same (sym is-refusal ∙ z)) (skip 1 _ (same l) none-due)) (is-y ∙ ap walkerBytes e)
 
@@ -118,5 +119,6 @@ module _ (packet names walker told : List ℕ) where
         tells = there .told;
         goes =
             sym (ap (λ (b : Bool). cond b (walkerBytes (stepped packet names walker .next)) walker)
-            (ne-eqb (refusalIn (walkStepCall packet names walker)) 0 (λ (z : refusalIn (walkStepCall packet names walker) ≡ 0). h (there .number ∙ z))));
+            (ne-eqb (refusalIn (walkStepCall packet names walker)) 0
+            (λ (z : refusalIn (walkStepCall packet names walker) ≡ 0). h (there .number ∙ z))));
       }

@@ -27,7 +27,8 @@ use Rattle.receiver_rules.specs.declared.Shown.{Shown}
 use Rattle.receiver_rules.specs.declared.Queried.{Queried}
 use Rattle.receiver_rules.specs.declared.Queried.the-variants as queried
 use Rattle.card_rules.specs.Told.{refusalIn, CardWritten, CardTold}
-use Rattle.card_rules.specs.Receiving.{placeTold, placesTold, places-widths, queryFor, seenTold, shownTold, queriedIn, clearFor}
+use Rattle.card_rules.specs.Receiving.{placeTold, placesTold, places-widths, queryFor, clearFor}
+use Rattle.card_rules.specs.inner.Queried.{seenTold, shownTold, queriedIn}
 use Rattle.card_rules.proofs.ReceiveLaws.{refused-record, good-record, taken-record, long-record, packed-there}
 use Rattle.card_rules.proofs.ToldLaws.{handed-on, told-refused, told-as}
 
@@ -72,7 +73,8 @@ module _ {A : Type 0} (values told : A → List ℕ) (one : (x : A) (v : List �
       ∙ sym (to-right (told a) (told b) (told c) (told d))
 
 -- what a query is answered, as it is told
-pub query-told : (q : Queried) (t : Table) (lent : ℕ) → queriedNumber q ≡ queryCall t lent → queriedIn q ≡ answered (roomFault t lent most-l) (placesTold t)
+pub query-told : (q : Queried) (t : Table) (lent : ℕ) → queriedNumber q ≡ queryCall t lent
+    → queriedIn q ≡ answered (roomFault t lent most-l) (placesTold t)
 unfolding queriedNumber queryCall queriedIn shownTold placesTold
 query-told (queried.Places p) t lent e =
     let shown = granted-by (roomFault t lent most-l) _ _ e in
@@ -147,5 +149,6 @@ module _ (s : List ℕ) (lent : ℕ) (w : Written) (t : Table) (e : (numberOf w,
         let chosen : x ≡ cond (eqb fault 0) freshTable t = ap (λ (y : Answer × Table). y .1) cleared in
         let fresh : x ≡ freshTable = chosen ∙ ap (λ (b : Bool). cond b freshTable t) (eq-eqb fault 0 (sym (by .0))) in
         let there : after ≡ packedOf freshTable =
-        packed-there freshTable s after u fresh-length (long-record s (good-record s w t e is .0)) (packed ∙ ap (λ (y : Table). packCall y s) fresh) in
+        packed-there freshTable s after u fresh-length (long-record s (good-record s w t e is .0)) (packed
+        ∙ ap (λ (y : Table). packCall y s) fresh) in
         handed-on {a = granted []} (writes fault [] (packedOf freshTable) s after (by .0) there ∙ sym (taken-record s w t e _ _ is)) refl

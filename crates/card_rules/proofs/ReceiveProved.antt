@@ -121,7 +121,8 @@ one-receipt own datagram before after after′ r r′ p q =
     either (eqb (unpackFault s) 0)
     (λ e.
     let none : unpackFault s ≡ 0 = eqb-true (unpackFault s) 0 e in
-    one-with own datagram before after after′ r r′ (tableFrom s) (with-record own datagram before after r p none) (with-record own datagram before after′ r′ q none))
+    one-with own datagram before after after′ r r′ (tableFrom s) (with-record own datagram before after r p none)
+    (with-record own datagram before after′ r′ q none))
     (λ e.
     let some = eqb-false (unpackFault s) 0 e in
     let a = no-record own datagram before after r p some in
@@ -129,13 +130,15 @@ one-receipt own datagram before after after′ r r′ p q =
     (a .1 ∙ sym (b .1), a .0 ∙ sym (b .0)))
 
 -- what settles is answered with 0 or 13
-settles : {t : Table} {i : ℕ} {d : Displaced} {b out : List ℕ} {y : promise.Outcome} → Settled t i d b out y → (y .answer .0 ≡ 0 → ⊥) → (y .answer .0 ≡ 13 → ⊥) → ⊥
+settles : {t : Table} {i : ℕ} {d : Displaced} {b out : List ℕ} {y : promise.Outcome} → Settled t i d b out y → (y .answer .0 ≡ 0 → ⊥)
+    → (y .answer .0 ≡ 13 → ⊥) → ⊥
 unfolding promise.outcome promise.numberOf
 settles (waits e) p q = p refl
 settles (delivers P e a) p q = p refl
 settles (damaged e a) p q = q refl
 
-module _ (own : Address) (datagram : List ℕ) (before after : Held) (r : ℕ) (bytes : Bytes (before .record-bytes)) (none : unpackFault (before .record-bytes) ≡ 0)
+module _ (own : Address) (datagram : List ℕ) (before after : Held) (r : ℕ) (bytes : Bytes (before .record-bytes))
+    (none : unpackFault (before .record-bytes) ≡ 0)
     (p : ReceivedWith own datagram before after r (tableFrom (before .record-bytes))) where
   state : State
   state = record { table = tableFrom (before .record-bytes); bytes = before .lent }
@@ -160,7 +163,8 @@ module _ (own : Address) (datagram : List ℕ) (before after : Held) (r : ℕ) (
   unfolding promise.outcome left due state
   unchanged p0 p13 =
       either (eqb due 0)
-      (λ e. absurd (settles (step-settled own state datagram (before .out) (eqb-true due 0 e) (p .step)) (λ z. p0 (p .number ∙ z)) (λ z. p13 (p .number ∙ z))))
+      (λ e. absurd (settles (step-settled own state datagram (before .out) (eqb-true due 0 e) (p .step)) (λ z. p0 (p .number ∙ z))
+      (λ z. p13 (p .number ∙ z))))
       (λ e. refused-as (step-refused own state datagram (before .out) (eqb-false due 0 e) (p .step)))
 
 pub refused-unchanged : RefusedUnchanged

@@ -50,7 +50,8 @@ plan-whole g l fault =
 -- ---- the fragments
 
 -- a call that grants values has no fault, and the values are its own
-granted-own : (fault : ℕ) (own written before values : List ℕ) → answerIn (settled fault own written before) ≡ granted values → (fault ≡ 0) × (own ≡ values)
+granted-own : (fault : ℕ) (own written before values : List ℕ) → answerIn (settled fault own written before) ≡ granted values → (fault ≡ 0)
+    × (own ≡ values)
 unfolding answerIn settled answered
 granted-own zero own written before values e = (refl, granted-by 0 own values e .1)
 granted-own (suc fault) own written before values e = absurd (omega (arith, granted-by (suc fault) values own (sym e) .0))

@@ -41,7 +41,8 @@ module _ (s cs ends : List ℕ) (P : Walked → Type 0) (Q : ℕ → ℕ → Typ
   outer at q (step.End p) e = subst P (sym (step-end s cs at ends 0 _ p refl e refl)) (end at p q e)
   outer at q (step.Refused n) e = subst P (sym (step-refused s cs at ends 0 _ n refl e)) (refused at 0 n q e)
 
-  up : (at d : ℕ) (p : Bytes) → stepIn s at (endOf s ends (suc d)) ≡ step.End p → stepFrom s cs at (suc d) ends ≡ stepFrom s cs (endOf s ends (suc d)) d ends
+  up : (at d : ℕ) (p : Bytes) → stepIn s at (endOf s ends (suc d)) ≡ step.End p
+      → stepFrom s cs at (suc d) ends ≡ stepFrom s cs (endOf s ends (suc d)) d ends
   unfolding stepFrom
   up at d p e = simp e
 

@@ -4,7 +4,7 @@ use mathlib.Core.Bool.{cond}
 use mathlib.Core.List.{List, [], _∷_, _++_}
 use Prim.Native.Nat.{ℕ}
 use lib.Dec.{eqb}
-use Rattle.base_rules.specs.Answer.{Answer, granted, refused, answered, Outcome, settled}
+use Rattle.base_rules.specs.Answer.{Answer, refused, answered, Outcome, settled}
 use Rattle.base_rules.specs.Answer as answers
 use Rattle.base_rules.specs.Bounds.{most-l}
 use Rattle.cut_rules.specs.declared.Address.{Address}
@@ -12,16 +12,11 @@ use Rattle.places_rules.specs.declared.Place.{Place}
 use Rattle.places_rules.specs.declared.Table.{Table}
 use Rattle.places_rules.specs.declared.Displaced.{Displaced}
 use Rattle.places_rules.specs.declared.Displaced.the-variants.{None, Number}
-use Rattle.places_rules.specs.Places.{free, open-now, delivered, spoiled, freshTable, placeAt}
+use Rattle.places_rules.specs.Places.{free, freshTable, placeAt}
 use Rattle.packed_rules.specs.Packed.{packedOf, tableFrom, unpackFault}
 use Rattle.receiver_rules.specs.Promise.{numberOf, outcome, roomFault, Step}
 use Rattle.receiver_rules.specs.declared.Received.{Received}
 use Rattle.receiver_rules.specs.declared.Received.the-variants.{Kept, Delivered, Damaged, Refused}
-use Rattle.receiver_rules.specs.declared.Seen.{Seen}
-use Rattle.receiver_rules.specs.declared.Seen.the-variants as seen
-use Rattle.receiver_rules.specs.declared.Shown.{Shown}
-use Rattle.receiver_rules.specs.declared.Queried.{Queried}
-use Rattle.receiver_rules.specs.declared.Queried.the-variants as queried
 use Rattle.card_rules.specs.Told.{toldIn, inWidths}
 
 -- ---- the record in its bytes
@@ -48,22 +43,6 @@ places-widths = 1 ∷ 2 ∷ 1 ∷ 2 ∷ 1 ∷ 2 ∷ 1 ∷ 2 ∷ []
 -- the query's answer: what is no record is refused; then "query and clearing check 14, then 1"
 unfoldable pub queryFor : List ℕ → ℕ → Answer
 queryFor bytes lent = onRecord bytes refused (λ t. answered (roomFault t lent most-l) (placesTold t))
-
--- what is told of a place that `query` shows
-unfoldable pub seenTold : Seen → List ℕ
-seenTold seen.Free = free ∷ 0 ∷ []
-seenTold (seen.Open n) = open-now ∷ n ∷ []
-seenTold (seen.Delivered n) = delivered ∷ n ∷ []
-seenTold (seen.Spoiled n) = spoiled ∷ n ∷ []
-
--- that of all four
-unfoldable pub shownTold : Shown → List ℕ
-shownTold p = seenTold (p .first) ++ seenTold (p .second) ++ seenTold (p .third) ++ seenTold (p .fourth)
-
--- the answer of `query` with what is told of it
-unfoldable pub queriedIn : Queried → Answer
-queriedIn (queried.Places p) = granted (shownTold p)
-queriedIn (queried.Refused n) = refused n
 
 -- ---- clear
 
@@ -111,4 +90,5 @@ pub record ReceivedWith (own : Address) (datagram : List ℕ) (before after : He
 
 -- the call was answered with the number r: what is no record is refused, and nothing is changed; else as above with the record in the bytes
 unfoldable pub CardReceived : Address → List ℕ → Held → Held → ℕ → Type 0
-CardReceived own datagram before after r = onRecord (before .record-bytes) (λ n. (r ≡ n) × (after ≡ before)) (ReceivedWith own datagram before after r)
+CardReceived own datagram before after r = onRecord (before .record-bytes) (λ n. (r ≡ n) × (after ≡ before))
+    (ReceivedWith own datagram before after r)

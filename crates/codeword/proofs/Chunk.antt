@@ -111,7 +111,8 @@ bytes-full k w b =
     (bytes-append (replicate (most-k - k) 0) (drop k w) (bytes-zeros (most-k - k)) (bytes-drop k w b))
 
 -- at most one word of the shortened code has the bytes that are there
-pub one-chunk : (k : ℕ) (ms : List Bool) (v w : List ℕ) → k ≤ most-k → length v ≡ k + parity → length w ≡ k + parity → length ms ≡ k + parity → count ms ≤ parity
+pub one-chunk : (k : ℕ) (ms : List Bool) (v w : List ℕ) → k ≤ most-k → length v ≡ k + parity → length w ≡ k + parity → length ms ≡ k + parity
+    → count ms ≤ parity
     → Bytes v → Bytes w → Codeword (full 0 k v) → Codeword (full 0 k w) → erase ms v ≡ erase ms w → v ≡ w
 one-chunk k ms v w h lv lw lm few bv bw cv cw q = full-inj k v w h lv lw whole
   where
@@ -120,6 +121,7 @@ one-chunk k ms v w h lv lw lm few bv bw cv cw q = full-inj k v w h lv lw whole
 
     whole : full 0 k v ≡ full 0 k w
     whole =
-        one-word (full false k ms) (full 0 k v) (full 0 k w) (size ∙ sym (length-full 0 k v h lv)) (size ∙ sym (length-full 0 k w h lw)) (omega (arith, size))
+        one-word (full false k ms) (full 0 k v) (full 0 k w) (size ∙ sym (length-full 0 k v h lv)) (size ∙ sym (length-full 0 k w h lw))
+        (omega (arith, size))
         (omega (arith, length-locators (full false k ms), count-full k ms)) (bytes-full k v bv) (bytes-full k w bw) cv cw
         (erase-full k ms v (lm ∙ sym lv) (omega arith) ∙ ap (full 0 k) q ∙ sym (erase-full k ms w (lm ∙ sym lw) (omega arith)))

@@ -18,7 +18,8 @@ use Rattle.field_rules.proofs.Sums.{add-assoc, add-comm, add-0-l, add-0-r, add-
 use Rattle.field_rules.proofs.Products.{mul-comm, mul-add-l, mul-0-l, mul-0-r, mul-lt}
 use Rattle.field_rules.proofs.Powers.{alpha-lt}
 use Rattle.codeword.specs.Code.{horner, value, plus, Codeword, full, timesRoot, product, generator, step, run, parityOf, encode}
-use Rattle.codeword.proofs.Poly.{raise, raise-s, raise-add, raise-out, raise-0, raise-one, value-cons, value-append, value-snoc, value-zeros, value-plus, length-plus, plus-at}
+use Rattle.codeword.proofs.Poly.{raise, raise-s, raise-add, raise-out, raise-0, raise-one, value-cons, value-append, value-snoc, value-zeros}
+use Rattle.codeword.proofs.Poly.{value-plus, length-plus, plus-at}
 
 -- ---- the code polynomial has the roots
 
@@ -57,7 +58,8 @@ product-monic (suc n) = go (product-monic n)
     go : (t : List ℕ) × (product n ≡ 1 ∷ t) × (length t ≡ n) → (t : List ℕ) × (timesRoot (alpha (suc n)) (product n) ≡ 1 ∷ t) × (length t ≡ suc n)
     go (t, e, l) = (
       plus (alpha (suc n)) (1 ∷ t) (t ++ (0 ∷ [])),
-      ap (timesRoot (alpha (suc n))) e ∙ ap (λ h. h ∷ plus (alpha (suc n)) (1 ∷ t) (t ++ (0 ∷ []))) (ap (λ y. 1 ⊕ y) (mul-0-r (alpha (suc n))) ∙ add-0-r 1),
+      ap (timesRoot (alpha (suc n))) e ∙ ap (λ h. h ∷ plus (alpha (suc n)) (1 ∷ t) (t ++ (0 ∷ []))) (ap (λ y. 1 ⊕ y) (mul-0-r (alpha (suc n)))
+          ∙ add-0-r 1),
       length-plus (alpha (suc n)) (1 ∷ t) (t ++ (0 ∷ [])) (sym (length-snoc t 0)) ∙ length-snoc t 0 ∙ ap suc l,
     )
 

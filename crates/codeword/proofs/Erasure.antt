@@ -96,7 +96,8 @@ value-erase j (true ∷ ms) (c ∷ w) e b =
     (value-erase j ms w (suc-inj e) (b .1))
     ∙ add-left-comm (c ⊗ pow (alpha (length ms)) j) (value (alpha j) (erase ms w)) (sumAt (locators ms) (missing ms w) j)
     ∙ ap (λ v. v ⊕ (c ⊗ pow (alpha (length ms)) j ⊕ sumAt (locators ms) (missing ms w) j))
-    (sym (value-cons (alpha j) 0 (erase ms w) ∙ ap (λ y. y ⊕ value (alpha j) (erase ms w)) (raise-0 (alpha j) (length (erase ms w))) ∙ add-0-l (value (alpha j) (erase ms w))))
+    (sym (value-cons (alpha j) 0 (erase ms w) ∙ ap (λ y. y ⊕ value (alpha j) (erase ms w)) (raise-0 (alpha j) (length (erase ms w)))
+    ∙ add-0-l (value (alpha j) (erase ms w))))
 value-erase j (false ∷ ms) (c ∷ w) e b =
     value-cons (alpha j) c w
     ∙ ap₂ (λ n v. raise (alpha j) n c ⊕ v) (sym (length-erase ms w)) (value-erase j ms w (suc-inj e) (b .1))
@@ -129,5 +130,6 @@ one-word ms v w ev ew h few bv bw cv cw q =
 
     same : missing ms v ≡ missing ms w
     same =
-        unique 1 (locators ms) (missing ms v) (missing ms w) (length-missing ms v ev) (length-missing ms w ew) (bytes-locators ms) (positive-locators ms)
+        unique 1 (locators ms) (missing ms v) (missing ms w) (length-missing ms v ev) (length-missing ms w ew) (bytes-locators ms)
+        (positive-locators ms)
         (distinct-locators ms h) (bytes-missing ms v bv) (bytes-missing ms w bw) (λ j l. rw (← from-1 j) (sums j (omega arith)))

@@ -51,7 +51,8 @@ raise-one x n c h =
 pub raise-pow : (x n c : ℕ) → c < 256 → raise x n c ≡ c ⊗ pow x n
 unfolding raise
 raise-pow x zero c h = sym (ap (λ y. c ⊗ y) (pow-0 x) ∙ mul-1-r c h)
-raise-pow x (suc n) c h = raise-out x n c ∙ ap (λ y. y ⊗ x) (raise-pow x n c h) ∙ mul-assoc c (pow x n) x ∙ ap (λ y. c ⊗ y) (mul-comm (pow x n) x ∙ sym (pow-s x n))
+raise-pow x (suc n) c h = raise-out x n c ∙ ap (λ y. y ⊗ x) (raise-pow x n c h) ∙ mul-assoc c (pow x n) x
+    ∙ ap (λ y. c ⊗ y) (mul-comm (pow x n) x ∙ sym (pow-s x n))
 
 -- ---- Horner's rule
 

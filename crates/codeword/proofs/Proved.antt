@@ -41,7 +41,8 @@ r3 =
       masked = λ k mask v w short size few cv cw same.
           one-chunk k mask v w short (cv .size) (cw .size) size few (cv .bytes) (cw .bytes) (cv .word) (cw .word) same;
       placed = λ k there v w short few cv cw same.
-          one-chunk k (maskOf there 0 (k + parity)) v w short (cv .size) (cw .size) (length-maskOf there 0 (k + parity)) few (cv .bytes) (cw .bytes) (cv .word) (cw .word)
+          one-chunk k (maskOf there 0 (k + parity)) v w short (cv .size) (cw .size) (length-maskOf there 0 (k + parity)) few (cv .bytes)
+          (cw .bytes) (cv .word) (cw .word)
           (erase-same there 0 (k + parity) v w (cv .size) (cw .size) (λ i h t. same i h (ap there (sym (zero-add i)) ∙ t)));
     }
 

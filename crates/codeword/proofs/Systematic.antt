@@ -37,7 +37,8 @@ unfolding encode
 is-encoded k w h c =
     one-chunk k (no-parity k) w (encode d) h (c .size) (length-encode d ∙ ap (λ n. n + parity) size) (length-no-parity k) (few-missing k)
     (c .bytes) (bytes-encode d (bytes-take k w (c .bytes))) (c .word) (encode-codeword d k size)
-    (ap (erase (no-parity k)) (sym (take-append-drop k w)) ∙ data-left k d (drop k w) size rest ∙ sym (data-left k d (parityOf d) size (length-parity d)))
+    (ap (erase (no-parity k)) (sym (take-append-drop k w)) ∙ data-left k d (drop k w) size rest
+    ∙ sym (data-left k d (parityOf d) size (length-parity d)))
   where
     d : List ℕ
     d = take k w

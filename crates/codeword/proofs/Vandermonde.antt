@@ -100,14 +100,16 @@ pub sumAt-drop : (x y : ℕ) (xs ys : List ℕ) (j : ℕ)
 unfolding sumAt weighed offsets
 sumAt-drop x y xs ys j =
     sumAt-offsets x (x ∷ xs) (y ∷ ys) j
-    ∙ ap (λ a. a ⊕ sumAt xs (weighed (offsets x xs) ys) j) (ap (λ a. y ⊗ a ⊗ pow x j) (add-self x) ∙ ap (λ a. a ⊗ pow x j) (mul-0-r y) ∙ mul-0-l (pow x j))
+    ∙ ap (λ a. a ⊕ sumAt xs (weighed (offsets x xs) ys) j) (ap (λ a. y ⊗ a ⊗ pow x j) (add-self x) ∙ ap (λ a. a ⊗ pow x j) (mul-0-r y)
+    ∙ mul-0-l (pow x j))
     ∙ add-0-l (sumAt xs (weighed (offsets x xs) ys) j)
 
 -- the first value, from the sum at exponent 0
 first-of : (x y : ℕ) (xs ys : List ℕ) → y < 256 → y ≡ sumAt (x ∷ xs) (y ∷ ys) 0 ⊕ sumAt xs ys 0
 unfolding sumAt
 first-of x y xs ys h =
-    sym (add-assoc (y ⊗ pow x 0) (sumAt xs ys 0) (sumAt xs ys 0) ∙ ap₂ _⊕_ (ap (λ a. y ⊗ a) (pow-0 x) ∙ mul-1-r y h) (add-self (sumAt xs ys 0)) ∙ add-0-r y)
+    sym (add-assoc (y ⊗ pow x 0) (sumAt xs ys 0) (sumAt xs ys 0) ∙ ap₂ _⊕_ (ap (λ a. y ⊗ a) (pow-0 x) ∙ mul-1-r y h) (add-self (sumAt xs ys 0))
+    ∙ add-0-r y)
 
 -- ---- the values are the only ones
 
@@ -127,7 +129,8 @@ unique-0 (x ∷ xs) (y ∷ ys) (z ∷ zs) ey ez bx d by bz h =
     λ j l. sym (sumAt-drop x y xs ys j) ∙ ap₂ (λ a b. a ⊕ x ⊗ b) (h (suc j) (omega arith)) (h j (omega arith)) ∙ sumAt-drop x z xs zs j in
     let rest : ys ≡ zs =
     weighed-inj cs ys zs ly lz (bytes-offsets x xs (bx .0) (bx .1)) (positive-offsets x xs (d .0)) (by .1) (bz .1)
-    (unique-0 xs (weighed cs ys) (weighed cs zs) (sym (length-offsets x xs) ∙ length-weighed cs ys ly) (sym (length-offsets x xs) ∙ length-weighed cs zs lz)
+    (unique-0 xs (weighed cs ys) (weighed cs zs) (sym (length-offsets x xs) ∙ length-weighed cs ys ly) (sym (length-offsets x xs)
+    ∙ length-weighed cs zs lz)
     (bx .1) (d .1) (bytes-weighed cs ys) (bytes-weighed cs zs) sums) in
     ap₂ _∷_
     (first-of x y xs ys (by .0) ∙ ap₂ _⊕_ (h 0 (omega arith)) (ap (λ l. sumAt xs l 0) rest) ∙ sym (first-of x z xs zs (bz .0)))
@@ -148,7 +151,8 @@ unique zero xs ys zs ey ez bx p d by bz h =
     unique-0 xs ys zs ey ez bx d by bz (λ j l. ap (sumAt xs ys) (sym (zero-add j)) ∙ h j l ∙ ap (sumAt xs zs) (zero-add j))
 unique (suc a) xs ys zs ey ez bx p d by bz h =
     weighed-inj xs ys zs ey ez bx p by bz
-    (unique a xs (weighed xs ys) (weighed xs zs) (length-weighed xs ys ey) (length-weighed xs zs ez) bx p d (bytes-weighed xs ys) (bytes-weighed xs zs)
+    (unique a xs (weighed xs ys) (weighed xs zs) (length-weighed xs ys ey) (length-weighed xs zs ez) bx p d (bytes-weighed xs ys)
+    (bytes-weighed xs zs)
     (λ j l. sym (next ys j) ∙ h j l ∙ next zs j))
   where
     next : (vs : List ℕ) (j : ℕ) → sumAt xs vs (suc a + j) ≡ sumAt xs (weighed xs vs) (a + j)

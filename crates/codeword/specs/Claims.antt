@@ -1,4 +1,5 @@
--- The theorems of the code, R1 to R3 and what follows, as they can be held against clause 7.3.1 and document 01. Each is proved in proofs/Proved.antt.
+-- The theorems of the code, R1 to R3 and what follows, as they can be held against clause 7.3.1 and document 01. Each is proved in
+-- proofs/Proved.antt.
 use mathlib.Core.Path.{_≡_}
 use mathlib.Core.Bool.{Bool, true}
 use mathlib.Core.List.{List}

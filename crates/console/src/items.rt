@@ -1,7 +1,7 @@
 // Questions on TAG items: one that is written, those of a packet, one by its name, and the nested walk.
 ghost use Prim.Native.Nat.{_≤_};
 ghost use lib.ListN.{length};
-ghost use Rattle.console.specs.Wrote.{Wrote};
+ghost use Rattle.text_rules.specs.Wrote.{Wrote};
 use crate::replies;
 use crate::words;
 use crate::words::Name;

@@ -12,7 +12,7 @@ mod sending;
 mod sums;
 mod words;
 
-ghost use Rattle.console.specs.Wrote.{Wrote};
+ghost use Rattle.text_rules.specs.Wrote.{Wrote};
 
 // A line as long as this, or longer, is no question: the longest has the most bytes, two digits
 // each, and some other words. So a program collects a line in a buffer of this length and drops

@@ -1,7 +1,7 @@
 // Questions on AF packets: what one says of itself, the packet of a payload, and the listing of one.
 ghost use Prim.Native.Nat.{_≤_};
 ghost use lib.ListN.{length};
-ghost use Rattle.console.specs.Wrote.{Wrote};
+ghost use Rattle.text_rules.specs.Wrote.{Wrote};
 use crate::replies;
 use crate::words;
 use crate::words::Number;

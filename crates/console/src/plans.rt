@@ -1,5 +1,5 @@
 // Questions on plans: how a packet of some length is cut. The settings in their words stand in the sender's questions too.
-ghost use Rattle.console.specs.Wrote.{Wrote};
+ghost use Rattle.text_rules.specs.Wrote.{Wrote};
 use crate::replies;
 use crate::words;
 use crate::words::Number;

@@ -3,8 +3,8 @@
 ghost use mathlib.Core.Path.{_≡_};
 ghost use Prim.Native.Nat.{_≤_};
 ghost use lib.ListN.{length};
-ghost use Rattle.console.specs.Sized.{seat-size, lent-most};
-ghost use Rattle.console.specs.Wrote.{Wrote};
+ghost use Rattle.console.specs.inner.Sized.{seat-size, lent-most};
+ghost use Rattle.text_rules.specs.Wrote.{Wrote};
 use crate::replies;
 use crate::words;
 use crate::words::Number;

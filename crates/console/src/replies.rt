@@ -4,11 +4,12 @@ ghost use mathlib.Core.List.{_++_};
 ghost use Prim.Native.Nat.{_≤_};
 ghost use lib.ListN.{length};
 ghost use Rattle.text_rules.specs.Text.{laid, behind, decimalOf};
-ghost use Rattle.console.specs.Wrote.{Wrote};
+ghost use Rattle.text_rules.specs.Wrote.{Wrote};
 
 // A number behind a label.
 pub(crate) fn labelled(out: &mut [u8], at: usize, label: &[u8], value: usize) -> usize
-    ensures { λ r. ⌜ (r ≡ behind (now (out .entry)) at (now (label .entry) ++ decimalOf value)) × (now (out .exit) ≡ laid (now (out .entry)) at (now (label .entry) ++ decimalOf value)) ⌝ }
+    ensures { λ r. ⌜ (r ≡ behind (now (out .entry)) at (now (label .entry) ++ decimalOf value))
+        × (now (out .exit) ≡ laid (now (out .entry)) at (now (label .entry) ++ decimalOf value)) ⌝ }
 {
     let to = text::plain(out, at, label);
     text::decimal(out, to, value)

@@ -1,6 +1,6 @@
 // Questions on the sender: one fragment of a packet, and all of them.
 ghost use Prim.Native.Nat.{_≤_};
-ghost use Rattle.console.specs.Wrote.{Wrote};
+ghost use Rattle.text_rules.specs.Wrote.{Wrote};
 use crate::plans;
 use crate::plans::Asked;
 use crate::replies;

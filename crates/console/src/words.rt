@@ -2,7 +2,7 @@
 // nothing of any kind, so two blanks in a row and a blank at an end make a line malformed.
 ghost use Prim.Native.Nat.{_≤_};
 ghost use lib.ListN.{length};
-ghost use Rattle.console.specs.Sized.{sizeOf};
+ghost use Rattle.console.specs.inner.Sized.{sizeOf};
 
 // The most bytes that one word of a question gives.
 pub(crate) const BYTES: usize = 32768;

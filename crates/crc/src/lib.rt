@@ -4,7 +4,7 @@ ghost use Prim.Native.Nat.{_-_, _*_, _/_, _<_};
 ghost use lib.Dec.{eqb};
 ghost use lib.ListN.{length};
 ghost use Rattle.crc_rules.specs.Crc.{ones, residue, shift, feed, registerOf, wordOf};
-ghost use Rattle.crc_rules.specs.Halves.{rounds, Halves};
+ghost use Rattle.crc_rules.specs.inner.Halves.{rounds, Halves};
 
 mod table;
 

@@ -8,7 +8,7 @@ use lib.Bits.{bitXor, xor-comm, xor-shifted}
 use lib.Dec.{T, eqb, eqb→eq, lit<}
 use lib.ListN.{getD}
 use Rattle.base_rules.proofs.Every.{below, at}
-use Rattle.crc_rules.specs.Halves.{rounds, Halves}
+use Rattle.crc_rules.specs.inner.Halves.{rounds, Halves}
 use Rattle.crc_rules.proofs.Linear.{rounds-linear}
 
 -- the entry for v in half h of byte b is right

@@ -9,7 +9,7 @@ use lib.Dec.{ltb}
 use Rattle.base_rules.proofs.Logic.{either}
 use Rattle.base_rules.proofs.Xor.{bit-ind, xor-swap, xor-double, eq-of-xor-zero}
 use Rattle.crc_rules.specs.Crc.{polynomial, shift, shift8}
-use Rattle.crc_rules.specs.Halves.{rounds}
+use Rattle.crc_rules.specs.inner.Halves.{rounds}
 
 -- f keeps sums and the width, and takes only 0 to 0
 pub record Linear (f : ℕ → ℕ) : Type 0 where

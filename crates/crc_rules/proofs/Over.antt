@@ -14,7 +14,7 @@ use Rattle.base_rules.proofs.ByteLaws.{bytes-at, bytes-drop}
 use Rattle.base_rules.proofs.Every.{at}
 use Rattle.base_rules.proofs.Xor.{xor-assoc, xor-swap, xor-scaled}
 use Rattle.crc_rules.specs.Crc.{shift, shift8, feed, registerOf, wordOf}
-use Rattle.crc_rules.specs.Halves.{rounds}
+use Rattle.crc_rules.specs.inner.Halves.{rounds}
 use Rattle.crc_rules.proofs.Linear.{shift8-linear}
 
 -- one list after another

@@ -1,3 +1,3 @@
 pub mod Crc
-pub mod Halves
 pub mod Claims
+pub mod inner

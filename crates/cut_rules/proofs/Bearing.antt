@@ -51,7 +51,8 @@ module _ (g : Settings) (l : ℕ) (in-bounds : Within g l) where
   pub same-c : g .fec ≡ true → receivedC (f g l) (s g l) (k l) ≡ c l
   unfolding receivedC f s n
   same-c fec =
-      rw (L-fec g l fec) (fragment.c-same (c l) (n l) (S g l) (chunk.c-some l some) (omega (arith, chunk.n-least l some)) S>0 (omega (arith, chunk.c-most l (in-bounds .to), chunk.n-least l some)))
+      rw (L-fec g l fec) (fragment.c-same (c l) (n l) (S g l) (chunk.c-some l some) (omega (arith, chunk.n-least l some)) S>0
+      (omega (arith, chunk.c-most l (in-bounds .to), chunk.n-least l some)))
 
 -- ---- the losses
 

@@ -42,7 +42,8 @@ module _ (parityOf : List ℕ → List ℕ) (k : ℕ) (full : (xs : List ℕ) �
       ∙ ap (λ (ys : List ℕ). drop (j * n) ys) (drop-at (wordOf parityOf (take k xs)) (blockOf parityOf (drop k xs) k c) n w) in
       ap (λ (ys : List ℕ). take n ys) past
       ∙ window (drop k xs) c j (omega (arith, length-drop k xs)) (le-of-suc-le-suc l)
-      ∙ ap (λ (ys : List ℕ). wordOf parityOf (take k ys)) (drop-drop (j * k) k xs ∙ ap (λ (x : ℕ). drop x xs) (add-comm k (j * k) ∙ sym (suc-mul j k)))
+      ∙ ap (λ (ys : List ℕ). wordOf parityOf (take k ys)) (drop-drop (j * k) k xs
+      ∙ ap (λ (x : ℕ). drop x xs) (add-comm k (j * k) ∙ sym (suc-mul j k)))
 
 -- the packet again, off its zeros
 pub unpadded : (packet : List ℕ) (z : ℕ) → take (length packet) (padded packet z) ≡ packet

@@ -2,7 +2,8 @@
 use mathlib.Core.Path.{_≡_, refl, sym, ap, ap₂, _∙_}
 use mathlib.Core.Bool.{Bool, true, false}
 use Prim.Native.Nat.{ℕ, zero, suc, _+_, _-_, _*_, _/_, _%_, _≤_, _<_, min, zero-le}
-use native.Mathlib.Nat.{zero-add, add-zero, suc-add, add-suc, add-assoc, zero-mul, add-mod-right, mod-eq-of-lt, mod-lt, div-add-mod', le-refl, mul-pos, mul-le-mul, mul-le-mul-left, mul-le-mul-right, le-of-mul-le-mul-left, mul-div-le}
+use native.Mathlib.Nat.{zero-add, add-zero, suc-add, add-suc, add-assoc, zero-mul, add-mod-right, mod-eq-of-lt, mod-lt, div-add-mod', le-refl}
+use native.Mathlib.Nat.{mul-pos, mul-le-mul, mul-le-mul-left, mul-le-mul-right, le-of-mul-le-mul-left, mul-div-le}
 use native.Mathlib.Numerals.{add-one}
 use native.Mathlib.Omega.{arith}
 use borrow.Author.Tests.{lt-ltb, le-ltb}
@@ -116,7 +117,8 @@ module _ (lost : ℕ → Bool) (f : ℕ) (some : 0 < f) where
   -- whole turns rounded up
   turns : (x n : ℕ) → count (gone lost f) x n ≤ losses lost f * ceil n f
   turns x n =
-      let much : count (gone lost f) x n ≤ count (gone lost f) x (ceil n f * f + 0) = longer (gone lost f) x n (ceil n f * f + 0) (omega (arith, ceils.up n f some)) in
+      let much : count (gone lost f) x n ≤ count (gone lost f) x (ceil n f * f + 0) = longer (gone lost f) x n (ceil n f * f + 0)
+      (omega (arith, ceils.up n f some)) in
       omega (arith, much, window (gone lost f) f again x (ceil n f) 0, none (gone lost f) x, ap (λ (y : ℕ). ceil n f * y) all)
 
 -- ---- what a cut bears. A fragment has at most S bytes, and S is at most t for each of c chunks: so it has at most t bytes of a chunk
@@ -161,7 +163,8 @@ count-firsts : (w t : ℕ) → count (firsts w) 0 t ≡ min w t
 count-firsts w t =
     let m : ℕ = min w t in
     let inside : count (firsts w) 0 m ≡ 1 * m = count-all (firsts w) true 0 m (λ i (h : i < m). lt-ltb (0 + i) w (omega arith)) in
-    let outside : count (firsts w) (0 + m) (t - m) ≡ 0 * (t - m) = count-all (firsts w) false (0 + m) (t - m) (λ i (h : i < t - m). le-ltb (0 + m + i) w (omega arith)) in
+    let outside : count (firsts w) (0 + m) (t - m) ≡ 0 * (t - m) = count-all (firsts w) false (0 + m) (t - m)
+    (λ i (h : i < t - m). le-ltb (0 + m + i) w (omega arith)) in
     let e : count (firsts w) 0 (m + (t - m)) ≡ count (firsts w) 0 t = ap (λ (x : ℕ). count (firsts w) 0 x) (omega arith) in
     omega (arith, inside, outside, e, count-add (firsts w) 0 m (t - m))
 

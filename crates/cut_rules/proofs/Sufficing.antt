@@ -18,7 +18,8 @@ module _ (lost : ℕ → Bool) (f n : ℕ) where
   suffice-no (suc c) j l h = go (eq-or-lt-of-le (le-of-suc-le-suc l)) (λ (k : j < c). suffice-no c j k h)
     where
       go : (j ≡ c) ⊎ (j < c) → (j < c → suffice lost f n c ≡ false) → suffice lost f n c && leb (missing lost f n c) parity ≡ false
-      go (inl e) ih = subst (λ (x : ℕ). suffice lost f n x && leb (missing lost f n x) parity ≡ false) e (simp (lt-leb (missing lost f n j) parity h, and-false))
+      go (inl e) ih = subst (λ (x : ℕ). suffice lost f n x && leb (missing lost f n x) parity ≡ false) e
+          (simp (lt-leb (missing lost f n j) parity h, and-false))
       go (inr k) ih = simp (ih k)
 
   pub suffice-from : (c : ℕ) → ((j : ℕ) → j < c → missing lost f n j ≤ parity) → suffice lost f n c ≡ true

@@ -4,7 +4,7 @@ use tables::LOG;
 ghost use mathlib.Core.Path.{_≡_};
 ghost use Prim.Native.Nat.{_<_};
 ghost use Rattle.field_rules.specs.Field.{_⊕_, _⊗_, alpha, logOf};
-ghost use Rattle.field_rules.specs.Tables.{Logs, Logged};
+ghost use Rattle.field_rules.specs.inner.Tables.{Logs, Logged};
 ghost use Rattle.field_rules.specs.Calls.{numberOf, quotientOf, logarithmOf};
 
 mod tables;

@@ -10,7 +10,7 @@ use lib.Dec.{eqb}
 use lib.ListN.{getD}
 use Rattle.base_rules.proofs.Logic.{and-left, and-right}
 use Rattle.field_rules.specs.Field.{alpha, logOf}
-use Rattle.field_rules.specs.Tables.{Logs, Logged}
+use Rattle.field_rules.specs.inner.Tables.{Logs, Logged}
 use Rattle.field_rules.proofs.Powers.{powers, powers-at, log-lt, alpha-log}
 
 -- the powers: the test is that the table is the walk of 255 from 1

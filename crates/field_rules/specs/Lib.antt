@@ -1,3 +1,3 @@
 pub mod Field
-pub mod Tables
 pub mod Calls
+pub mod inner

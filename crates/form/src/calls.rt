@@ -18,7 +18,7 @@ ghost use Rattle.af_rules.specs.Calls.{afFault};
 ghost use Rattle.places_rules.specs.Faults.{badPlace};
 ghost use Rattle.form_rules.specs.Agree.{enoughIn, missingIn};
 ghost use Rattle.form_rules.specs.Calls.{formFault, PlaceFormed};
-ghost use Rattle.form_rules.specs.Inner.{Ready, Proposal};
+ghost use Rattle.form_rules.specs.inner.Proposals.{Ready, Proposal};
 
 // How many of the fragments are not kept.
 fn missing_in(p: Place) -> usize

@@ -13,7 +13,7 @@ ghost use Rattle.base_rules.specs.Bounds.{place, parity};
 ghost use Rattle.base_rules.specs.Bytes.{splice};
 ghost use Rattle.places_rules.specs.Faults.{badPlace};
 ghost use Rattle.form_rules.specs.Agree.{enoughIn};
-ghost use Rattle.form_rules.specs.Inner.{Ready, Proposal, dataOf};
+ghost use Rattle.form_rules.specs.inner.Proposals.{Ready, Proposal, dataOf};
 
 // Whether no chunk misses more than 48 bytes; figures that make no chunk miss none.
 pub fn suffices(p: Place) -> bool
@@ -44,7 +44,8 @@ fn gather(cells: &[u8], k: usize, c: usize, buffer: &mut [u8])
 
 // Whether all bytes are zero.
 fn all_zero(s: &[u8]) -> bool
-    ensures { λ r. ⌜ (r ≡ true → now (s .entry) ≡ replicate (length (now (s .entry))) 0) × (now (s .entry) ≡ replicate (length (now (s .entry))) 0 → r ≡ true) ⌝ }
+    ensures { λ r. ⌜ (r ≡ true → now (s .entry) ≡ replicate (length (now (s .entry))) 0)
+        × (now (s .entry) ≡ replicate (length (now (s .entry))) 0 → r ≡ true) ⌝ }
 {
     for i in 0..s.len() {
         if s[i] != 0 {

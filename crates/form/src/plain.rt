@@ -25,7 +25,8 @@ fn before_last(p: Place) -> usize
 // Joins the fragments at the front of a buffer; the answer is how many bytes they are.
 pub fn join(p: Place, held: &[u8], buffer: &mut [u8]) -> usize
     requires { ⌜ (badPlace p ≡ false) × (place ≤ length (now held)) × (length (now buffer) ≡ place) ⌝ }
-    ensures { λ r. ⌜ (r ≡ length (joined p (now (held .entry)))) × (now (buffer .exit) ≡ splice (now (buffer .entry)) 0 (joined p (now (held .entry)))) ⌝ }
+    ensures { λ r. ⌜ (r ≡ length (joined p (now (held .entry))))
+        × (now (buffer .exit) ≡ splice (now (buffer .entry)) 0 (joined p (now (held .entry)))) ⌝ }
 {
     let front = before_last(p);
     let last = p.last as usize;

@@ -44,8 +44,11 @@ module _ (p : Place) (held room : ℕ) where
   pub fault-free : formFault p held room ≡ 0 → (badPlace p ≡ false) × (place ≤ held) × (most-l ≤ room)
   unfolding formFault
   fault-free e =
-      let fits : (ltb held place || ltb room most-l) ≡ false = clear _ 1 [] (λ z. omega arith) (clear-rest (badPlace p) 14 _ (λ z. omega arith) e) in
-      (clear (badPlace p) 14 _ (λ z. omega arith) e, ltb-false held place (or-left (ltb held place) _ fits), ltb-false room most-l (or-right (ltb held place) _ fits))
+      let fits : (ltb held place || ltb room most-l) ≡ false = clear _ 1 [] (λ z. omega arith) (clear-rest (badPlace p) 14 _ (λ z. omega arith) e) in (
+        clear (badPlace p) 14 _ (λ z. omega arith) e,
+        ltb-false held place (or-left (ltb held place) _ fits),
+        ltb-false room most-l (or-right (ltb held place) _ fits),
+      )
 
 -- the AF checks, by what was answered
 module _ (packet : List ℕ) where

@@ -14,7 +14,7 @@ use Rattle.codeword.specs.Code.{Coded, parityOf, encode}
 use Rattle.codeword.proofs.Proved.{systematic}
 use Rattle.code_rules.specs.Block.{part}
 use Rattle.code_rules.proofs.PartLaws.{room, part-at}
-use Rattle.form_rules.specs.Inner.{dataOf}
+use Rattle.form_rules.specs.inner.Proposals.{dataOf}
 
 -- ---- the chunks of a list
 
@@ -89,7 +89,8 @@ module _ (k : ℕ) where
       let first : Coded k (take n l) = subst (Coded k) (chunk-first n l) (each 0 (omega arith)) in
       let word : encode (take k l) ≡ take n l = ap encode (sym (take-take k n l (omega arith))) ∙ sym (systematic k (take n l) short first) in
       let behind : blockOf parityOf rest k c ≡ take (c * n) (drop n l) =
-      block-data (drop n l) c short (omega (arith, length-drop n l)) (λ j (b : j < c). subst (Coded k) (sym (chunk-next n j l)) (each (suc j) (omega arith))) in
+      block-data (drop n l) c short (omega (arith, length-drop n l))
+      (λ j (b : j < c). subst (Coded k) (sym (chunk-next n j l)) (each (suc j) (omega arith))) in
       ap₂ (λ (a b : List ℕ). encode a ++ blockOf parityOf b k c) (take-at (take k l) rest k size) (drop-at (take k l) rest k size)
       ∙ ap₂ (λ (a b : List ℕ). a ++ b) word behind
       ∙ sym (take-add n (c * n) l)

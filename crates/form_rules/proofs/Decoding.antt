@@ -28,7 +28,7 @@ use Rattle.code_rules.proofs.CellLaws.{standing}
 use Rattle.places_rules.specs.declared.Place.{Place}
 use Rattle.places_rules.specs.Faults.{badPlace}
 use Rattle.form_rules.specs.Agree.{enoughIn, lostIn, Fills, Agrees}
-use Rattle.form_rules.specs.Inner.{Ready, Proposal, dataOf}
+use Rattle.form_rules.specs.inner.Proposals.{Ready, Proposal, dataOf}
 use Rattle.form_rules.specs.declared.Proposed.the-variants as proposed
 use Rattle.form_rules.proofs.Chunks.{length-data}
 use Rattle.form_rules.proofs.Mending.{Laid, within, none, only, fits, padded-behind, no-chunk}
@@ -54,14 +54,16 @@ module _ (p : Place) (ranged : badPlace p ≡ false) (fec : p .fec ≡ true) whe
   unfolding held-calls.numberOf
   suffices-no h is e = told-enough false (sym (ap held-calls.numberOf is) ∙ e)
 
-  pub suffices-refused : (h : Held) (n : ℕ) → h ≡ helds.Refused n → held-calls.numberOf h ≡ enoughOf (p .kept) (p .count) (p .size) (p .rsk) → true ≡ enoughIn p
+  pub suffices-refused : (h : Held) (n : ℕ) → h ≡ helds.Refused n → held-calls.numberOf h ≡ enoughOf (p .kept) (p .count) (p .size) (p .rsk)
+      → true ≡ enoughIn p
   unfolding held-calls.numberOf enoughOf
   suffices-refused h n is e =
       none-enough (figures.enough-refused (figures.figures p ranged fec) n _ (sym (ap held-calls.numberOf is) ∙ e))
 
 -- ---- the cells
 
-module _ {f s k z : ℕ} (g : figures.Figures f s k z) (some : k + parity ≤ f * s) (held blank cells : List ℕ) (a : Answer) (whole : place ≤ length held)
+module _ {f s k z : ℕ} (g : figures.Figures f s k z) (some : k + parity ≤ f * s) (held blank cells : List ℕ) (a : Answer)
+    (whole : place ≤ length held)
     (room : place ≤ length blank) (put : outcome a cells ≡ deinterleaveOf held f s blank) where
   is-laid : cells ≡ splice blank 0 (cellsOf held f s)
   is-laid =

@@ -13,7 +13,7 @@ use Rattle.base_rules.specs.Bytes.{splice}
 use Rattle.base_rules.specs.Written.{putOf}
 use Rattle.base_rules.proofs.Answers.{put-is}
 use Rattle.base_rules.proofs.Splice.{splice-none, splice-next, splice-length}
-use Rattle.form_rules.specs.Inner.{dataOf}
+use Rattle.form_rules.specs.inner.Proposals.{dataOf}
 use Rattle.form_rules.proofs.Chunks.{length-data}
 
 -- the data of one chunk more have the k bytes behind them
@@ -33,7 +33,8 @@ pub gathered-none : (cells buffer : List ℕ) (k : ℕ) → buffer ≡ splice bu
 unfolding dataOf
 gathered-none cells buffer k = splice-none buffer 0
 
-pub gathered-all : (cells buffer x : List ℕ) (k i c : ℕ) → i ≤ c → c ≤ i → x ≡ splice buffer 0 (dataOf cells k i) → x ≡ splice buffer 0 (dataOf cells k c)
+pub gathered-all : (cells buffer x : List ℕ) (k i c : ℕ) → i ≤ c → c ≤ i → x ≡ splice buffer 0 (dataOf cells k i)
+    → x ≡ splice buffer 0 (dataOf cells k c)
 gathered-all cells buffer x k i c h g e = e ∙ ap (λ (n : ℕ). splice buffer 0 (dataOf cells k n)) (omega arith)
 
 module _ (cells buffer : List ℕ) (k c : ℕ) (chunks : c * (k + parity) ≤ length cells) (room : c * k ≤ length buffer) where

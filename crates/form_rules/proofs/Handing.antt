@@ -20,7 +20,7 @@ use Rattle.af_rules.proofs.Proved.{a3}
 use Rattle.places_rules.specs.declared.Place.{Place}
 use Rattle.form_rules.specs.Agree.{enoughIn, missingIn, joined, Agrees}
 use Rattle.form_rules.specs.Calls.{formFault, numberOf, PlaceFormed}
-use Rattle.form_rules.specs.Inner.{Ready, Only}
+use Rattle.form_rules.specs.inner.Proposals.{Ready, Only}
 use Rattle.form_rules.specs.declared.Formed.the-variants.{Waits, Packet, Nothing, Refused}
 use Rattle.form_rules.proofs.Checks.{fault-none}
 use Rattle.form_rules.proofs.Joining.{joined-fits}

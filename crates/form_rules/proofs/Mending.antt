@@ -33,7 +33,7 @@ use Rattle.code_rules.proofs.PartLaws as parts
 use Rattle.af_rules.proofs.Checks.{passing}
 use Rattle.places_rules.specs.declared.Place.{Place}
 use Rattle.form_rules.specs.Agree.{Fills, Agrees}
-use Rattle.form_rules.specs.Inner.{dataOf}
+use Rattle.form_rules.specs.inner.Proposals.{dataOf}
 use Rattle.form_rules.proofs.Chunks.{chunk-at, length-chunk, chunks-same, length-data, chunk-data, bytes-data, block-data}
 
 -- the first f s cells are those of a place
@@ -113,7 +113,8 @@ module _ (f s k z : ℕ) (lost : ℕ → Bool) (held P : List ℕ) (fills : Fill
 
     bytes-chunk : Bytes (chunkOf (padded P z) k j)
     unfolding chunkOf padded
-    bytes-chunk = bytes-take k (drop (j * k) (padded P z)) (bytes-drop (j * k) (padded P z) (bytes-append P (replicate z 0) (fills .bytes) (bytes-zeros z)))
+    bytes-chunk = bytes-take k (drop (j * k) (padded P z))
+        (bytes-drop (j * k) (padded P z) (bytes-append P (replicate z 0) (fills .bytes) (bytes-zeros z)))
 
     -- chunk j with its parity is a word of the code
     coded : k ≤ most-k → Coded k (encode (chunkOf (padded P z) k j))
@@ -133,7 +134,8 @@ module _ (f s k z : ℕ) (lost : ℕ → Bool) (held P : List ℕ) (fills : Fill
 -- its words have the kept bytes of the cells
 module _ (f s k z : ℕ) (kept : List Bool) (held cells : List ℕ) (laid : Laid f s held cells) (room : f * s ≤ length cells) (small : k ≤ most-k)
     (P : List ℕ) (fills : Fills f s k z (notKept kept) held P) (j : ℕ) (below : j < receivedC f s k) where
-  pub word-agrees : chunk.Agrees k (lostCells kept f (j * (k + parity)) (k + parity)) (chunkOf cells (k + parity) j) (encode (chunkOf (padded P z) k j))
+  pub word-agrees : chunk.Agrees k (lostCells kept f (j * (k + parity)) (k + parity)) (chunkOf cells (k + parity) j)
+      (encode (chunkOf (padded P z) k j))
   word-agrees =
       let n : ℕ = k + parity in
       let w : List ℕ = encode (chunkOf (padded P z) k j) in
@@ -141,7 +143,8 @@ module _ (f s k z : ℕ) (kept : List Bool) (held cells : List ℕ) (laid : Laid
       record {
         coded = is-coded;
         keeps =
-            erased-same kept f (j * n) n w (chunkOf cells n j) (is-coded .size) (length-chunk n (receivedC f s k) j cells (omega (arith, within f s k)) below)
+            erased-same kept f (j * n) n w (chunkOf cells n j) (is-coded .size)
+            (length-chunk n (receivedC f s k) j cells (omega (arith, within f s k)) below)
             (λ i (h : i < n) g.
             let inside : j * n + i < receivedC f s k * n = omega (arith, parts.room n (receivedC f s k) j below) in
             word-at f s k z (notKept kept) held P fills j below i h
@@ -157,7 +160,8 @@ module _ (f s k z : ℕ) (kept : List Bool) (held cells : List ℕ) (laid : Laid
   word-only enough w a =
       one-filling k (lostCells kept f (j * (k + parity)) (k + parity)) (chunkOf cells (k + parity) j) (encode (chunkOf (padded P z) k j)) w small
       (length-lost kept f (j * (k + parity)) (k + parity))
-      (subst (λ (m : List ℕ). count (marks m) ≤ parity) (part-lost kept f (k + parity) (receivedC f s k) j below) (few-lost kept f (k + parity) (receivedC f s k) enough j below))
+      (subst (λ (m : List ℕ). count (marks m) ≤ parity) (part-lost kept f (k + parity) (receivedC f s k) j below)
+      (few-lost kept f (k + parity) (receivedC f s k) enough j below))
       word-agrees a
 
 -- ---- what filling leaves
@@ -166,13 +170,15 @@ module _ (f s k z : ℕ) (kept : List Bool) (held cells after : List ℕ) (laid 
     (small : k ≤ most-k) (zeros : z < k) where
   -- where one chunk has no filling, no packet agrees
   pub none : BlockNothing kept f k (receivedC f s k) cells after → (P : List ℕ) → Fills f s k z (notKept kept) held P → ⊥
-  none left P fills = left .none (encode (chunkOf (padded P z) k (left .at))) (word-agrees f s k z kept held cells laid room small P fills (left .at) (left .below))
+  none left P fills = left .none (encode (chunkOf (padded P z) k (left .at)))
+      (word-agrees f s k z kept held cells laid room small P fills (left .at) (left .below))
 
   -- the chunks stand in what is left
   after-room : BlockDone kept f k (receivedC f s k) cells after → receivedC f s k * (k + parity) ≤ length after
   after-room done = omega (arith, within f s k, done .size)
 
-  same-data : suffice (notKept kept) f (k + parity) (receivedC f s k) ≡ true → BlockDone kept f k (receivedC f s k) cells after → (P : List ℕ) → Fills f s k z (notKept kept) held P
+  same-data : suffice (notKept kept) f (k + parity) (receivedC f s k) ≡ true → BlockDone kept f k (receivedC f s k) cells after → (P : List ℕ)
+      → Fills f s k z (notKept kept) held P
       → take (receivedC f s k * k) (padded P z) ≡ dataOf after k (receivedC f s k)
   same-data enough done P fills =
       let c : ℕ = receivedC f s k in
@@ -214,8 +220,10 @@ module _ (f s k z : ℕ) (kept : List Bool) (held cells after : List ℕ) (laid 
       let c : ℕ = receivedC f s k in
       let n : ℕ = k + parity in
       let found : List ℕ = dataOf after k c in
-      let whole : padded (take (c * k - z) found) z ≡ found = ap (λ (t : List ℕ). take (c * k - z) found ++ t) (sym behind) ∙ take-append-drop (c * k - z) found in
-      let block : blockOf parityOf found k c ≡ take (c * n) after = block-data k after c small (after-room done) (λ j (b : j < c). done .each j b .coded) in
+      let whole : padded (take (c * k - z) found) z ≡ found = ap (λ (t : List ℕ). take (c * k - z) found ++ t) (sym behind)
+      ∙ take-append-drop (c * k - z) found in
+      let block : blockOf parityOf found k c ≡ take (c * n) after = block-data k after c small (after-room done)
+      (λ j (b : j < c). done .each j b .coded) in
       record {
         size = length-take-le (c * k - z) found (omega (arith, length-data after k c (after-room done)));
         bytes = bytes-take (c * k - z) found (bytes-data k after c (λ j (b : j < c). done .each j b .coded));
@@ -227,7 +235,8 @@ module _ (f s k z : ℕ) (kept : List Bool) (held cells after : List ℕ) (laid 
       }
 
   -- and where a packet agrees they do stand there, if there is a chunk at all
-  pub padded-behind : BlockDone kept f k (receivedC f s k) cells after → suffice (notKept kept) f (k + parity) (receivedC f s k) ≡ true → (P : List ℕ) → Fills f s k z (notKept kept) held P
+  pub padded-behind : BlockDone kept f k (receivedC f s k) cells after → suffice (notKept kept) f (k + parity) (receivedC f s k) ≡ true
+      → (P : List ℕ) → Fills f s k z (notKept kept) held P
       → 0 < receivedC f s k → drop (receivedC f s k * k - z) (dataOf after k (receivedC f s k)) ≡ replicate z 0
   unfolding padded
   padded-behind done enough P fills one =

@@ -99,7 +99,8 @@ module _ (f s k z : ℕ) (lost : ℕ → Bool) (held : List ℕ) where
       go (search-bytes (receivedC f s k * k - z) (λ P. ((q : ℕ) → q < receivedC f s k * (k + parity) → CellAgrees P q) × (afFault P ≡ 0))
       (λ P. Dec·and (all-below (CellAgrees P) (cell-agrees P) (receivedC f s k * (k + parity))) (ℕ-discrete (afFault P) 0)))
     where
-      go : Dec ((P : List ℕ) × (length P ≡ receivedC f s k * k - z) × Bytes P × (((q : ℕ) → q < receivedC f s k * (k + parity) → CellAgrees P q) × (afFault P ≡ 0)))
+      go : Dec ((P : List ℕ) × (length P ≡ receivedC f s k * k - z) × Bytes P
+          × (((q : ℕ) → q < receivedC f s k * (k + parity) → CellAgrees P q) × (afFault P ≡ 0)))
           → Dec ((P : List ℕ) × Fills f s k z lost held P × (afFault P ≡ 0))
       go (yes (P, size, bytes, x)) = yes (P, record { size = size; bytes = bytes; cells = x .0 }, x .1)
       go (no none) = no (λ x. none (x .0, x .1 .size, x .1 .bytes, (x .1 .cells, x .2)))

@@ -31,7 +31,8 @@ pub laid-all : (held : List ℕ) (f s : ℕ) → Laid f s held (cellsOf held f s
 unfolding cellsOf
 laid-all held f s q h = at-table (cellOf held f s) 0 (f * s) q h ∙ ap (cellOf held f s) (zero-add q)
 
-module _ (f s k z : ℕ) (kept : List Bool) (held : List ℕ) (small : k ≤ most-k) (enough-kept : suffice (notKept kept) f (k + parity) (receivedC f s k) ≡ true)
+module _ (f s k z : ℕ) (kept : List Bool) (held : List ℕ) (small : k ≤ most-k)
+    (enough-kept : suffice (notKept kept) f (k + parity) (receivedC f s k) ≡ true)
     (P Q : List ℕ) (a : Fills f s k z (notKept kept) held P) (b : Fills f s k z (notKept kept) held Q) where
   same-chunk : (j : ℕ) → j < receivedC f s k → chunkOf (padded P z) k j ≡ chunkOf (padded Q z) k j
   same-chunk j below =
@@ -50,7 +51,8 @@ module _ (f s k z : ℕ) (kept : List Bool) (held : List ℕ) (small : k ≤ mos
       ∙ ap (take (receivedC f s k * k - z)) (chunks-same k (receivedC f s k) (padded P z) (padded Q z) same-chunk)
       ∙ from-chunks f s k z (notKept kept) held Q b
 
-pub enough-coded : (p : Place) → p .fec ≡ true → enoughIn p ≡ suffice (notKept (p .kept)) (p .count) (p .rsk + parity) (receivedC (p .count) (p .size) (p .rsk))
+pub enough-coded : (p : Place) → p .fec ≡ true → enoughIn p ≡ suffice (notKept (p .kept)) (p .count) (p .rsk + parity)
+    (receivedC (p .count) (p .size) (p .rsk))
 unfolding enoughIn enough
 enough-coded p fec = rw fec
 

@@ -1,4 +1,4 @@
 pub mod Agree
 pub mod Calls
-pub mod Inner
 pub mod Claims
+pub mod inner

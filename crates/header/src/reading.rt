@@ -14,7 +14,8 @@ ghost use Prim.Native.Nat.{_*_, _≤_};
 ghost use lib.Dec.{leb};
 ghost use lib.ListN.{length, getD};
 ghost use Rattle.base_rules.specs.Bounds.{place};
-ghost use Rattle.header_rules.specs.Read.{hasFec, hasAddress, addressAt, addressOf, fieldsOf, bodyLength, lengthOf, isShort, badCrc, badLength, badAddress, badIndex, badSize, faultOf, parsedOf};
+ghost use Rattle.header_rules.specs.Read.{hasFec, hasAddress, addressAt, addressOf, fieldsOf, bodyLength, lengthOf, isShort, badCrc, badLength};
+ghost use Rattle.header_rules.specs.Read.{badAddress, badIndex, badSize, faultOf, parsedOf};
 ghost use Rattle.weave_rules.specs.Calls.{badCount, badChunk};
 ghost use Rattle.cut_rules.specs.declared.Address.the-variants.{Pair};
 

@@ -20,7 +20,8 @@ use Rattle.weave_rules.specs.Calls.{badCount, tooMuch, badChunk}
 use Rattle.weave_rules.proofs.CallCases.{f-most, fits-place, chunk-some}
 use Rattle.header_rules.specs.declared.Header.{Header}
 use Rattle.header_rules.specs.Header.{sync}
-use Rattle.header_rules.specs.Read.{addressOf, fieldsOf, bodyLength, lengthOf, isShort, notSync, badCrc, badLength, badAddress, badIndex, badSize, faultOf}
+use Rattle.header_rules.specs.Read.{addressOf, fieldsOf, bodyLength, lengthOf, isShort, notSync, badCrc, badLength, badAddress, badIndex}
+use Rattle.header_rules.specs.Read.{badSize, faultOf}
 use Rattle.header_rules.proofs.Fields.{no-chunk}
 
 -- ---- the tests from each number on

@@ -19,7 +19,8 @@ use Rattle.weave_rules.specs.Calls.{badCount, tooMuch, badChunk}
 use Rattle.header_rules.specs.declared.Header.{Header}
 use Rattle.header_rules.specs.declared.Parsed.the-variants.{Fragment, Refused}
 use Rattle.header_rules.specs.Header.{addrBit}
-use Rattle.header_rules.specs.Read.{flagsAt, hasFec, hasAddress, addressAt, addressOf, fieldsOf, bodyLength, lengthOf, isShort, badCrc, badLength, badAddress, badIndex, badSize, faultOf, parsedOf}
+use Rattle.header_rules.specs.Read.{flagsAt, hasFec, hasAddress, addressAt, addressOf, fieldsOf, bodyLength, lengthOf, isShort, badCrc}
+use Rattle.header_rules.specs.Read.{badLength, badAddress, badIndex, badSize, faultOf, parsedOf}
 
 -- ---- what stands in a datagram
 
@@ -49,7 +50,8 @@ module _ (s : List ℕ) where
   body-plain a e is-a = rw e (is-a ∙ sym (add-zero (addressAt s)))
 
   pub fields-read : (number index count rsk rsz flags : ℕ) (fec : Bool) (address : Address) → number ≡ numberAt 2 s 2 → index ≡ numberAt 3 s 4
-      → count ≡ numberAt 3 s 7 → fec ≡ hasFec s → rsk ≡ cond fec (getD s 12 0) 0 → rsz ≡ cond fec (getD s 13 0) 0 → address ≡ addressOf s → flags ≡ numberAt 2 s 10
+      → count ≡ numberAt 3 s 7 → fec ≡ hasFec s → rsk ≡ cond fec (getD s 12 0) 0 → rsz ≡ cond fec (getD s 13 0) 0 → address ≡ addressOf s
+      → flags ≡ numberAt 2 s 10
       → record {
         number = number;
         index = index;

@@ -105,7 +105,8 @@ front-laid h out x₁ x₂ x₃ x₄ x₅ b₂ b₃ b₄ b₅ flags p₁ p₂ p�
     let a₄ : List ℕ = a₃ ++ bytesOf 3 (h .count) in
     let two : length pf ≡ 2 = refl in
     let z₁ : x₁ ≡ splice out 0 a₁ = put-is out pf x₁ 0 p₁ (omega (arith, two)) e₁ in
-    let z₂ : x₂ ≡ splice out 0 a₂ = put-next out x₁ x₂ a₁ (bytesOf 2 (h .number)) b₂ 2 p₂ refl (omega (arith, length-bytes 2 (h .number))) z₁ is-2 e₂ in
+    let z₂ : x₂ ≡ splice out 0 a₂ = put-next out x₁ x₂ a₁ (bytesOf 2 (h .number)) b₂ 2 p₂ refl
+    (omega (arith, length-bytes 2 (h .number))) z₁ is-2 e₂ in
     let z₃ : x₃ ≡ splice out 0 a₃ = put-next out x₂ x₃ a₂ (bytesOf 3 (h .index)) b₃ 4 p₃ refl (omega (arith, length-bytes 3 (h .index))) z₂ is-3 e₃ in
     let z₄ : x₄ ≡ splice out 0 a₄ = put-next out x₃ x₄ a₃ (bytesOf 3 (h .count)) b₄ 7 p₄ refl (omega (arith, length-bytes 3 (h .count))) z₃ is-4 e₄ in
     put-next out x₄ x₅ a₄ (bytesOf 2 (flagsOf h)) b₅ 10 p₅ refl (omega (arith, length-bytes 2 (flagsOf h))) z₄ (is-5 ∙ ap (bytesOf 2) is-flags) e₅
@@ -152,13 +153,15 @@ module _ (a : Address) (out : List ℕ) (at : ℕ) where
 
 -- ---- HCRC, and all of it
 
-pub crc-laid : (out y b : List ℕ) (at word : ℕ) (p : Answer) → word ≡ wordOf (take at out) → b ≡ bytesOf 2 word → at + 2 ≤ length out → outcome p y ≡ putOf out at b
+pub crc-laid : (out y b : List ℕ) (at word : ℕ) (p : Answer) → word ≡ wordOf (take at out) → b ≡ bytesOf 2 word → at + 2 ≤ length out
+    → outcome p y ≡ putOf out at b
     → y ≡ splice out at (bytesOf 2 (wordOf (take at out)))
 crc-laid out y b at word p is-word is-b room e =
     let two : length b ≡ 2 = ap length is-b ∙ length-bytes 2 word in
     put-is out b y at p (omega arith) e ∙ ap (splice out at) (is-b ∙ ap (bytesOf 2) is-word)
 
-pub header-laid : (h : Header) (out w x y v : List ℕ) (a b : ℕ) → w ≡ splice out 0 (frontOf h) → a ≡ 12 + length (fecPart h) → x ≡ splice w 12 (fecPart h)
+pub header-laid : (h : Header) (out w x y v : List ℕ) (a b : ℕ) → w ≡ splice out 0 (frontOf h) → a ≡ 12 + length (fecPart h)
+    → x ≡ splice w 12 (fecPart h)
     → b ≡ a + length (addressPart (h .address)) → y ≡ splice x a (addressPart (h .address)) → v ≡ splice y b (bytesOf 2 (wordOf (take b y)))
     → take (b + 2) v ≡ headerBytes h
 unfolding headerBytes

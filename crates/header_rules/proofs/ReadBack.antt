@@ -62,7 +62,8 @@ plen-in false (Pair source dest) x h = omega arith
 -- ---- the parts that a header may have
 
 rs-in : (b : Bool) (k z : ℕ) (a c rest : List ℕ) → (b ≡ false → (k ≡ 0) × (z ≡ 0))
-    → (cond b (getD (((cond b (k ∷ z ∷ []) [] ++ a) ++ c) ++ rest) 0 0) 0 ≡ k) × (cond b (getD (((cond b (k ∷ z ∷ []) [] ++ a) ++ c) ++ rest) 1 0) 0 ≡ z)
+    → (cond b (getD (((cond b (k ∷ z ∷ []) [] ++ a) ++ c) ++ rest) 0 0) 0 ≡ k)
+    × (cond b (getD (((cond b (k ∷ z ∷ []) [] ++ a) ++ c) ++ rest) 1 0) 0 ≡ z)
 rs-in true k z a c rest plain = (refl, refl)
 rs-in false k z a c rest plain = (sym (plain refl .0), sym (plain refl .1))
 

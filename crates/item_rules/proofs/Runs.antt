@@ -62,7 +62,8 @@ module _ (s : List ℕ) (name at end : ℕ) where
   unfolding firstOf
   first-here i e q = rw (run-item s at end i e) (simp (eq-eqb _ _ q))
 
-  pub first-next : (i : Item) → stepIn s at end ≡ step.Item i → (i .name ≡ name → ⊥) → firstOf name (runOf s at end) ≡ firstOf name (runOf s (nextOf i) end)
+  pub first-next : (i : Item) → stepIn s at end ≡ step.Item i → (i .name ≡ name → ⊥)
+      → firstOf name (runOf s at end) ≡ firstOf name (runOf s (nextOf i) end)
   unfolding firstOf
   first-next i e q = rw (run-item s at end i e) (simp (ne-eqb _ _ q))
 

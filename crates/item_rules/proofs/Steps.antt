@@ -13,12 +13,14 @@ use Rattle.base_rules.specs.Bytes.{numberAt}
 use Rattle.item_rules.specs.Item.{head, bytesFor, itemAt, stepIn}
 
 -- an item of these fields is what stands there
-pub is-item : (s : List ℕ) (at end name bits len : ℕ) → 8 ≤ end - at → name ≡ numberAt 4 s at → bits ≡ numberAt 4 s (at + 4) → len ≡ bytesFor bits → 8 + len ≤ end - at
+pub is-item : (s : List ℕ) (at end name bits len : ℕ) → 8 ≤ end - at → name ≡ numberAt 4 s at → bits ≡ numberAt 4 s (at + 4)
+    → len ≡ bytesFor bits → 8 + len ≤ end - at
     → step.Item (record { name = name; bits = record { 0 = bits }; from = at + head; len = record { 0 = len } }) ≡ stepIn s at end
 unfolding stepIn itemAt
 is-item s at end name bits len h n b l f = rw (n, l, b) (simp (le-ltb _ _ h, le-leb _ _ (rw (l, b) at f)))
 
-pub is-overrun : (s : List ℕ) (at end bits len : ℕ) → 8 ≤ end - at → bits ≡ numberAt 4 s (at + 4) → len ≡ bytesFor bits → end - at < 8 + len → step.Refused 30 ≡ stepIn s at end
+pub is-overrun : (s : List ℕ) (at end bits len : ℕ) → 8 ≤ end - at → bits ≡ numberAt 4 s (at + 4) → len ≡ bytesFor bits → end - at < 8 + len
+    → step.Refused 30 ≡ stepIn s at end
 unfolding stepIn
 is-overrun s at end bits len h b l f = simp (le-ltb _ _ h, lt-leb _ _ (rw (l, b) at f))
 
@@ -39,7 +41,8 @@ item-fits s at end i e =
 
 pub item-at : (s : List ℕ) (at end : ℕ) (i : Item) → stepIn s at end ≡ step.Item i → i ≡ itemAt s at
 unfolding stepIn
-item-at s at end i e = item-by (ltb (end - at) 8) (leb (8 + bytesFor (numberAt 4 s (at + 4))) (end - at)) (itemAt s at) i (record { 0 = end - at }) e .1
+item-at s at end i e = item-by (ltb (end - at) 8) (leb (8 + bytesFor (numberAt 4 s (at + 4))) (end - at)) (itemAt s at) i
+    (record { 0 = end - at }) e .1
 
 -- padding is less than an item's head
 few-by : (b b′ : Bool) (j : Item) (p q : Bytes) → cond b (step.End p) (cond b′ (step.Item j) (step.Refused 30)) ≡ step.End q → (b ≡ true) × (q ≡ p)
@@ -66,4 +69,5 @@ refused-by false false j p n e = cc
 -- the one refusal of a step
 pub refused-is : (s : List ℕ) (at end n : ℕ) → stepIn s at end ≡ step.Refused n → n ≡ 30
 unfolding stepIn
-refused-is s at end n e = refused-by (ltb (end - at) 8) (leb (8 + bytesFor (numberAt 4 s (at + 4))) (end - at)) (itemAt s at) (record { 0 = end - at }) n e
+refused-is s at end n e = refused-by (ltb (end - at) 8) (leb (8 + bytesFor (numberAt 4 s (at + 4))) (end - at)) (itemAt s at)
+    (record { 0 = end - at }) n e

@@ -17,7 +17,8 @@ use Rattle.places_rules.specs.declared.Place.{Place}
 use Rattle.places_rules.specs.declared.Table.{Table}
 use Rattle.places_rules.specs.declared.Displaced.{Displaced}
 use Rattle.places_rules.specs.declared.Displaced.the-variants.{None}
-use Rattle.places_rules.specs.Places.{four, delivered, placeAt, withPlace, keyOf, holds, heldAt, openAt, displacedAt, turned, openedBy, offsetOf, keptIn, inCondition}
+use Rattle.places_rules.specs.Places.{four, delivered, placeAt, withPlace, keyOf, holds, heldAt, openAt, displacedAt, turned, openedBy, offsetOf}
+use Rattle.places_rules.specs.Places.{keptIn, inCondition}
 use Rattle.places_rules.specs.Faults.{placeFault}
 use Rattle.receiver_rules.specs.declared.Received.the-variants.{Delivered, Refused}
 use Rattle.receiver_rules.specs.Promise.{numberOf, Outcome, outcome, State, payloadOf, keepAt, closedAt, Settled, SettledAfter}
@@ -33,7 +34,8 @@ use Rattle.link.proofs.Own.{Mine, Full, SizeKnown, opened-full, kept-si
 use Rattle.link.proofs.Fault.{fault-none, fault-12, fault-11}
 use Rattle.link.proofs.Settle.{Waited, Handed, waited, handed}
 use Rattle.link.proofs.Heard.{Brings, brings-number, come-own, come-it, come-again}
-use Rattle.link.proofs.Stage.{Alone, OpenAt, DoneAt, Stage, not-yet, open-at, done-at, open-held, done-held, mine-closed, sized-closed, condition-closed, enough-with, enough-none, moved-stage, refused-stage}
+use Rattle.link.proofs.Stage.{Alone, OpenAt, DoneAt, Stage, not-yet, open-at, done-at, open-held, done-held, mine-closed, sized-closed}
+use Rattle.link.proofs.Stage.{condition-closed, enough-with, enough-none, moved-stage, refused-stage}
 
 -- its answer, and how the packet stands after it
 pub record Next (g : Settings) (n : ℕ) (packet : List ℕ) (es : List Call) (e : Call) (i : ℕ) : Type 0 where
@@ -152,7 +154,8 @@ module _ (g : Settings) (n : ℕ) (packet : List ℕ) (takes : Takes g n packet)
           stage =
               either (enoughAfter g n packet (e ∷ es))
               (λ f. done-at at (done-now-at (sym enough-now ∙ f)) f)
-              (λ f. open-at at (subst (λ (came : ℕ → Bool). OpenAt g n packet came (after e) at) (sym came-now) (open-now-at (sym enough-now ∙ f))) f);
+              (λ f. open-at at (subst (λ (came : ℕ → Bool). OpenAt g n packet came (after e) at) (sym came-now)
+              (open-now-at (sym enough-now ∙ f))) f);
         }
 
   -- ---- its number
@@ -166,7 +169,8 @@ module _ (g : Settings) (n : ℕ) (packet : List ℕ) (takes : Takes g n packet)
       → SettledAfter (keepAt u at (p (fieldsOf (e .datagram))) d (fieldsOf (e .datagram)) (s .bytes) (payloadOf (e .datagram))) (e .lent) (e .left)
       → SettledAfter (keepAt u at (p (headerFor g n packet i)) d (headerFor g n packet i) (s .bytes) (payloadFor g packet i)) (e .lent) (e .left)
   its-settled u at p d z =
-      subst (λ (l : List ℕ). SettledAfter (keepAt u at (p (headerFor g n packet i)) d (headerFor g n packet i) (s .bytes) l) (e .lent) (e .left)) (b .payload)
+      subst (λ (l : List ℕ). SettledAfter (keepAt u at (p (headerFor g n packet i)) d (headerFor g n packet i) (s .bytes) l) (e .lent)
+      (e .left)) (b .payload)
       (subst (λ (h : Header). SettledAfter (keepAt u at (p h) d h (s .bytes) (payloadOf (e .datagram))) (e .lent) (e .left)) (b .fields) z)
 
   refused-answer : (x y : ℕ) → e .left ≡ outcome (Refused x) (s .table) (s .bytes) (e .lent) → x ≡ y
@@ -181,7 +185,8 @@ module _ (g : Settings) (n : ℕ) (packet : List ℕ) (takes : Takes g n packet)
   absent-step absent none (refuses passes low fault q) = absurd (omega (arith, low, absent, ap (heldAt (s .table)) key-is))
   absent-step absent none (keeps passes low fault z) = absurd (omega (arith, low, absent, ap (heldAt (s .table)) key-is))
   absent-step absent none (opens passes high z) =
-      kept-next (turned (s .table) (openAt (s .table))) (turned-four (s .table) (openAt (s .table)) (r .places)) (openAt (s .table)) (openedBy (headerFor g n packet i))
+      kept-next (turned (s .table) (openAt (s .table))) (turned-four (s .table) (openAt (s .table)) (r .places)) (openAt (s .table))
+      (openedBy (headerFor g n packet i))
       (displacedAt (s .table) (openAt (s .table)))
       (subst (λ (came : ℕ → Bool). Full g n packet came (openAt (s .table)) (openedBy (headerFor g n packet i)) (s .bytes)) (sym none)
       (opened-full g packet (takes .passed) n i (b .below) (openAt (s .table)) (s .bytes)))
@@ -200,7 +205,8 @@ module _ (g : Settings) (n : ℕ) (packet : List ℕ) (takes : Takes g n packet)
     kept-is : getD (placeAt (s .table) at .kept) i false ≡ come n es i
     kept-is = o .full .kept i (b .below)
 
-    fault-is : placeFault (placeAt (s .table) (heldAt (s .table) (keyOf (fieldsOf (e .datagram))))) (fieldsOf (e .datagram)) ≡ placeFault (placeAt (s .table) at) (headerFor g n packet i)
+    fault-is : placeFault (placeAt (s .table) (heldAt (s .table) (keyOf (fieldsOf (e .datagram))))) (fieldsOf (e .datagram)) ≡ placeFault
+        (placeAt (s .table) at) (headerFor g n packet i)
     fault-is = ap₂ (λ (x : ℕ) (h : Header). placeFault (placeAt (s .table) x) h) at-is (b .fields)
 
     new-fault : come n es i ≡ false → placeFault (placeAt (s .table) at) (headerFor g n packet i) ≡ 0
@@ -219,15 +225,18 @@ module _ (g : Settings) (n : ℕ) (packet : List ℕ) (takes : Takes g n packet)
               record {
                 kept = λ c f. clash old c;
                 again = λ c f. refused-answer _ 12 q (fault-is ∙ old-fault old);
-                delivered = λ c f. clash f (enough-with g n packet takes (e ∷ es) (come n es) same ∙ sym (enough-is g packet (takes .passed) n es) ∙ before);
+                delivered = λ c f. clash f (enough-with g n packet takes (e ∷ es) (come n es) same
+                    ∙ sym (enough-is g packet (takes .passed) n es) ∙ before);
                 late = λ f. clash f before;
               };
           stage = moved-stage g n packet takes es s e (after e) same (refused-stage g n packet takes es s e _ q (open-at at o before));
         }
     open-step (keeps passes low fault z) =
         let new : come n es i ≡ false = either (come n es i) (λ c. absurd (omega (arith, fault, fault-is, old-fault c))) (λ c. c) in
-        let here : SettledAfter (keepAt (s .table) at (placeAt (s .table) at) None (fieldsOf (e .datagram)) (s .bytes) (payloadOf (e .datagram))) (e .lent) (e .left) =
-        subst (λ (x : ℕ). SettledAfter (keepAt (s .table) x (placeAt (s .table) x) None (fieldsOf (e .datagram)) (s .bytes) (payloadOf (e .datagram))) (e .lent) (e .left)) at-is z in
+        let here : SettledAfter (keepAt (s .table) at (placeAt (s .table) at) None (fieldsOf (e .datagram)) (s .bytes)
+        (payloadOf (e .datagram))) (e .lent) (e .left) =
+        subst (λ (x : ℕ). SettledAfter (keepAt (s .table) x (placeAt (s .table) x) None (fieldsOf (e .datagram)) (s .bytes)
+        (payloadOf (e .datagram))) (e .lent) (e .left)) at-is z in
         kept-next (s .table) (r .places) at (placeAt (s .table) at) None (o .full) (o .alone) new before
         (wrote-held (e .own) s r (e .datagram) (e .lent) (made .bytes) passes (e .left) at (sym at-is) (o .low)
         (ap (λ (x : ℕ). placeFault (placeAt (s .table) x) (fieldsOf (e .datagram))) (sym at-is) ∙ fault) here)

@@ -79,4 +79,5 @@ module _ (g : Settings) (n : ℕ) (packet : List ℕ) (passed : packetFault g pa
         subst (λ (x : ℕ). Fills x (p .size) (p .rsk) (p .rsz) (lostIn p) (bytesAt b i) packet) (sym (full .mine .count))
         (subst (λ (x : ℕ). Fills (count g packet) x (p .rsk) (p .rsz) (lostIn p) (bytesAt b i) packet) (sym (sized fec))
         (subst (λ (x : ℕ). Fills (count g packet) (sizeOf g packet) x (p .rsz) (lostIn p) (bytesAt b i) packet) (sym (full .mine .rsk))
-        (subst (λ (x : ℕ). Fills (count g packet) (sizeOf g packet) (rskOf g packet) x (lostIn p) (bytesAt b i) packet) (sym (full .mine .rsz)) fills)))
+        (subst (λ (x : ℕ). Fills (count g packet) (sizeOf g packet) (rskOf g packet) x (lostIn p) (bytesAt b i) packet)
+        (sym (full .mine .rsz)) fills)))

@@ -73,7 +73,11 @@ module _ (a b : ℕ → Bool) (f : ℕ) (less : (i : ℕ) → a i ≡ true → b
   suffice-less n zero e = refl
   suffice-less n (suc c) e =
       both (suffice-less n c (and-left (suffice b f n c) _ e))
-      (le-leb (missing a f n c) parity (omega (arith, missing-less n c, leb-true (missing b f n c) parity (and-right (suffice b f n c) (leb (missing b f n c) parity) e))))
+      (le-leb (missing a f n c) parity (omega (
+        arith,
+        missing-less n c,
+        leb-true (missing b f n c) parity (and-right (suffice b f n c) (leb (missing b f n c) parity) e),
+      )))
 
   losses-less : losses a f ≤ losses b f
   unfolding losses

@@ -18,13 +18,17 @@ use Rattle.receiver_rules.specs.declared.Received.the-variants.{Delivered}
 use Rattle.receiver_rules.specs.Promise.{numberOf, State}
 use Rattle.link.specs.Run.{Call, after, Run, start, next, Holds, lost, All}
 use Rattle.link.specs.Demand.{T1, count, Among, Begins, Scene, enoughAfter, Promised, HandedOut}
-use Rattle.link.specs.Examples.{packet, number, Arrival, Played, opening, three-others, HandedOutLast, ThreeOthers, four-others, DisplacedLast, FourOthers}
+use Rattle.link.specs.Examples.{packet, number, Arrival, Played, opening, three-others, HandedOutLast, ThreeOthers, four-others, DisplacedLast}
+use Rattle.link.specs.Examples.{FourOthers}
 use Rattle.link.proofs.View.{Good}
 use Rattle.link.proofs.Frame.{good-fresh, good-run}
 use Rattle.link.proofs.Link.{at-most-three}
 use Rattle.link.proofs.Until.{until-displaced}
 use Rattle.link.proofs.Turns.{Stands, stands-held, stands-only, stands-fresh, Differ, stands-run}
-use Rattle.link.proofs.Arrivals.{packet-size, packet-count, packet-takes, Kind, Kinds, kinds, kinds-long, small, possible, all-possible, playable, came, come-is, all-own, among-these, all-these, all-among, is-its, begins-its, begins, is-number, in-turn, all-next}
+use Rattle.link.proofs.Brings.{packet-size, packet-count, packet-takes, Kind, Kinds, kinds, small, possible, all-possible}
+use Rattle.link.proofs.Arrivals.{kinds-long}
+use Rattle.link.proofs.Arrivals.{playable, came, come-is, all-own, among-these, all-these, all-among, is-its, begins-its, begins, is-number}
+use Rattle.link.proofs.Arrivals.{in-turn, all-next}
 
 -- ---- the numbers in the order in which they open a place
 
@@ -50,7 +54,8 @@ module _ {arrivals : List Arrival} (r : Played opening arrivals) where
   first-stands =
       let k = kinds-long (reverse opening) (r .old) old-kinds in
       subst (λ (m : ℕ). Stands who m (r .first)) (omega (arith, k))
-      (stands-run who 9 differ (stands-fresh who (r .lent)) (good-fresh (r .lent) (r .all)) (r .opened) (omega (arith, k)) (all-next who 0 (reverse opening) (r .old) old-kinds refl))
+      (stands-run who 9 differ (stands-fresh who (r .lent)) (good-fresh (r .lent) (r .all)) (r .opened) (omega (arith, k))
+      (all-next who 0 (reverse opening) (r .old) old-kinds refl))
 
   first-good : Good (r .first)
   first-good = good-run (good-fresh (r .lent) (r .all)) (r .opened)
@@ -112,7 +117,8 @@ until-fourth = record { starts = refl; others = refl; losses = refl }
 t1 : T1
 t1 = at-most-three until-displaced
 
-module _ {arrivals : List Arrival} (r : Played opening arrivals) {xs : List Arrival} {missed : ℕ} (suits : Suits xs missed) {es : List Call} {now : State}
+module _ {arrivals : List Arrival} (r : Played opening arrivals) {xs : List Arrival} {missed : ℕ}
+    (suits : Suits xs missed) {es : List Call} {now : State}
     (k : Kinds xs es) (run : Run (r .first) es now) where
   its-scene : Scene houseOf number packet (r .first) es now
   its-scene = scene r xs es now k run
@@ -171,7 +177,11 @@ module _ (r : Played opening three-others) where
         before = before;
         enough-now = now-enough;
         handed = handed-out r three-suits k (next e run made) now-enough;
-        told = (answer .0 .0, answer .0 .1 ∙ ap₂ (λ (l m : ℕ). numberOf (Delivered l m (answer .0 .0))) packet-size (lost-is r three-suits k (next e run made)));
+        told = (
+          answer .0 .0,
+          answer .0 .1 ∙ ap₂ (λ (l m : ℕ). numberOf (Delivered l m (answer .0 .0))) packet-size
+              (lost-is r three-suits k (next e run made)),
+        );
         written = answer .1;
       }
 

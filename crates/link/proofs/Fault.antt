@@ -28,7 +28,8 @@ beq-same : (a b : Bool) → a ≡ b → not (Bool·beq a b) ≡ false
 beq-same true b e = ap (λ (v : Bool). not (Bool·beq true v)) (sym e)
 beq-same false b e = ap (λ (v : Bool). not (Bool·beq false v)) (sym e)
 
-module _ (g : Settings) (n : ℕ) (packet : List ℕ) (passed : packetFault g packet ≡ 0) (i : ℕ) (p : Place) (mine : Mine g n packet p) (sized : SizeKnown g packet p) where
+module _ (g : Settings) (n : ℕ) (packet : List ℕ) (passed : packetFault g packet ≡ 0) (i : ℕ) (p : Place) (mine : Mine g n packet p)
+    (sized : SizeKnown g packet p) where
   known : (p .size ≡ 0 → ⊥) → p .size ≡ sizeOf g packet
   known some = cond-pick (mine .size .0) (sizeOf g packet) (p .size) (mine .size .1) some
 

@@ -19,16 +19,19 @@ use Rattle.places_rules.specs.declared.Place.{Place}
 use Rattle.places_rules.specs.declared.Table.{Table}
 use Rattle.places_rules.specs.declared.Displaced.{Displaced}
 use Rattle.places_rules.specs.declared.Displaced.the-variants.{None}
-use Rattle.places_rules.specs.Places.{four, free, delivered, spoiled, freePlace, freshTable, placeAt, withPlace, keyOf, holds, heldAt, openAt, turned, openedBy, offsetOf, keptIn, inCondition}
+use Rattle.places_rules.specs.Places.{four, free, delivered, spoiled, freePlace, freshTable, placeAt, withPlace, keyOf, holds, heldAt, openAt}
+use Rattle.places_rules.specs.Places.{turned, openedBy, offsetOf, keptIn, inCondition}
 use Rattle.places_rules.specs.Faults.{badPlace, badTable, placeFault}
 use Rattle.places_rules.proofs.Checks.{bad-3}
 use Rattle.places_rules.proofs.Ranges.{InRange, range-from, range-to}
 use Rattle.places_rules.proofs.Proved.{fresh-in-range, kept-in-range, opened-in-range}
-use Rattle.receiver_rules.specs.Promise.{Outcome, outcome, State, all-places, payloadOf, keepAt, closedAt, Settled, waits, delivers, damaged, SettledAfter}
+use Rattle.receiver_rules.specs.Promise.{Outcome, outcome, State, all-places, payloadOf, keepAt, closedAt, Settled, waits, delivers, damaged}
+use Rattle.receiver_rules.specs.Promise.{SettledAfter}
 use Rattle.receiver_rules.proofs.Ranges.{turn-fine, place-fine, opens-below, written-place}
 use Rattle.receiver_rules.proofs.Offsets.{offset-fits}
 use Rattle.link.specs.Run.{Call, after, Made, Run, start, next, freshWith, Reached}
-use Rattle.link.proofs.Basic.{same-or-not, less-or-not, spared-before, spared-behind, held-found, holds-number, holds-some, holds-other, other-place}
+use Rattle.link.proofs.Basic.{same-or-not, less-or-not, spared-before, spared-behind, held-found, holds-number, holds-some, holds-other}
+use Rattle.link.proofs.Basic.{other-place}
 use Rattle.link.proofs.View.{Good, View, unheard, refuses, keeps, opens, view}
 
 -- the state that an outcome leaves
@@ -51,7 +54,8 @@ module _ (u : Table) (j : ℕ) (p : Place) (below : j < four) (size : length (u 
 
   closed-again : (c : ℕ) → closedAt (withPlace u j p) j c ≡ withPlace u j (inCondition p c)
   unfolding closedAt
-  closed-again c = twice (inCondition (placeAt (withPlace u j p) j) c) ∙ ap (λ (q : Place). withPlace u j (inCondition q c)) (written-place u j p size below)
+  closed-again c = twice (inCondition (placeAt (withPlace u j p) j) c)
+      ∙ ap (λ (q : Place). withPlace u j (inCondition q c)) (written-place u j p size below)
 
   as-before : withPlace u j p ≡ withPlace u j (inCondition p (p .condition))
   unfolding inCondition
@@ -61,7 +65,8 @@ module _ (u : Table) (j : ℕ) (p : Place) (below : j < four) (size : length (u 
       → Settled (withPlace u j p) j d b o y → Closed u j p y
   unfolding outcome
   settled-place some known (waits e) = record { condition = p .condition; some = some; known = known; table = as-before }
-  settled-place some known (delivers P e a) = record { condition = delivered; some = λ z. omega arith; known = omega arith; table = closed-again delivered }
+  settled-place some known (delivers P e a) = record
+      { condition = delivered; some = λ z. omega arith; known = omega arith; table = closed-again delivered }
   settled-place some known (damaged e a) = record { condition = spoiled; some = λ z. omega arith; known = omega arith; table = closed-again spoiled }
 
 pub settled-bytes : {t : Table} {j : ℕ} {d : Displaced} {b o : List ℕ} {y : Outcome} → Settled t j d b o y → y .bytes ≡ b
@@ -215,12 +220,14 @@ module _ (own : Address) (s : State) (r : Good s) (d o : List ℕ) (bytes : Byte
   unfolding keepAt keyOf
   wrote-held j e low f z =
       let held : holds (placeAt (s .table) j) (fieldsOf d .number) ≡ true =
-      ap (λ (i : ℕ). holds (placeAt (s .table) i) (fieldsOf d .number)) e ∙ held-found (s .table) (fieldsOf d .number) (subst (λ (i : ℕ). i < four) e low) in
+      ap (λ (i : ℕ). holds (placeAt (s .table) i) (fieldsOf d .number)) e
+      ∙ held-found (s .table) (fieldsOf d .number) (subst (λ (i : ℕ). i < four) e low) in
       wrote own s r d o bytes heard (s .table) (held-same s r) j low (placeAt (s .table) j) (holds-some _ _ held) (holds-number _ _ held)
       (kept-in-range _ _ (place-fine (s .table) (r .ranged) j low) (passed-sound own d bytes heard) f) None y z
 
   pub wrote-opened : (l : Displaced)
-      → SettledAfter (keepAt (turned (s .table) (openAt (s .table))) (openAt (s .table)) (openedBy (fieldsOf d)) l (fieldsOf d) (s .bytes) (payloadOf d)) o y
+      → SettledAfter (keepAt (turned (s .table) (openAt (s .table))) (openAt (s .table)) (openedBy (fieldsOf d)) l (fieldsOf d) (s .bytes)
+      (payloadOf d)) o y
       → Wrote s (turned (s .table) (openAt (s .table))) (fieldsOf d) (openAt (s .table)) y
   unfolding keepAt openedBy
   wrote-opened l z =
@@ -248,7 +255,8 @@ module _ {s : State} {u : Table} {h : Header} {j : ℕ} {y : Outcome} (w : Wrote
   pub wrote-strange : (n : ℕ) → (h .number ≡ n → ⊥) → (i : ℕ) → holds (placeAt (s .table) i) n ≡ false → holds (placeAt (y .table) i) n ≡ false
   wrote-strange n other i e =
       same-or-not i j
-      (λ k. ap (λ (x : ℕ). holds (placeAt (y .table) x) n) k ∙ ap (λ (p : Place). holds p n) (w .here) ∙ holds-other (w .place-now) n (λ z. other (sym (w .number) ∙ z)))
+      (λ k. ap (λ (x : ℕ). holds (placeAt (y .table) x) n) k ∙ ap (λ (p : Place). holds p n) (w .here)
+      ∙ holds-other (w .place-now) n (λ z. other (sym (w .number) ∙ z)))
       (λ k. ap (λ (p : Place). holds p n) (w .others i k) ∙ e)
 
 -- ---- every reached state is good

@@ -70,7 +70,8 @@ module _ (g : Settings) (n : ℕ) (packet : List ℕ) (takes : Takes g n packet)
       }
 
   -- a fragment whose address matches is heard,
-  pub brings : (i : ℕ) → i < count g packet → e .datagram ≡ fragmentFor g n packet i → badAddress (e .own) (g .address) ≡ false → Brings g n packet e i
+  pub brings : (i : ℕ) → i < count g packet → e .datagram ≡ fragmentFor g n packet i → badAddress (e .own) (g .address) ≡ false
+      → Brings g n packet e i
   brings i below is matches =
       reads i below is
       (ap (faultOf (e .own)) is ∙ received g n packet i (e .own) (takes .passed) (takes .number) (takes .address) below matches .0)
@@ -114,7 +115,8 @@ foreign-test fault number n rest more other =
 
 pub come-foreign : (n : ℕ) (e : Call) (es : List Call) → Foreign n e → come n (e ∷ es) ≡ come n es
 unfolding come
-come-foreign n e es other = fun-ext (λ i. foreign-test (faultOf (e .own) (e .datagram)) (numberIn e) n (eqb (fieldsOf (e .datagram) .index) i) (come n es i) other)
+come-foreign n e es other = fun-ext (λ i. foreign-test (faultOf (e .own) (e .datagram)) (numberIn e) n (eqb (fieldsOf (e .datagram) .index) i)
+    (come n es i) other)
 
 pub come-own : (g : Settings) (n : ℕ) (packet : List ℕ) (e : Call) (es : List Call) (i : ℕ) → Brings g n packet e i
     → come n (e ∷ es) ≡ (λ j. eqb i j || come n es j)

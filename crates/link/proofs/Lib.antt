@@ -2,6 +2,8 @@ pub mod Basic
 pub mod View
 pub mod Frame
 pub mod Ring
+pub mod Fitting
+pub mod Standing
 pub mod Holdings
 pub mod Three
 pub mod Survives
@@ -21,6 +23,7 @@ pub mod Witness
 pub mod Useless
 pub mod Runs
 pub mod Turns
+pub mod Brings
 pub mod Arrivals
 pub mod Examples
 pub mod Proved

@@ -105,7 +105,16 @@ module _ (g : Settings) (packet : List ℕ) (passed : packetFault g packet ≡ 0
   before-last j k a b n e f =
       let one : k + 1 ≡ count g packet = last-one k b f in
       let all : (k + 1) * sizeOf g packet ≡ count g packet * sizeOf g packet = ap (λ (y : ℕ). y * sizeOf g packet) one in
-      omega (arith, offset-not j e, offset-last k f, full-size j e, size-most g packet passed k, rows j k (below n one), sure g packet passed .placed, all)
+      omega (
+        arith,
+        offset-not j e,
+        offset-last k f,
+        full-size j e,
+        size-most g packet passed k,
+        rows j k (below n one),
+        sure g packet passed .placed,
+        all,
+      )
     where
       below : (j ≡ k → ⊥) → k + 1 ≡ count g packet → j < k
       below n one = omega arith
@@ -252,7 +261,8 @@ module _ (g : Settings) (packet : List ℕ) (passed : packetFault g packet ≡ 0
         room = omega (arith, whole, inside i below, offset-same)
 
         bytes-now : (j : ℕ) → j < count g packet → with-it j ≡ true
-            → take (length (payloadFor g packet j)) (drop (at * place + offset g packet j) (splice b (at * place + offsetOf h) (payloadFor g packet i)))
+            → take (length (payloadFor g packet j))
+            (drop (at * place + offset g packet j) (splice b (at * place + offsetOf h) (payloadFor g packet i)))
             ≡ payloadFor g packet j
         bytes-now j k f =
             same-or-not i j
@@ -263,8 +273,10 @@ module _ (g : Settings) (packet : List ℕ) (passed : packetFault g packet ≡ 0
             ∙ splice-here b (at * place + offsetOf h) (payloadFor g packet i) room ∙ ap (payloadFor g packet) q)
             (λ q.
             apart i j below k q
-            (λ l. spared-behind b (at * place + offsetOf h) (payloadFor g packet i) room (at * place + offset g packet j) (length (payloadFor g packet j)) (omega (arith, offset-same)))
-            (λ l. spared-before b (at * place + offsetOf h) (payloadFor g packet i) room (at * place + offset g packet j) (length (payloadFor g packet j)) (omega (arith, offset-same)))
+            (λ l. spared-behind b (at * place + offsetOf h) (payloadFor g packet i) room (at * place + offset g packet j)
+            (length (payloadFor g packet j)) (omega (arith, offset-same)))
+            (λ l. spared-before b (at * place + offsetOf h) (payloadFor g packet i) room (at * place + offset g packet j)
+            (length (payloadFor g packet j)) (omega (arith, offset-same)))
             ∙ full .bytes j k (old-one j q f))
 
         same-condition : keptIn p h .condition ≡ p .condition

@@ -61,9 +61,11 @@ module _ (g : Settings) (n : ℕ) (packet : List ℕ) (passed : packetFault g pa
     here : (j : ℕ) → j < count g packet → take (length (payloadFor g packet j)) (drop (offset g packet j) (bytesAt b i)) ≡ payloadFor g packet j
     here j h = stands g n packet came i p b full j h (all-came j h)
 
-    row : (j : ℕ) → j + 1 < count g packet → take (sizeOf g packet) (drop (j * sizeOf g packet) (bytesAt b i)) ≡ take (sizeOf g packet) (drop (j * sizeOf g packet) packet)
+    row : (j : ℕ) → j + 1 < count g packet → take (sizeOf g packet) (drop (j * sizeOf g packet) (bytesAt b i)) ≡ take (sizeOf g packet)
+        (drop (j * sizeOf g packet) packet)
     row j h =
-        ap₂ (λ (x y : ℕ). take x (drop y (bytesAt b i))) (sym (full-size g packet passed j (not-last j h))) (sym (offset-not g packet passed j (not-last j h)))
+        ap₂ (λ (x y : ℕ). take x (drop y (bytesAt b i))) (sym (full-size g packet passed j (not-last j h)))
+        (sym (offset-not g packet passed j (not-last j h)))
         ∙ here j (omega arith) ∙ part-is j
 
     rows : (k : ℕ) → k + 1 ≤ count g packet → take (k * sizeOf g packet) (bytesAt b i) ≡ take (k * sizeOf g packet) packet

@@ -71,7 +71,8 @@ standing-view r m z (unheard n q) = subst (λ (y : Outcome). Standing (leftBy y)
 standing-view r m z (refuses heard low f q) = subst (λ (y : Outcome). Standing (leftBy y)) (sym q) z
 standing-view {s} {e} r m z (keeps heard low f settled) =
     let w = wrote-held (e .own) s r (e .datagram) (e .lent) (m .bytes) heard (e .left) _ refl low f settled in
-    let held : holds (placeAt (s .table) (heldAt (s .table) (keyOf (fieldsOf (e .datagram))))) (keyOf (fieldsOf (e .datagram))) ≡ true = held-found (s .table) _ low in
+    let held : holds (placeAt (s .table) (heldAt (s .table) (keyOf (fieldsOf (e .datagram)))))
+    (keyOf (fieldsOf (e .datagram))) ≡ true = held-found (s .table) _ low in
     record {
       turns = z .turns;
       ring = ring-kept (z .turns) (z .ring) w (holds-some _ _ held);

@@ -33,8 +33,12 @@ some-run s [] lawful = ([], s, refl, start)
 some-run s (i ∷ is) lawful =
     let before = some-run s is (lawful .2) in
     let y = some-outcome (i .own) (before .1) (i .datagram) (i .lent) in
-    let e : Call = record { own = i .own; datagram = i .datagram; lent = i .lent; left = y .0 } in
-    (e ∷ before .0, after e, ap (λ (l : List Input). i ∷ l) (before .2), next e (before .3) (record { room = lawful .0; bytes = lawful .1; meets = y .1 }))
+    let e : Call = record { own = i .own; datagram = i .datagram; lent = i .lent; left = y .0 } in (
+      e ∷ before .0,
+      after e,
+      ap (λ (l : List Input). i ∷ l) (before .2),
+      next e (before .3) (record { room = lawful .0; bytes = lawful .1; meets = y .1 }),
+    )
 
 -- ---- the bytes of a fragment
 
@@ -89,8 +93,10 @@ module _ (g : Settings) (packet : List ℕ) (b : Bytes packet) where
       either (g .fec)
       (λ e.
       rw (payload-fec g packet e i)
-      (bytes-table (λ t. getD (blockFor packet) (i + cut.f g (length packet) * t) 0) (λ t. bytes-at (blockFor packet) bytes-blockFor _) 0 (cut.s g (length packet))))
-      (λ e. rw (payload-plain g packet e i) (bytes-take (cut.s g (length packet)) (drop (i * cut.s g (length packet)) packet) (bytes-drop (i * cut.s g (length packet)) packet b)))
+      (bytes-table (λ t. getD (blockFor packet) (i + cut.f g (length packet) * t) 0) (λ t. bytes-at (blockFor packet) bytes-blockFor _) 0
+      (cut.s g (length packet))))
+      (λ e. rw (payload-plain g packet e i) (bytes-take (cut.s g (length packet)) (drop (i * cut.s g (length packet)) packet)
+      (bytes-drop (i * cut.s g (length packet)) packet b)))
 
 pub bytes-fragment : (g : Settings) (n : ℕ) (packet : List ℕ) → Takes g n packet → (i : ℕ) → i < count g packet → Bytes (fragmentFor g n packet i)
 unfolding fragmentFor

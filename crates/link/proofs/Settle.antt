@@ -36,7 +36,8 @@ module _ (g : Settings) (n : ℕ) (packet : List ℕ) (takes : Takes g n packet)
   lost-same j below = ap not (full .kept j below)
 
   -- without FEC the size does not count
-  sizes-same : (fec : Bool) → g .fec ≡ fec → enough fec (count g packet) (p .size) (rskOf g packet) (lostIn p) ≡ enough fec (count g packet) (sizeOf g packet) (rskOf g packet) (lostIn p)
+  sizes-same : (fec : Bool) → g .fec ≡ fec → enough fec (count g packet) (p .size) (rskOf g packet) (lostIn p) ≡ enough fec (count g packet)
+      (sizeOf g packet) (rskOf g packet) (lostIn p)
   unfolding SizeKnown enough
   sizes-same true e = ap (λ (x : ℕ). enough true (count g packet) x (rskOf g packet) (lostIn p)) (sized e)
   sizes-same false e = refl
@@ -47,7 +48,8 @@ module _ (g : Settings) (n : ℕ) (packet : List ℕ) (takes : Takes g n packet)
       ap (λ (v : Bool). enough v (p .count) (p .size) (p .rsk) (lostIn p)) (full .mine .fec)
       ∙ ap₂ (λ (f k : ℕ). enough (g .fec) f (p .size) k (lostIn p)) (full .mine .count) (full .mine .rsk)
       ∙ sizes-same (g .fec) refl
-      ∙ enough-same (lostIn p) (λ j. not (came j)) (count g packet) (f-some g packet (takes .passed)) lost-same (g .fec) (sizeOf g packet) (rskOf g packet)
+      ∙ enough-same (lostIn p) (λ j. not (came j)) (count g packet) (f-some g packet (takes .passed)) lost-same (g .fec) (sizeOf g packet)
+      (rskOf g packet)
 
   pub missing-in : missingIn p ≡ losses (λ j. not (came j)) (count g packet)
   unfolding missingIn

@@ -30,5 +30,6 @@ unfolding queryCall
 query-granted s r = sym (grants _ _ (sym (no-room-fault s r most-l (le-refl most-l))))
 
 -- a place that is open shows its number as open
-pub shown-open : {s : State} → Good s → (i n : ℕ) → i < four → placeAt (s .table) i .condition ≡ open-now → placeAt (s .table) i .number ≡ n → ShownOpen s n
+pub shown-open : {s : State} → Good s → (i n : ℕ) → i < four → placeAt (s .table) i .condition ≡ open-now → placeAt (s .table) i .number ≡ n
+    → ShownOpen s n
 shown-open {s} r i n l e q = record { answered = query-granted s r; at = i; below = l; shown = open-shown (placeAt (s .table) i) n e q }

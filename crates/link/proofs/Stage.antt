@@ -76,7 +76,16 @@ done-held g n packet s i o =
 
 pub mine-closed : (g : Settings) (n : ℕ) (packet : List ℕ) (p : Place) (c : ℕ) → Mine g n packet p → Mine g n packet (inCondition p c)
 unfolding inCondition
-mine-closed g n packet p c m = record { number = m .number; count = m .count; fec = m .fec; rsk = m .rsk; rsz = m .rsz; size = m .size; last = m .last }
+mine-closed g n packet p c m = record {
+  number = m .number;
+  count = m .count;
+  fec = m .fec;
+  rsk = m .rsk;
+  rsz = m .rsz;
+  size = m .size;
+  last =
+      m .last;
+}
 
 pub sized-closed : (g : Settings) (packet : List ℕ) (p : Place) (c : ℕ) → SizeKnown g packet p → SizeKnown g packet (inCondition p c)
 unfolding inCondition SizeKnown
@@ -130,7 +139,8 @@ module _ (g : Settings) (n : ℕ) (packet : List ℕ) (takes : Takes g n packet)
               size-known = o .full .size-known;
               last-known = o .full .last-known;
               bytes = λ j k f.
-                  spared .kept-bytes (i * place + offset g packet j) (length (payloadFor g packet j)) (omega arith) (omega (arith, inside g packet (takes .passed) j k))
+                  spared .kept-bytes (i * place + offset g packet j) (length (payloadFor g packet j)) (omega arith)
+                  (omega (arith, inside g packet (takes .passed) j k))
                   ∙ o .full .bytes j k f;
             }
 
@@ -156,7 +166,8 @@ module _ (g : Settings) (n : ℕ) (packet : List ℕ) (takes : Takes g n packet)
     moved-stage u c (done-at i o z) = done-at i o (enough-with (e ∷ es) (come n es) c ∙ sym (enough-is g packet (takes .passed) n es) ∙ z)
 
     -- a refusal leaves all as it was
-    pub refused-stage : (x : ℕ) → e .left ≡ outcome (Refused x) (s .table) (s .bytes) (e .lent) → Stage g n packet es s → Stage g n packet es (after e)
+    pub refused-stage : (x : ℕ) → e .left ≡ outcome (Refused x) (s .table) (s .bytes) (e .lent) → Stage g n packet es s
+        → Stage g n packet es (after e)
     unfolding outcome
     refused-stage x q st = subst (λ (y : Outcome). Stage g n packet es (leftBy y)) (sym q) st
 
@@ -224,7 +235,8 @@ module _ (g : Settings) (n : ℕ) (packet : List ℕ) (takes : Takes g n packet)
               (wrote-stage (s .table) (fieldsOf (e .datagram)) (heldAt (s .table) (numberIn e)) (foreign passes)
               (wrote-held (e .own) s r (e .datagram) (e .lent) (made .bytes) passes (e .left) _ refl low fault z)
               (λ i is q.
-              absurd (foreign passes (sym (holds-number _ _ (held-found (s .table) (numberIn e) low)) ∙ ap (λ (x : ℕ). placeAt (s .table) x .number) (sym q) ∙ is)))
+              absurd (foreign passes (sym (holds-number _ _ (held-found (s .table) (numberIn e) low))
+              ∙ ap (λ (x : ℕ). placeAt (s .table) x .number) (sym q) ∙ is)))
               st)
           go (opens passes high z) =
               same-came

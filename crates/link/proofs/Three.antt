@@ -53,7 +53,8 @@ without-less n [] e = clash e refl
 without-less n (m ∷ ms) e =
     either (eqb m n)
     (λ q. ap (λ (b : Bool). suc (length (cond b ms (m ∷ without n ms)))) q)
-    (λ q. ap (λ (b : Bool). suc (length (cond b ms (m ∷ without n ms)))) q ∙ ap suc (without-less n ms (sym (ap (λ (b : Bool). b || among n ms) q) ∙ e)))
+    (λ q. ap (λ (b : Bool). suc (length (cond b ms (m ∷ without n ms)))) q
+    ∙ ap suc (without-less n ms (sym (ap (λ (b : Bool). b || among n ms) q) ∙ e)))
 
 without-keeps : (n k : ℕ) (ms : List ℕ) → (k ≡ n → ⊥) → among k ms ≡ true → among k (without n ms) ≡ true
 unfolding among without
@@ -132,7 +133,12 @@ module _ {n m : ℕ} {others : List ℕ} {s : State} (r : Three n m others s) {h
             → (among k (without (h .number) (r .left)) ≡ true) ⊎ Since m (r .since + 1) (leftBy y) k
         keep k (inl a) =
             same-or-not k (h .number)
-            (λ q. inr (r .since, omega arith, ap (λ (i : ℕ). holds (placeAt (y .table) i) k) (sym turn) ∙ ap (holds (placeAt (y .table) (openAt (s .table)))) q ∙ holds-now w))
+            (λ q. inr (
+              r .since,
+              omega arith,
+              ap (λ (i : ℕ). holds (placeAt (y .table) i) k) (sym turn)
+                  ∙ ap (holds (placeAt (y .table) (openAt (s .table)))) q ∙ holds-now w,
+            ))
             (λ q. inl (without-keeps (h .number) k (r .left) q a))
         keep k (inr (a, b, c)) = inr (a, omega arith, holds-still w ((m + 1 + a) % four) k (λ q. absurd (omega (arith, turn, less, r .few))) c)
 
@@ -147,7 +153,8 @@ three-first {n} {m} {others} {s} {h} {y} few ring is-n w =
       left = others;
       ring = subst (λ (k : ℕ). Opened k (y .table)) (omega arith) (ring-opened m ring w);
       few = omega arith;
-      its = ap (λ (i : ℕ). holds (placeAt (y .table) i) n) (sym (opens-in-turn m (s .table) ring)) ∙ ap (holds (placeAt (y .table) (openAt (s .table)))) (sym is-n) ∙ holds-now w;
+      its = ap (λ (i : ℕ). holds (placeAt (y .table) i) n) (sym (opens-in-turn m (s .table) ring))
+          ∙ ap (holds (placeAt (y .table) (openAt (s .table)))) (sym is-n) ∙ holds-now w;
       each = λ k a. inl a;
     }
 
@@ -171,7 +178,8 @@ module _ (n m : ℕ) (others : List ℕ) {s : State} {e : Call} (good : Good s) 
       three-opened r (wrote-opened (e .own) s good (e .datagram) (e .lent) (made .bytes) passed (e .left) _ z) high
       (am (eq-eqb _ _ passed) (λ q. omega (arith, high, three-held n m others s r, ap (heldAt (s .table)) q)))
 
-module _ (n m : ℕ) (others : List ℕ) (few : length others ≤ 3) (s₀ : State) (good : Good s₀) (ring : Opened m (s₀ .table)) (absent : four ≤ heldAt (s₀ .table) n) where
+module _ (n m : ℕ) (others : List ℕ) (few : length others ≤ 3) (s₀ : State) (good : Good s₀) (ring : Opened m (s₀ .table))
+    (absent : four ≤ heldAt (s₀ .table) n) where
   three-run : {e : Call} {es : List Call} {s : State} → Run s₀ (e ∷ es) s → Begins n (e ∷ es) → All (Among n others) (e ∷ es)
       → Three n m others s × All (λ e. Holds (after e) n) (e ∷ es)
   unfolding All Begins

@@ -55,7 +55,8 @@ unfoldable pub Brings-next : (ℕ → ℕ) → ℕ → Call → Type 0
 Brings-next who m e = (faultOf (e .own) (e .datagram) ≡ 0) × (numberIn e ≡ who m)
 
 module _ {who : ℕ → ℕ} {m : ℕ} {s : State} {e : Call} (r : Stands who m s) (new : Holds s (who m) → ⊥) (good : Good s) (made : Made s e) where
-  opened : Wrote s (turned (s .table) (openAt (s .table))) (fieldsOf (e .datagram)) (openAt (s .table)) (e .left) → numberIn e ≡ who m → Stands who (m + 1) (after e)
+  opened : Wrote s (turned (s .table) (openAt (s .table))) (fieldsOf (e .datagram)) (openAt (s .table)) (e .left) → numberIn e ≡ who m
+      → Stands who (m + 1) (after e)
   opened w is =
       let turn : openAt (s .table) ≡ m % four = opens-in-turn m (s .table) (r .ring) in
       record {
@@ -66,7 +67,8 @@ module _ {who : ℕ → ℕ} {m : ℕ} {s : State} {e : Call} (r : Stands who m 
             ap (λ (x : ℕ). placeAt (e .left .table) (x % four) .number) q
             ∙ ap (λ (x : ℕ). placeAt (e .left .table) x .number) (sym turn)
             ∙ ap (λ (p : Place). p .number) (w .here) ∙ w .number ∙ is ∙ ap who (sym q))
-            (λ q. ap (λ (p : Place). p .number) (w .others (j % four) (λ z. elsewhere j q h l (z ∙ turn))) ∙ r .number j (omega (arith, q)) (omega arith));
+            (λ q. ap (λ (p : Place). p .number) (w .others (j % four) (λ z. elsewhere j q h l (z ∙ turn)))
+            ∙ r .number j (omega (arith, q)) (omega arith));
       }
     where
       elsewhere : (j : ℕ) → (j ≡ m → ⊥) → j < m + 1 → m + 1 ≤ j + 4 → j % 4 ≡ m % 4 → ⊥

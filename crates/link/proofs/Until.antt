@@ -151,14 +151,16 @@ module _ (g : Settings) (n : ℕ) (packet : List ℕ) (takes : Takes g n packet)
 
     -- the call with which it is enough
     turning : {es : List Call} {s : State} → Run first es s → All (Own g n packet) es → All (λ e. Holds (after e) n) es
-        → (e : Call) → Made s e → Own g n packet e → enoughAfter g n packet es ≡ false → enoughAfter g n packet (e ∷ es) ≡ true → HandedOut g n packet (e ∷ es)
+        → (e : Call) → Made s e → Own g n packet e → enoughAfter g n packet es ≡ false → enoughAfter g n packet (e ∷ es) ≡ true
+        → HandedOut g n packet (e ∷ es)
     turning {es} {s} run own held e made its before now =
         either-kind g n packet takes e its
         (λ i b.
         let a = brought es s (good-run (good-reached reached) run) (standing run own held) e made i b .answered .delivered before now in
         record { later = []; call = e; earlier = es; split = refl; before = before; enough-now = now; told = a .0; written = a .1 })
         (λ f.
-        clash now (enough-with g n packet takes (e ∷ es) (come n es) (come-foreign n e es f) ∙ sym (enough-is g packet (takes .passed) n es) ∙ before))
+        clash now (enough-with g n packet takes (e ∷ es) (come n es) (come-foreign n e es f) ∙ sym (enough-is g packet (takes .passed) n es)
+        ∙ before))
 
     handed-out : {es : List Call} {s : State} → Run first es s → All (Own g n packet) es → All (λ e. Holds (after e) n) es
         → enoughAfter g n packet es ≡ true → HandedOut g n packet es

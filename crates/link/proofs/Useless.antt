@@ -28,7 +28,8 @@ use Rattle.sender_rules.proofs.FragmentLengths.{f-some}
 use Rattle.sender_rules.proofs.Proved.{received}
 use Rattle.link.specs.Run.{Call, after, Made, start, next, freshWith, Reached, Holds, come, lost, All}
 use Rattle.link.specs.Demand.{Takes, count, Own, Scene, Among, Begins, enoughAfter}
-use Rattle.link.specs.Useless.{Receiver, Keeps, SomeKeep, Delivers, RefusesAll, Fixed, StoresNoBytes, StoresNoRecord, Pretends, FalseCount, OneFragment, Sends, Falls}
+use Rattle.link.specs.Useless.{Receiver, Keeps, SomeKeep, Delivers, RefusesAll, Fixed, StoresNoBytes, StoresNoRecord, Pretends, FalseCount}
+use Rattle.link.specs.Useless.{OneFragment, Sends, Falls}
 use Rattle.link.proofs.Basic.{held-none}
 use Rattle.link.proofs.Frame.{good-reached}
 use Rattle.link.proofs.Heard.{Brings, Foreign, brings, brings-number, come-none, come-foreign, come-own, come-it}
@@ -126,7 +127,8 @@ module _ (R : Receiver) (keeps : Keeps R) where
         record {
           takes = scene′ .takes;
           reached = now-reached;
-          free = λ h. go h (foreign-step g k packet′ (scene′ .takes) [] s e foreign (good-reached (scene .reached)) made (not-yet (absent s k (scene′ .free)) (come-none k)));
+          free = λ h. go h (foreign-step g k packet′ (scene′ .takes) [] s e foreign (good-reached (scene .reached)) made
+              (not-yet (absent s k (scene′ .free)) (come-none k)));
           run = start;
           own = tt;
         }
@@ -175,7 +177,8 @@ module _ (R : Receiver) (keeps : Keeps R) where
       stands : (a : ℕ) × (take (length (payloadFor g packet 0)) (drop a (after e .bytes)) ≡ payloadFor g packet 0)
       stands = go stage
         where
-          go : Stage g n packet (e ∷ []) (after e) → (a : ℕ) × (take (length (payloadFor g packet 0)) (drop a (after e .bytes)) ≡ payloadFor g packet 0)
+          go : Stage g n packet (e ∷ []) (after e) → (a : ℕ)
+              × (take (length (payloadFor g packet 0)) (drop a (after e .bytes)) ≡ payloadFor g packet 0)
           go (not-yet none c) = absurd (omega (arith, none, held))
           go (open-at i o z) = (i * place + offset g packet 0, o .full .bytes 0 (brought .below) came)
           go (done-at i o z) = clash z not-enough
@@ -213,7 +216,8 @@ module _ (R : Receiver) (keeps : Keeps R) where
       let a = begins-a 1 in
       let bytes : List ℕ = drop (there .0) (R None fresh (fragmentFor (plainAt 21) 0 (packetWith 1) 0) room .bytes) in
       let first : getD bytes 0 0 ≡ 65 =
-      sym (getD-take (length (payloadFor (plainAt 21) (packetWith 1) 0)) bytes 0 0 (omega arith)) ∙ ap (λ (l : List ℕ). getD l 0 0) (there .1) ∙ a .1 in
+      sym (getD-take (length (payloadFor (plainAt 21) (packetWith 1) 0)) bytes 0 0 (omega arith)) ∙ ap (λ (l : List ℕ). getD l 0 0) (there .1)
+      ∙ a .1 in
       let same : getD bytes 0 0 ≡ 0 =
       ap (λ (l : List ℕ). getD (drop (there .0) l) 0 0) (bad .same None fresh _ room) ∙ getD-drop (there .0) lent 0 0 ∙ lent-zero (there .0 + 0) in
       omega arith
@@ -263,4 +267,7 @@ falls = record {
 -- ---- and one that keeps the promise
 
 pub some-keep : SomeKeep
-some-keep = (λ own s datagram out. some-outcome own s datagram out .0, record { meets = λ own s datagram out bytes. some-outcome own s datagram out .1 })
+some-keep = (
+  λ own s datagram out. some-outcome own s datagram out .0,
+  record { meets = λ own s datagram out bytes. some-outcome own s datagram out .1 },
+)

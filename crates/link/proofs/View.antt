@@ -17,7 +17,8 @@ use Rattle.places_rules.specs.declared.Displaced.the-variants.{None}
 use Rattle.places_rules.specs.Places.{four, placeAt, keyOf, heldAt, openAt, displacedAt, turned, openedBy}
 use Rattle.places_rules.specs.Faults.{badTable, placeFault}
 use Rattle.receiver_rules.specs.declared.Received.the-variants.{Refused}
-use Rattle.receiver_rules.specs.Promise.{Outcome, outcome, State, all-places, roomFault, heldFault, receiveFault, payloadOf, Keeping, keepAt, keepOf, SettledAfter, Step}
+use Rattle.receiver_rules.specs.Promise.{Outcome, outcome, State, all-places, roomFault, heldFault, receiveFault, payloadOf, Keeping, keepAt, keepOf}
+use Rattle.receiver_rules.specs.Promise.{SettledAfter, Step}
 use Rattle.receiver_rules.proofs.Ranges.{room-told, due-none}
 
 -- the record is in range and the lent bytes are all there, so that 14 and 1 are passed
@@ -36,10 +37,12 @@ pub data View (own : Address) (s : State) (d o : List ℕ) (y : Outcome) : Type 
       → View own s d o y
   keeps : faultOf own d ≡ 0 → heldAt (s .table) (keyOf (fieldsOf d)) < four
       → placeFault (placeAt (s .table) (heldAt (s .table) (keyOf (fieldsOf d)))) (fieldsOf d) ≡ 0
-      → SettledAfter (keepAt (s .table) (heldAt (s .table) (keyOf (fieldsOf d))) (placeAt (s .table) (heldAt (s .table) (keyOf (fieldsOf d)))) None (fieldsOf d) (s .bytes) (payloadOf d)) o y
+      → SettledAfter (keepAt (s .table) (heldAt (s .table) (keyOf (fieldsOf d)))
+      (placeAt (s .table) (heldAt (s .table) (keyOf (fieldsOf d)))) None (fieldsOf d) (s .bytes) (payloadOf d)) o y
       → View own s d o y
   opens : faultOf own d ≡ 0 → four ≤ heldAt (s .table) (keyOf (fieldsOf d))
-      → SettledAfter (keepAt (turned (s .table) (openAt (s .table))) (openAt (s .table)) (openedBy (fieldsOf d)) (displacedAt (s .table) (openAt (s .table))) (fieldsOf d) (s .bytes) (payloadOf d)) o y
+      → SettledAfter (keepAt (turned (s .table) (openAt (s .table))) (openAt (s .table)) (openedBy (fieldsOf d))
+      (displacedAt (s .table) (openAt (s .table))) (fieldsOf d) (s .bytes) (payloadOf d)) o y
       → View own s d o y
 
 -- ---- the tests, one after the other
@@ -93,7 +96,8 @@ module _ (t : Table) (d : List ℕ) where
   held-keeps b l = rw (lt-ltb at four l)
 
   new-keeps : (b : List ℕ) → four ≤ at
-      → keepOf t (fieldsOf d) b (payloadOf d) ≡ keepAt (turned t (openAt t)) (openAt t) (openedBy (fieldsOf d)) (displacedAt t (openAt t)) (fieldsOf d) b (payloadOf d)
+      → keepOf t (fieldsOf d) b (payloadOf d) ≡ keepAt (turned t (openAt t)) (openAt t) (openedBy (fieldsOf d)) (displacedAt t (openAt t))
+      (fieldsOf d) b (payloadOf d)
   unfolding keepOf
   new-keeps b l = rw (le-ltb at four l)
 

@@ -47,7 +47,8 @@ module _ (b : ℕ) (byte : b < 256) where
     passed-is : packetFault (plainAt mtu) (packetWith b) ≡ 0
     unfolding packetFault
     passed-is =
-        sym (skip 40 _ (rw fits) (skip _ _ (same (back .passes)) (skip 41 _ (ap (λ (l : ℕ). ltb most-f (cut.f (plainAt mtu) l)) size-is ∙ few) none-due)))
+        sym (skip 40 _ (rw fits) (skip _ _ (same (back .passes))
+        (skip 41 _ (ap (λ (l : ℕ). ltb most-f (cut.f (plainAt mtu) l)) size-is ∙ few) none-due)))
 
     pub takes : Takes (plainAt mtu) n (packetWith b)
     unfolding Fitting

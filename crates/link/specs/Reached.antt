@@ -25,7 +25,8 @@ GoesRound = (s : State) → Reached s → (m : ℕ) × Opened m (s .table)
 -- document 01, "A fragment whose number is held goes to that place": no number is held in two places
 abbrev pub HeldOnce : Type 0
 HeldOnce =
-    (s : State) → Reached s → (i j n : ℕ) → i < four → j < four → holds (placeAt (s .table) i) n ≡ true → holds (placeAt (s .table) j) n ≡ true → i ≡ j
+    (s : State) → Reached s → (i j n : ℕ) → i < four → j < four → holds (placeAt (s .table) i) n ≡ true → holds (placeAt (s .table) j) n ≡ true
+    → i ≡ j
 
 -- document 01: a fragment has its own bytes of the place: those before the last, of s bytes each, end before it begins, at the place's end
 abbrev pub PartsApart : Type 0
@@ -54,7 +55,8 @@ pub record Came (es : List Call) (s : State) (i n j : ℕ) : Type 0 where
   pub number : numberIn call ≡ n
   pub index : indexIn call ≡ j
   -- where its own header says that it stands,
-  pub stands : take (fieldsOf (call .datagram) .plen) (drop (offsetOf (fieldsOf (call .datagram))) (bytesAt (s .bytes) i)) ≡ payloadOf (call .datagram)
+  pub stands : take (fieldsOf (call .datagram) .plen) (drop (offsetOf (fieldsOf (call .datagram))) (bytesAt (s .bytes) i)) ≡ payloadOf
+      (call .datagram)
   -- and where the place's figures say it
   pub part : partIn (placeAt (s .table) i) (bytesAt (s .bytes) i) j ≡ payloadOf (call .datagram)
 

@@ -53,7 +53,8 @@ Holds s n = heldAt (s .table) n < four
 
 -- demand 3: "the number shows as open": the query is not refused, and shows it in one of the four places
 pub record ShownOpen (s : State) (n : ℕ) : Type 0 where
-  pub answered : queryCall (s .table) (length (s .bytes)) ≡ granted (shownOf (placeAt (s .table) 0) ++ shownOf (placeAt (s .table) 1) ++ shownOf (placeAt (s .table) 2) ++ shownOf (placeAt (s .table) 3))
+  pub answered : queryCall (s .table) (length (s .bytes)) ≡ granted (shownOf (placeAt (s .table) 0) ++ shownOf (placeAt (s .table) 1)
+      ++ shownOf (placeAt (s .table) 2) ++ shownOf (placeAt (s .table) 3))
   pub at : ℕ
   pub below : at < four
   pub shown : shownOf (placeAt (s .table) at) ≡ open-now ∷ n ∷ []

@@ -28,7 +28,8 @@ const CONTAINERS: [u8; 4] = *b"fio_";
 
 // A word, a number and the end of the line.
 fn number_line(out: &mut [u8], at: usize, word: &[u8], n: usize) -> usize
-    ensures { λ r. ⌜ (r ≡ behind (now (out .entry)) at (now (word .entry) ++ (decimalOf n ++ newline))) × (now (out .exit) ≡ laid (now (out .entry)) at (now (word .entry) ++ (decimalOf n ++ newline))) ⌝ }
+    ensures { λ r. ⌜ (r ≡ behind (now (out .entry)) at (now (word .entry) ++ (decimalOf n ++ newline)))
+        × (now (out .exit) ≡ laid (now (out .entry)) at (now (word .entry) ++ (decimalOf n ++ newline))) ⌝ }
 {
     let mut to = text::plain(out, at, word);
     to = text::decimal(out, to, n);
@@ -44,7 +45,8 @@ fn refused_line(out: &mut [u8], n: u8) -> usize
 
 // The line on the packet, which is the first.
 fn head_line(out: &mut [u8], figures: Figures) -> usize
-    ensures { λ r. ⌜ (r ≡ behind (now (out .entry)) 0 (headLine (figures .seq) (figures .minor) (figures .len))) × (now (out .exit) ≡ laid (now (out .entry)) 0 (headLine (figures .seq) (figures .minor) (figures .len))) ⌝ }
+    ensures { λ r. ⌜ (r ≡ behind (now (out .entry)) 0 (headLine (figures .seq) (figures .minor) (figures .len)))
+        × (now (out .exit) ≡ laid (now (out .entry)) 0 (headLine (figures .seq) (figures .minor) (figures .len))) ⌝ }
 {
     let mut to = text::plain(out, 0, b"af ");
     to = text::decimal(out, to, figures.seq as usize);
@@ -55,7 +57,8 @@ fn head_line(out: &mut [u8], figures: Figures) -> usize
 
 // The line on an item.
 fn item_line(out: &mut [u8], at: usize, visit: Visit) -> usize
-    ensures { λ r. ⌜ (r ≡ behind (now (out .entry)) at (itemLine (visit .depth) (visit .item))) × (now (out .exit) ≡ laid (now (out .entry)) at (itemLine (visit .depth) (visit .item))) ⌝ }
+    ensures { λ r. ⌜ (r ≡ behind (now (out .entry)) at (itemLine (visit .depth) (visit .item)))
+        × (now (out .exit) ≡ laid (now (out .entry)) at (itemLine (visit .depth) (visit .item))) ⌝ }
 {
     let name = base::bytes4(visit.item.name);
     let bits = visit.item.bits.0 as usize;
@@ -68,7 +71,8 @@ fn item_line(out: &mut [u8], at: usize, visit: Visit) -> usize
 // The lines on the items of a walk that is not refused, and the one on the padding behind them.
 fn item_lines(payload: &[u8], opened: Walker, out: &mut [u8], at: usize) -> usize
     requires { ⌜ (opened ≡ opens (now payload) containers) × (refusal (walkOf (now payload) containers) ≡ 0) ⌝ }
-    ensures { λ r. ⌜ (r ≡ behind (now (out .entry)) at (linesOf (walkOf (now (payload .entry)) containers))) × (now (out .exit) ≡ laid (now (out .entry)) at (linesOf (walkOf (now (payload .entry)) containers))) ⌝ }
+    ensures { λ r. ⌜ (r ≡ behind (now (out .entry)) at (linesOf (walkOf (now (payload .entry)) containers)))
+        × (now (out .exit) ≡ laid (now (out .entry)) at (linesOf (walkOf (now (payload .entry)) containers))) ⌝ }
 {
     let mut w = opened;
     let mut to = at;
@@ -92,7 +96,10 @@ fn item_lines(payload: &[u8], opened: Walker, out: &mut [u8], at: usize) -> usiz
 
 // The listing of a packet's payload behind what the packet says of itself.
 fn list_payload(payload: &[u8], figures: Figures, out: &mut [u8]) -> usize
-    ensures { λ r. ⌜ (r ≡ behind (now (out .entry)) 0 (payloadLines (headLine (figures .seq) (figures .minor) (figures .len)) (walkOf (now (payload .entry)) containers))) × (now (out .exit) ≡ laid (now (out .entry)) 0 (payloadLines (headLine (figures .seq) (figures .minor) (figures .len)) (walkOf (now (payload .entry)) containers))) ⌝ }
+    ensures { λ r. ⌜ (r ≡ behind (now (out .entry)) 0
+        (payloadLines (headLine (figures .seq) (figures .minor) (figures .len)) (walkOf (now (payload .entry)) containers)))
+        × (now (out .exit) ≡ laid (now (out .entry)) 0
+        (payloadLines (headLine (figures .seq) (figures .minor) (figures .len)) (walkOf (now (payload .entry)) containers))) ⌝ }
 {
     let opened = walk::open_walk(payload, &CONTAINERS);
     let n = opened.refusal;
@@ -105,7 +112,8 @@ fn list_payload(payload: &[u8], figures: Figures, out: &mut [u8]) -> usize
 
 // Writes the listing of a packet at the front of out, as much of it as out has room for, and answers how many bytes were written.
 pub fn list(packet: &[u8], out: &mut [u8]) -> usize
-    ensures { λ r. ⌜ (r ≡ behind (now (out .entry)) 0 (listingOf (now (packet .entry)))) × (now (out .exit) ≡ laid (now (out .entry)) 0 (listingOf (now (packet .entry)))) ⌝ }
+    ensures { λ r. ⌜ (r ≡ behind (now (out .entry)) 0 (listingOf (now (packet .entry))))
+        × (now (out .exit) ≡ laid (now (out .entry)) 0 (listingOf (now (packet .entry)))) ⌝ }
 {
     let checked = af::check(packet);
     match checked {

@@ -33,7 +33,8 @@ told-enough : (t : Tour) (n m : ℕ) → n ≤ m → take n (told m t) ≡ take 
 unfolding told
 told-enough (visit d i t) zero m h = refl
 told-enough (visit d i t) (suc n) m h =
-    ap (λ (l : List Handed). handed.Item (record { depth = d; item = i }) ∷ l) (told-enough t n m (omega arith) ∙ sym (told-enough t n (suc n) (omega arith)))
+    ap (λ (l : List Handed). handed.Item (record { depth = d; item = i }) ∷ l) (told-enough t n m (omega arith)
+    ∙ sym (told-enough t n (suc n) (omega arith)))
 told-enough (ends p) n m h = take-same n m _ h ∙ sym (take-same n n _ (le-refl n))
 told-enough (stops r) n m h = refl
 
@@ -107,11 +108,13 @@ module _ (s l : List ℕ) where
     hands-next : (d : ℕ) (i : Item) (t : Tour) → Hands w (visit d i t) → Hands (x .next) t
     unfolding handsOut told
     hands-next d i t h n =
-        let step : walkStep s l w .handed ∷ handsOut n s l (walkStep s l w .next) ≡ handed.Item (record { depth = d; item = i }) ∷ take n (told (suc n) t) = h (suc n) in
+        let step : walkStep s l w .handed ∷ handsOut n s l (walkStep s l w .next) ≡ handed.Item (record { depth = d; item = i }) ∷ take n
+        (told (suc n) t) = h (suc n) in
         let rest : handsOut n s l (walkStep s l w .next) ≡ take n (told (suc n) t) = cc in
         ap (λ (y : Walked). handsOut n s l (y .next)) is ∙ rest ∙ told-enough t n (suc n) (omega arith)
 
-    tells-by : (said : List ℕ) (t : Tour) → Hands w t → visits t ≤ visits (walkOf s l) → said ++ linesOf t ≡ linesOf (walkOf s l) → Tells said w (x .next) (x .handed)
+    tells-by : (said : List ℕ) (t : Tour) → Hands w t → visits t ≤ visits (walkOf s l) → said ++ linesOf t ≡ linesOf (walkOf s l)
+        → Tells said w (x .next) (x .handed)
     unfolding told linesOf visits
     tells-by said (visit d i t) h few text =
         let first : x .handed ∷ [] ≡ handed.Item (record { depth = d; item = i }) ∷ [] = shown (visit d i t) h in

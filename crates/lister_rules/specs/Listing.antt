@@ -62,4 +62,5 @@ payloadLines front t = cond (eqb (refusal t) 0) (front ++ linesOf t) (refusedLin
 
 -- document 01: the listing of an AF packet
 unfoldable pub listingOf : List ℕ → List ℕ
-listingOf s = cond (eqb (afFault s) 0) (payloadLines (headLine (seqOf s) (minorOf s) (lenOf s)) (walkOf (payloadOf s) containers)) (refusedLine (afFault s))
+listingOf s = cond (eqb (afFault s) 0) (payloadLines (headLine (seqOf s) (minorOf s) (lenOf s)) (walkOf (payloadOf s) containers))
+    (refusedLine (afFault s))

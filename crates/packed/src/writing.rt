@@ -66,7 +66,8 @@ fn figures(p: Place) -> [u8; FIGURES]
 // Place i of the record from `at` on.
 fn put_place(out: &mut [u8], at: usize, t: Table, i: usize)
     requires { ⌜ at + place-bytes ≤ length (now out) ⌝ }
-    ensures { λ _. ⌜ (length (packedPlace (placeAt t i)) ≡ place-bytes) × (now (out .exit) ≡ splice (now (out .entry)) at (packedPlace (placeAt t i))) ⌝ }
+    ensures { λ _. ⌜ (length (packedPlace (placeAt t i)) ≡ place-bytes)
+        × (now (out .exit) ≡ splice (now (out .entry)) at (packedPlace (placeAt t i))) ⌝ }
 {
     let p = places::place_at(t, i);
     base::put(out, at, &figures(p));

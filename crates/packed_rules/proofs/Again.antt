@@ -16,7 +16,8 @@ use Rattle.base_rules.proofs.Firsts.{clear, clear-rest}
 use Rattle.base_rules.proofs.Logic.{or-left, or-right}
 use Rattle.base_rules.proofs.Numbers.{bytes-back}
 use Rattle.places_rules.specs.Places.{four, placeAt}
-use Rattle.packed_rules.specs.Packed.{figuresOf, packedPlace, place-bytes, table-bytes, packedOf, isSet, flagBytes, placeFrom, tableFrom, badFlag, badFlags, badPlaceAt, badRecord, unpackFault}
+use Rattle.packed_rules.specs.Packed.{figuresOf, packedPlace, place-bytes, table-bytes, packedOf, isSet, flagBytes, placeFrom, tableFrom}
+use Rattle.packed_rules.specs.Packed.{badFlag, badFlags, badPlaceAt, badRecord, unpackFault}
 use Rattle.packed_rules.proofs.Back.{place-part, bad-part}
 
 -- ---- flags
@@ -98,7 +99,8 @@ module _ (s : List ℕ) (bytes : Bytes s) (none : unpackFault s ≡ 0) where
   pub table-again : packedOf (tableFrom s) ≡ s
   unfolding packedOf tableFrom placeAt badRecord
   table-again =
-      let b₁ : (badPlaceAt s place-bytes || (badPlaceAt s (2 * place-bytes) || badPlaceAt s (3 * place-bytes))) ≡ false = or-right (badPlaceAt s 0) _ table-fine in
+      let b₁ : (badPlaceAt s place-bytes || (badPlaceAt s (2 * place-bytes) || badPlaceAt s (3 * place-bytes))) ≡ false = or-right
+      (badPlaceAt s 0) _ table-fine in
       let b₂ : (badPlaceAt s (2 * place-bytes) || badPlaceAt s (3 * place-bytes)) ≡ false = or-right (badPlaceAt s place-bytes) _ b₁ in
       sym (more s (four * place-bytes) 1
       (more s (3 * place-bytes) place-bytes

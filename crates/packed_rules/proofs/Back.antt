@@ -16,7 +16,8 @@ use Rattle.base_rules.proofs.Numbers.{number-drop, number-back}
 use Rattle.places_rules.specs.declared.Place.{Place}
 use Rattle.places_rules.specs.declared.Table.{Table}
 use Rattle.places_rules.specs.Places.{four, freePlace, placeAt}
-use Rattle.packed_rules.specs.Packed.{figuresOf, packedPlace, place-bytes, table-bytes, packedOf, isSet, placeFrom, tableFrom, badFlags, badPlaceAt, badRecord}
+use Rattle.packed_rules.specs.Packed.{figuresOf, packedPlace, place-bytes, table-bytes, packedOf, isSet, placeFrom, tableFrom, badFlags}
+use Rattle.packed_rules.specs.Packed.{badPlaceAt, badRecord}
 use Rattle.packed_rules.specs.Claims.{Typed, TypedTable}
 use Rattle.packed_rules.proofs.Lays.{length-place}
 
@@ -62,7 +63,17 @@ module _ (s : List ℕ) (i : ℕ) where
   pub place-part : placeFrom (drop i s) 0 ≡ placeFrom s i
   unfolding placeFrom
   place-part =
-      rw (first-from, number-from 2 1, number-from 4 3, getD-drop i s 7 0, getD-drop i s 8 0, getD-drop i s 9 0, number-from 2 10, number-from 2 12, drop-drop 14 i s)
+      rw (
+        first-from,
+        number-from 2 1,
+        number-from 4 3,
+        getD-drop i s 7 0,
+        getD-drop i s 8 0,
+        getD-drop i s 9 0,
+        number-from 2 10,
+        number-from 2 12,
+        drop-drop 14 i s,
+      )
 
   pub bad-part : badPlaceAt (drop i s) 0 ≡ badPlaceAt s i
   unfolding badPlaceAt

@@ -51,7 +51,8 @@ bad-last [] x = or-false (badFlag x)
 bad-last (y ∷ s) x = or-assoc (badFlag y) (badFlags s) (badFlag x) ∙ ap (λ (b : Bool). badFlag y || b) (bad-last s x)
 
 -- one byte more, with the bits of those before
-pub bad-more : (s : List ℕ) (j bits x : ℕ) → badFlag bits ≡ badFlags (take j s) → j < length s → x ≡ getD s j 0 → badFlag (bitOr bits x) ≡ badFlags (take (j + 1) s)
+pub bad-more : (s : List ℕ) (j bits x : ℕ) → badFlag bits ≡ badFlags (take j s) → j < length s → x ≡ getD s j 0
+    → badFlag (bitOr bits x) ≡ badFlags (take (j + 1) s)
 bad-more s j bits x e h is-x =
     bad-or bits x
     ∙ ap₂ (λ (b : Bool) (y : ℕ). b || badFlag y) e is-x

@@ -71,7 +71,8 @@ pub free-first : (t : Table) → t ≡ freshTable → placeAt t 0 ≡ freePlace
 unfolding placeAt freshTable
 free-first t e = ap (λ (x : Table). placeAt x 0) e
 
-pub table-read : (n : ℕ) (s : List ℕ) {a b c d : Place} {o : ℕ} → a ≡ cond (eqb n 0) (placeFrom s 0) freePlace → b ≡ cond (eqb n 0) (placeFrom s place-bytes) freePlace
+pub table-read : (n : ℕ) (s : List ℕ) {a b c d : Place} {o : ℕ} → a ≡ cond (eqb n 0) (placeFrom s 0) freePlace
+    → b ≡ cond (eqb n 0) (placeFrom s place-bytes) freePlace
     → c ≡ cond (eqb n 0) (placeFrom s (2 * place-bytes)) freePlace → d ≡ cond (eqb n 0) (placeFrom s (3 * place-bytes)) freePlace
     → o ≡ cond (eqb n 0) (getD s (four * place-bytes) 0) 0
     → record { places = a ∷ b ∷ c ∷ d ∷ []; oldest = o } ≡ cond (eqb n 0) (tableFrom s) freshTable

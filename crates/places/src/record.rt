@@ -12,7 +12,8 @@ ghost use mathlib.Core.Path.{_≡_};
 ghost use mathlib.Core.Bool.{true, cond};
 ghost use lib.Dec.{eqb};
 ghost use lib.ListN.{set};
-ghost use Rattle.places_rules.specs.Places.{free, freePlace, freshTable, placeAt, withPlace, keyOf, holds, heldAt, openAt, displacedAt, turned as turnedOf, openedBy, isLast, offsetOf, keptIn, inCondition};
+ghost use Rattle.places_rules.specs.Places.{free, freePlace, freshTable, placeAt, withPlace, keyOf, holds, heldAt, openAt, displacedAt};
+ghost use Rattle.places_rules.specs.Places.{turned as turnedOf, openedBy, isLast, offsetOf, keptIn, inCondition};
 
 // A place that holds nothing.
 fn free_place() -> Place

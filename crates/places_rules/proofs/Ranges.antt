@@ -102,7 +102,8 @@ pub record Belongs (p : Place) (h : Header) : Type 0 where
 
 -- what the test of the size tells, over plain values
 size-told : (fec ends : Bool) (size plen last : ℕ) → (fec ≡ true → ends ≡ false)
-    → cond fec (not (eqb size plen)) (cond ends (not (eqb size 0) && ltb size plen) ((not (eqb size 0) && not (eqb size plen)) || ltb plen last)) ≡ false
+    → cond fec (not (eqb size plen)) (cond ends (not (eqb size 0) && ltb size plen)
+    ((not (eqb size 0) && not (eqb size plen)) || ltb plen last)) ≡ false
     → (ends ≡ true → (size ≡ 0 → ⊥) → plen ≤ size) × (ends ≡ false → (fec ≡ true → size ≡ plen) × (fec ≡ false → last ≤ plen))
 size-told true ends size plen last never e =
     ((λ f some. clash f (never refl)), (λ f. ((λ g. eqb-true size plen (not-false (eqb size plen) e)), (λ g. clash refl g))))

@@ -14,7 +14,8 @@ use Rattle.header_rules.specs.declared.Header.{Header}
 use Rattle.places_rules.specs.declared.Place.{Place}
 use Rattle.places_rules.specs.declared.Table.{Table}
 use Rattle.places_rules.specs.declared.Displaced.the-variants.{None, Number}
-use Rattle.places_rules.specs.Places.{four, free, open-now, freePlace, placeAt, withPlace, holds, keyIn, firstPlace, displacedAt, turned, isLast, offsetOf, keptIn}
+use Rattle.places_rules.specs.Places.{four, free, open-now, freePlace, placeAt, withPlace, holds, keyIn, firstPlace, displacedAt, turned}
+use Rattle.places_rules.specs.Places.{isLast, offsetOf, keptIn}
 
 -- ---- the length of an array in a record
 

@@ -17,7 +17,8 @@ use denote.Triple.Entry.{Args}
 use denote.Triple.Spec.{exits}
 use denote.Triple.Clauses.{Ended, lasts}
 
-module _ {M : Type 1} (𝓤 : URA M) (H : Heap 𝓤) (A : Atoms 𝓤) (T : Ended) (κs : Lfts (T .signature .lifetimes)) (a : Args (T .signature) κs) (R : RattleType) (φ : R .Denot → Type 0) where
+module _ {M : Type 1} (𝓤 : URA M) (H : Heap 𝓤) (A : Atoms 𝓤) (T : Ended) (κs : Lfts (T .signature .lifetimes)) (a : Args (T .signature) κs)
+    (R : RattleType) (φ : R .Denot → Type 0) where
   -- what the call ensures of the result x
   abbrev Ensures : R .Denot → SProp 𝓤
   Ensures x = exits 𝓤 H A (T .signature) (T .kept) κs a (λ e. fact 𝓤 (φ x))
@@ -31,7 +32,8 @@ module _ {M : Type 1} (𝓤 : URA M) (H : Heap 𝓤) (A : Atoms 𝓤) (T : Ended
   Answer κ q u = later (some (λ (x : R .Denot). ((‵ (flft κ q) ⊛ ‵ ftrue) ⊛ ‵ (R .own x (u ∷ []))) ⊛ raw (Ensures x)))
 
 module _ {M : Type 1} {𝓤 : URA M} {H : Heap 𝓤} {A : Atoms 𝓤} {K : Type 0} {W : Given 𝓤 H A} {Γ : List (Item 𝓤)} {G : Goal 𝓤 H} {Q : SProp 𝓤} where
-  pub answers : K → Soaks G → (T : Ended) (κs : Lfts (T .signature .lifetimes)) (a : Args (T .signature) κs) (R : RattleType) (φ : R .Denot → Type 0) (κ : Lft) (q : Share) (u : Val)
+  pub answers : K → Soaks G → (T : Ended) (κs : Lfts (T .signature .lifetimes)) (a : Args (T .signature) κs) (R : RattleType) (φ : R .Denot
+      → Type 0) (κ : Lft) (q : Share) (u : Val)
       → ent 𝓤 Q (mean 𝓤 H A (Answer 𝓤 H A T κs a R φ κ q u))
       → ((x : R .Denot) → φ x → Is R x (u ∷ []) → Seq K W (‵ (R .own x (u ∷ [])) ∷ (‵ (flft κ q) ⊛ ‵ ftrue) ∷ Γ) G) → Seq K W (raw Q ∷ Γ) G
   answers t z T κs a R φ κ q u ensured k =

@@ -24,7 +24,7 @@ ghost use Rattle.places_rules.specs.Places.{four, withPlace, keptIn};
 ghost use Rattle.places_rules.specs.Faults.{badPlace, badTable};
 ghost use Rattle.receiver_rules.specs.declared.Received.the-variants.{Refused};
 ghost use Rattle.receiver_rules.specs.Promise.{outcome, keepAt, Settled, SettledAfter, Step};
-ghost use Rattle.receiver_rules.specs.Inner.{Lent, Heard, changed, Arrives};
+ghost use Rattle.receiver_rules.specs.inner.Arrivals.{Lent, Heard, changed, Arrives};
 
 // A refusal: the record stays as it is.
 fn refusal(t: Table, n: u8) -> Change
@@ -41,7 +41,9 @@ fn refusal(t: Table, n: u8) -> Change
 // After a fragment was kept in place i, which is p now: its packet is handed out if its fragments suffice and one agrees with them.
 fn settle(i: usize, p: Place, oldest: u8, d: Displaced, lent: &[u8], out: &mut [u8]) -> Change
     requires { ⌜ (i < four) × Lent (now lent) (now out) × (badPlace p ≡ false) ⌝ }
-    ensures { λ r. ⌜ ((t : Table) → length (t .places) ≡ four → t .oldest ≡ oldest → Settled (withPlace t i p) i d (now (lent .entry)) (now (out .entry)) (outcome (r .answer) (changed t r) (now (lent .entry)) (now (out .exit)))) ⌝ }
+    ensures { λ r. ⌜ ((t : Table) → length (t .places) ≡ four → t .oldest
+        ≡ oldest → Settled (withPlace t i p) i d (now (lent .entry)) (now (out .entry))
+        (outcome (r .answer) (changed t r) (now (lent .entry)) (now (out .exit)))) ⌝ }
 {
     match form::form(p, &lent[i * PLACE..], out) {
         Formed::Waits => Change {
@@ -87,7 +89,9 @@ fn keep(
     out: &mut [u8],
 ) -> Change
     requires { ⌜ (i < four) × Lent (now lent) (now out) × Heard h (now payload) × (badPlace (keptIn p h) ≡ false) ⌝ }
-    ensures { λ r. ⌜ ((t : Table) → length (t .places) ≡ four → t .oldest ≡ oldest → SettledAfter (keepAt t i p d h (now (lent .entry)) (now (payload .entry))) (now (out .entry)) (outcome (r .answer) (changed t r) (now (lent .exit)) (now (out .exit)))) ⌝ }
+    ensures { λ r. ⌜ ((t : Table) → length (t .places) ≡ four → t .oldest
+        ≡ oldest → SettledAfter (keepAt t i p d h (now (lent .entry)) (now (payload .entry))) (now (out .entry))
+        (outcome (r .answer) (changed t r) (now (lent .exit)) (now (out .exit)))) ⌝ }
 {
     base::put(lent, i * PLACE + places::offset_of(h), payload);
     settle(i, places::kept_in(p, h), oldest, d, &lent[..], out)
@@ -96,7 +100,8 @@ fn keep(
 // A fragment whose header passed: 9 to 12 by the place that holds its number, or it is kept there, or it opens a place.
 fn accept(t: Table, h: Header, lent: &mut [u8], payload: &[u8], out: &mut [u8]) -> Change
     requires { ⌜ (badTable t ≡ false) × Lent (now lent) (now out) × Heard h (now payload) ⌝ }
-    ensures { λ r. ⌜ Arrives t h (now (lent .entry)) (now (payload .entry)) (now (out .entry)) (outcome (r .answer) (changed t r) (now (lent .exit)) (now (out .exit))) ⌝ }
+    ensures { λ r. ⌜ Arrives t h (now (lent .entry)) (now (payload .entry)) (now (out .entry))
+        (outcome (r .answer) (changed t r) (now (lent .exit)) (now (out .exit))) ⌝ }
 {
     let i = places::held_at(t, h);
     if i < FOUR {
@@ -115,7 +120,8 @@ fn accept(t: Table, h: Header, lent: &mut [u8], payload: &[u8], out: &mut [u8]) 
 
 // What a datagram changes.
 fn change_by(own: Address, table: Table, lent: &mut [u8], datagram: &[u8], out: &mut [u8]) -> Change
-    ensures { λ r. ⌜ Step own (record { table = table; bytes = now (lent .entry) }) (now (datagram .entry)) (now (out .entry)) (outcome (r .answer) (changed table r) (now (lent .exit)) (now (out .exit))) ⌝ }
+    ensures { λ r. ⌜ Step own (record { table = table; bytes = now (lent .entry) }) (now (datagram .entry)) (now (out .entry))
+        (outcome (r .answer) (changed table r) (now (lent .exit)) (now (out .exit))) ⌝ }
 {
     let n = room_fault(table, lent.len(), out.len());
     if n != 0 {
@@ -139,7 +145,8 @@ pub fn receive(
     datagram: &[u8],
     out: &mut [u8],
 ) -> Reply
-    ensures { λ r. ⌜ Step own (record { table = table; bytes = now (lent .entry) }) (now (datagram .entry)) (now (out .entry)) (outcome (r .answer) (r .table) (now (lent .exit)) (now (out .exit))) ⌝ }
+    ensures { λ r. ⌜ Step own (record { table = table; bytes = now (lent .entry) }) (now (datagram .entry)) (now (out .entry))
+        (outcome (r .answer) (r .table) (now (lent .exit)) (now (out .exit))) ⌝ }
 {
     let c = change_by(own, table, lent, datagram, out);
     let places = table.places;

@@ -19,7 +19,7 @@ use Rattle.receiver_rules.specs.declared.Change.{Change}
 use Rattle.receiver_rules.specs.declared.Received.{Received}
 use Rattle.receiver_rules.specs.declared.Received.the-variants.{Refused}
 use Rattle.receiver_rules.specs.Promise.{Outcome, outcome, heldFault, keepAt, keepOf, SettledAfter}
-use Rattle.receiver_rules.specs.Inner.{changed, Arrives}
+use Rattle.receiver_rules.specs.inner.Arrivals.{changed, Arrives}
 use Rattle.receiver_rules.proofs.Ranges.{place-fine, opens-below}
 
 -- ---- a choice between two types
@@ -83,7 +83,8 @@ module _ (t : Table) (h : Header) (b payload out : List ℕ) where
       unfolding keepOf
       keeps-new is-j is-d is-u is-p = rw (is-d, is-u, is-p, is-j, ← is-i, le-ltb i four none)
 
-      pub arrives-new : {j : ℕ} {d : Displaced} {u : Table} {p : Place} (c : Change) (b′ out′ : List ℕ) → j ≡ openAt t → d ≡ displacedAt t j → u ≡ turned t j
+      pub arrives-new : {j : ℕ} {d : Displaced} {u : Table} {p : Place} (c : Change) (b′ out′ : List ℕ) → j ≡ openAt t → d ≡ displacedAt t j
+          → u ≡ turned t j
           → p ≡ openedBy h → SettledAfter (keepAt u j p d h b payload) out (outcome (c .answer) (changed u c) b′ out′)
           → Arrives t h b payload out (outcome (c .answer) (changed t c) b′ out′)
       arrives-new {j} {d} {u} {p} c b′ out′ is-j is-d is-u is-p s =

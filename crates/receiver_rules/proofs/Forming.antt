@@ -23,7 +23,7 @@ use Rattle.form_rules.specs.declared.Formed.the-variants.{Waits, Packet, Nothin
 use Rattle.receiver_rules.specs.declared.Change.{Change}
 use Rattle.receiver_rules.specs.declared.Received.the-variants as received
 use Rattle.receiver_rules.specs.Promise.{outcome, closedAt, bytesAt, Settled, waits, delivers, damaged}
-use Rattle.receiver_rules.specs.Inner.{Lent, changed}
+use Rattle.receiver_rules.specs.inner.Arrivals.{Lent, changed}
 use Rattle.receiver_rules.proofs.Ranges.{written-place}
 
 -- a change that leaves which is displaced next

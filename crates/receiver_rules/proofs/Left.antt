@@ -25,7 +25,8 @@ use Rattle.places_rules.proofs.Records.{place-past}
 use Rattle.form_rules.specs.Agree.{missingIn}
 use Rattle.receiver_rules.specs.declared.Received.{Received}
 use Rattle.receiver_rules.specs.declared.Received.the-variants.{Kept, Delivered, Damaged, Refused}
-use Rattle.receiver_rules.specs.Promise.{numberOf, Outcome, outcome, State, keepAt, keepOf, closedAt, Settled, waits, delivers, damaged, Step, payloadOf}
+use Rattle.receiver_rules.specs.Promise.{numberOf, Outcome, outcome, State, keepAt, keepOf, closedAt, Settled, waits, delivers, damaged, Step}
+use Rattle.receiver_rules.specs.Promise.{payloadOf}
 use Rattle.receiver_rules.specs.Claims.{dueFor, keptBy, Writes}
 use Rattle.receiver_rules.proofs.Ranges.{fine-table, fine-room, opens-below, written-place}
 use Rattle.receiver_rules.proofs.Unique.{received-one, room-passed, written-or-free, step-settled, step-refused}

@@ -20,7 +20,7 @@ use Rattle.places_rules.specs.declared.Displaced.{Displaced}
 use Rattle.places_rules.specs.Places.{four, isLast, offsetOf, withPlace, keptIn}
 use Rattle.places_rules.proofs.Records.{offset-last, offset-other}
 use Rattle.receiver_rules.specs.Promise.{Outcome, all-places, keepAt, Settled, SettledAfter}
-use Rattle.receiver_rules.specs.Inner.{Heard}
+use Rattle.receiver_rules.specs.inner.Arrivals.{Heard}
 
 module _ (h : Header) (s : Sound h) where
   ends-within : h .index * h .plen + h .plen ≤ place

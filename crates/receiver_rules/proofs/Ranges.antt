@@ -30,8 +30,10 @@ module _ (lent room : ℕ) where
 
   pub room-from : badRoom lent room ≡ false → (lent ≡ all-places) × (most-l ≤ room)
   unfolding badRoom
-  room-from e =
-      (eqb-true lent all-places (not-false (eqb lent all-places) (or-left (not (eqb lent all-places)) _ e)), ltb-false room most-l (or-right (not (eqb lent all-places)) _ e))
+  room-from e = (
+    eqb-true lent all-places (not-false (eqb lent all-places) (or-left (not (eqb lent all-places)) _ e)),
+    ltb-false room most-l (or-right (not (eqb lent all-places)) _ e),
+  )
 
 -- ---- 14, then 1
 

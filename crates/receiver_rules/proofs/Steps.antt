@@ -23,7 +23,7 @@ use Rattle.places_rules.specs.Places.{withPlace}
 use Rattle.receiver_rules.specs.declared.Change.{Change}
 use Rattle.receiver_rules.specs.declared.Received.the-variants.{Refused}
 use Rattle.receiver_rules.specs.Promise.{Outcome, outcome, roomFault, heldFault, receiveFault, payloadOf, keepOf, SettledAfter, Step}
-use Rattle.receiver_rules.specs.Inner.{Heard, changed, Arrives}
+use Rattle.receiver_rules.specs.inner.Arrivals.{Heard, changed, Arrives}
 use Rattle.receiver_rules.proofs.Arrivals.{left-out}
 use Rattle.receiver_rules.proofs.Forming.{rest-part}
 
@@ -110,7 +110,8 @@ module _ (own : Address) (t : Table) (b s out : List ℕ) where
 
     module _ (none : n ≡ 0) where
       -- 2 to 8,
-      pub step-header : {m : ℕ} {y : Outcome} → (m ≡ faultOf own s) × (m ≡ 0 → ⊥) → y ≡ outcome (Refused m) t b out → Step own (record { table = t; bytes = b }) s out y
+      pub step-header : {m : ℕ} {y : Outcome} → (m ≡ faultOf own s) × (m ≡ 0 → ⊥) → y ≡ outcome (Refused m) t b out
+          → Step own (record { table = t; bytes = b }) s out y
       step-header m e = refused (header-due own t (length b) s (length out) is-n none (m .0) (m .1)) (m .1) e
 
       -- and then what the place says that holds its number

@@ -27,7 +27,8 @@ use Rattle.receiver_rules.specs.declared.Seen.the-variants as seen
 use Rattle.receiver_rules.specs.declared.Shown.{Shown}
 use Rattle.receiver_rules.specs.declared.Queried.{Queried}
 use Rattle.receiver_rules.specs.declared.Queried.the-variants as queried
-use Rattle.receiver_rules.specs.Promise.{displacedValues, numberOf, Outcome, outcome, State, roomFault, receiveFault, payloadOf, keepAt, keepOf, bytesAt, Settled, waits, delivers, damaged, SettledAfter, Step}
+use Rattle.receiver_rules.specs.Promise.{displacedValues, numberOf, Outcome, outcome, State, roomFault, receiveFault, payloadOf, keepAt}
+use Rattle.receiver_rules.specs.Promise.{keepOf, bytesAt, Settled, waits, delivers, damaged, SettledAfter, Step}
 use Rattle.receiver_rules.specs.Calls.{seenValues, queriedNumber}
 use Rattle.receiver_rules.specs.Claims.{dueFor, keptBy}
 use Rattle.receiver_rules.proofs.Ranges.{fine-table, place-fine}

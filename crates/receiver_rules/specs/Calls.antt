@@ -20,7 +20,8 @@ shownOf p = cond (eqb (p .condition) free) (free ∷ []) (p .condition ∷ p .nu
 
 -- "query and clearing check 14, then 1", where no packet buffer is lent and none is too small; else condition and number of all four places
 unfoldable pub queryCall : Table → ℕ → Answer
-queryCall t lent = answered (roomFault t lent most-l) (shownOf (placeAt t 0) ++ shownOf (placeAt t 1) ++ shownOf (placeAt t 2) ++ shownOf (placeAt t 3))
+queryCall t lent = answered (roomFault t lent most-l) (shownOf (placeAt t 0) ++ shownOf (placeAt t 1) ++ shownOf (placeAt t 2)
+    ++ shownOf (placeAt t 3))
 
 -- the values of what is shown
 unfoldable pub seenValues : Seen → List ℕ

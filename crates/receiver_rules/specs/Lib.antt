@@ -1,4 +1,4 @@
 pub mod Promise
-pub mod Inner
 pub mod Calls
 pub mod Claims
+pub mod inner

@@ -16,7 +16,8 @@ use Rattle.places_rules.specs.declared.Place.{Place}
 use Rattle.places_rules.specs.declared.Table.{Table}
 use Rattle.places_rules.specs.declared.Displaced.{Displaced}
 use Rattle.places_rules.specs.declared.Displaced.the-variants as displaced
-use Rattle.places_rules.specs.Places.{four, delivered, spoiled, placeAt, withPlace, keyOf, heldAt, openAt, displacedAt, turned, openedBy, offsetOf, keptIn, inCondition}
+use Rattle.places_rules.specs.Places.{four, delivered, spoiled, placeAt, withPlace, keyOf, heldAt, openAt, displacedAt, turned, openedBy, offsetOf}
+use Rattle.places_rules.specs.Places.{keptIn, inCondition}
 use Rattle.places_rules.specs.Faults.{badTable, placeFault}
 use Rattle.form_rules.specs.Agree.{enoughIn, missingIn, Agrees}
 use Rattle.receiver_rules.specs.declared.Received.{Received}
@@ -96,7 +97,8 @@ keepAt t i p d h b payload = record {
   bytes = splice b (i * place + offsetOf h) payload;
 }
 
--- document 01: "A fragment whose number is held goes to that place. Otherwise it opens the first free place, or displaces the place opened longest ago"
+-- document 01: "A fragment whose number is held goes to that place. Otherwise it opens the first free place, or displaces the place opened
+-- longest ago"
 unfoldable pub keepOf : Table → Header → List ℕ → List ℕ → Keeping
 keepOf t h b payload =
     cond (ltb (heldAt t (keyOf h)) four)

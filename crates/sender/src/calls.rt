@@ -14,7 +14,7 @@ use cut::Settings;
 ghost use mathlib.Core.Path.{_≡_};
 ghost use Rattle.base_rules.specs.Answer.{outcome};
 ghost use Rattle.sender_rules.specs.Calls.{fragmentCall, sentNumber, fragmentsCall, allNumber};
-ghost use Rattle.sender_rules.specs.Parts.{Figured};
+ghost use Rattle.sender_rules.specs.inner.Parts.{Figured};
 
 // Writes one fragment of a packet at the front of out: 40, 20 to 25, 41, 42, 1 where that cannot be, and then out stays as it is.
 pub fn fragment(g: Settings, number: u16, packet: &[u8], index: usize, out: &mut [u8]) -> Sent

@@ -9,7 +9,7 @@ ghost use Rattle.base_rules.specs.Bounds.{place};
 ghost use Rattle.base_rules.specs.Bytes.{splice};
 ghost use Rattle.cut_rules.specs.Sizes.{L, f};
 ghost use Rattle.sender_rules.specs.Fragments.{payloadFor, headerFor, fragmentFor, fragmentsFor};
-ghost use Rattle.sender_rules.specs.Parts.{Figured, Laid};
+ghost use Rattle.sender_rules.specs.inner.Parts.{Figured, Laid};
 
 // The block of a packet at the front of `block`, which is laid once for all fragments; without FEC there is none.
 pub(crate) fn lay_block(g: Settings, packet: &[u8], p: Figures, block: &mut [u8])
@@ -53,7 +53,8 @@ fn header_of(g: Settings, number: u16, packet: &[u8], p: Figures, i: usize) -> H
 
 // Its payload, at the front of out: every f-th byte of the block, or without FEC a part of the packet.
 fn put_payload(g: Settings, packet: &[u8], block: &[u8], p: Figures, i: usize, out: &mut [u8])
-    requires { ⌜ Figured g (now packet) p × Laid g (now packet) (now block) × (i < f g (length (now packet))) × (length (payloadFor g (now packet) i) ≤ length (now out)) ⌝ }
+    requires { ⌜ Figured g (now packet) p × Laid g (now packet) (now block) × (i < f g (length (now packet)))
+        × (length (payloadFor g (now packet) i) ≤ length (now out)) ⌝ }
     ensures { λ _. ⌜ now (out .exit) ≡ splice (now (out .entry)) 0 (payloadFor g (now (packet .entry)) i) ⌝ }
 {
     if g.fec {
@@ -75,7 +76,8 @@ pub(crate) fn put_fragment(
     i: usize,
     out: &mut [u8],
 )
-    requires { ⌜ Figured g (now packet) p × Laid g (now packet) (now block) × (i < f g (length (now packet))) × (length (fragmentFor g number (now packet) i) ≤ length (now out)) ⌝ }
+    requires { ⌜ Figured g (now packet) p × Laid g (now packet) (now block) × (i < f g (length (now packet)))
+        × (length (fragmentFor g number (now packet) i) ≤ length (now out)) ⌝ }
     ensures { λ _. ⌜ now (out .exit) ≡ splice (now (out .entry)) 0 (fragmentFor g number (now (packet .entry)) i) ⌝ }
 {
     header::write_header(header_of(g, number, packet, p, i), out);

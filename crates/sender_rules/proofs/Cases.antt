@@ -33,7 +33,8 @@ module _ (g : Settings) (number : ℕ) (packet out : List ℕ) where
         unfolding fragmentCall fragmentFault
         one-1 short =
             leaves 1 _ _ _ _ (lit< tt)
-            (rest-due g packet passed _ (skip 42 _ (lt-leb (f g (length packet)) i less) (due 1 _ (lt-ltb (length out) (length (fragmentFor g number packet i)) short))))
+            (rest-due g packet passed _ (skip 42 _ (lt-leb (f g (length packet)) i less)
+            (due 1 _ (lt-ltb (length out) (length (fragmentFor g number packet i)) short))))
 
         pub one-done : (size : ℕ) (y : List ℕ) → size ≡ length (fragmentFor g number packet i) → length (fragmentFor g number packet i) ≤ length out
             → y ≡ splice out 0 (fragmentFor g number packet i) → outcome (granted (size ∷ [])) y ≡ fragmentCall g number packet i out
@@ -41,7 +42,8 @@ module _ (g : Settings) (number : ℕ) (packet out : List ℕ) where
         one-done size y is-size room e =
             ap (λ (x : ℕ). outcome (granted (x ∷ [])) y) is-size
             ∙ writes _ _ _ _ _
-            (rest-due g packet passed _ (skip 42 _ (lt-leb (f g (length packet)) i less) (skip 1 _ (le-ltb (length out) (length (fragmentFor g number packet i)) room) none-due)))
+            (rest-due g packet passed _ (skip 42 _ (lt-leb (f g (length packet)) i less)
+            (skip 1 _ (le-ltb (length out) (length (fragmentFor g number packet i)) room) none-due)))
             e
 
   -- ---- all fragments
@@ -53,7 +55,8 @@ module _ (g : Settings) (number : ℕ) (packet out : List ℕ) where
   module _ (passed : packetFault g packet ≡ 0) where
     pub all-1 : length out < length (fragmentsFor g number packet) → outcome (refused 1) out ≡ fragmentsCall g number packet out
     unfolding fragmentsCall fragmentsFault
-    all-1 short = leaves 1 _ _ _ _ (lit< tt) (rest-due g packet passed _ (due 1 _ (lt-ltb (length out) (length (fragmentsFor g number packet)) short)))
+    all-1 short = leaves 1 _ _ _ _ (lit< tt) (rest-due g packet passed _
+        (due 1 _ (lt-ltb (length out) (length (fragmentsFor g number packet)) short)))
 
     pub all-done : (values y : List ℕ)
         → values ≡ f g (length packet) ∷ h g ∷ s g (length packet) ∷ length (payloadFor g packet (f g (length packet) - 1)) ∷ []

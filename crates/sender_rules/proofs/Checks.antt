@@ -28,7 +28,7 @@ use Rattle.af_rules.specs.declared.Checked.the-variants as checked
 use Rattle.af_rules.proofs.Proved.{a3}
 use Rattle.code_rules.proofs.CallCases.{granted-by, refused-by}
 use Rattle.sender_rules.specs.Calls.{checks, packetFault}
-use Rattle.sender_rules.specs.Parts.{Figured}
+use Rattle.sender_rules.specs.inner.Parts.{Figured}
 
 -- ---- the AF checks, by what was answered
 
@@ -160,7 +160,8 @@ module _ (g : Settings) (packet : List ℕ) where
 
     few : f g (length packet) ≤ most-f
     unfolding many unsound
-    few = ltb-false most-f (f g (length packet)) (clear _ 41 [] (λ (e : 41 ≡ 0). omega arith) (skip (afFault packet) many (same sound) refl ∙ checked-rest))
+    few = ltb-false most-f (f g (length packet)) (clear _ 41 [] (λ (e : 41 ≡ 0). omega arith) (skip (afFault packet) many (same sound) refl
+        ∙ checked-rest))
 
     pub taken : planFault g (length packet) ≡ 0
     taken = same-fault ok sound ∙ passed

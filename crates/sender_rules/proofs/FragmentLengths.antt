@@ -108,7 +108,8 @@ module _ (g : Settings) (packet : List ℕ) where
 
     pub size-some : (i : ℕ) → i < f g (length packet) → 0 < length (payloadFor g packet i)
     size-some i less =
-        either (g .fec) (λ e. omega (arith, size-fec e i, s-some)) (λ e. omega (arith, size-plain e i, s-some, starts i less, L-plain g (length packet) e))
+        either (g .fec) (λ e. omega (arith, size-fec e i, s-some))
+        (λ e. omega (arith, size-plain e i, s-some, starts i less, L-plain g (length packet) e))
 
     -- those before the last are alike
     pub from-size : (number i t : ℕ) → i + t < f g (length packet) → length (fragmentsFrom g number packet i t) ≡ t * (h g + s g (length packet))
@@ -144,7 +145,8 @@ module _ (g : Settings) (packet : List ℕ) where
     within-whole number i less =
         let rest : ℕ = f g (length packet) - (i + 1) in
         let e : f g (length packet) ≡ i + 1 + rest = omega arith in
-        let whole : length (fragmentsFrom g number packet 0 (f g (length packet))) ≡ length (fragmentsFrom g number packet 0 (i + 1)) + length (fragmentsFrom g number packet (0 + (i + 1)) rest) =
+        let whole : length (fragmentsFrom g number packet 0 (f g (length packet))) ≡ length (fragmentsFrom g number packet 0 (i + 1)) + length
+        (fragmentsFrom g number packet (0 + (i + 1)) rest) =
         ap (λ (t : ℕ). length (fragmentsFrom g number packet 0 t)) e ∙ ap length (from-add number 0 (i + 1) rest)
         ∙ length-append (fragmentsFrom g number packet 0 (i + 1)) (fragmentsFrom g number packet (0 + (i + 1)) rest) in
         omega (arith, whole, more-size number i less)

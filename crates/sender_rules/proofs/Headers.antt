@@ -70,6 +70,10 @@ module _ (g : Settings) (number : ℕ) (packet : List ℕ) (i : ℕ) (passed : p
         fits = all-placed;
         chunk = λ (e : g .fec ≡ true).
             let is-k : withFec g (k l) ≡ k l = with-fec g (k l) e in
-            let is-z : withFec g (z l) ≡ z l = with-fec g (z l) e in
-            (omega (arith, is-k, bound .k-least), omega (arith, is-k, bound .k-most), omega (arith, is-k, is-z, bound .z-less), omega (arith, is-k, chunk-held e));
+            let is-z : withFec g (z l) ≡ z l = with-fec g (z l) e in (
+              omega (arith, is-k, bound .k-least),
+              omega (arith, is-k, bound .k-most),
+              omega (arith, is-k, is-z, bound .z-less),
+              omega (arith, is-k, chunk-held e),
+            );
       }

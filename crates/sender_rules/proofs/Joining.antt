@@ -53,7 +53,8 @@ module _ (g : Settings) (packet : List ℕ) where
         ∙ take-all (f g l * s g l) packet enough
 
     -- the last payload is what is left
-    pub last-plain : packetFault g packet ≡ 0 → length (payloadFor g packet (f g (length packet) - 1)) ≡ length packet - (f g (length packet) - 1) * s g (length packet)
+    pub last-plain : packetFault g packet ≡ 0 → length
+        (payloadFor g packet (f g (length packet) - 1)) ≡ length packet - (f g (length packet) - 1) * s g (length packet)
     last-plain passed =
         let l : ℕ = length packet in
         let last : ℕ = f g l - 1 in

@@ -26,7 +26,7 @@ use Rattle.weave_rules.specs.Calls.{badCount, tooMuch, interleaveFault, interle
 use Rattle.header_rules.specs.Header.{headerBytes, writeCall}
 use Rattle.header_rules.specs.declared.Header.{Header}
 use Rattle.sender_rules.specs.Fragments.{blockFor, payloadFor, headerFor, fragmentFor}
-use Rattle.sender_rules.specs.Parts.{Figured}
+use Rattle.sender_rules.specs.inner.Parts.{Figured}
 use Rattle.sender_rules.proofs.Checks.{in-bounds}
 use Rattle.sender_rules.proofs.FragmentLengths.{header-size, fragment-size, payload-fec, payload-plain, size-fec, sure, f-some}
 use Rattle.sender_rules.proofs.PlannedFigures.{is-h, is-f, is-s, c-fec, k-fec}
@@ -49,7 +49,8 @@ part-lent d w y at fits e =
     let short : length (drop at d) ≤ k = omega (arith, length-drop at d) in
     let behind : at + (0 + length w) ≡ at + length w = omega arith in
     let rest : drop (0 + length w) (drop at d) ≡ drop (at + length w) d = drop-drop (0 + length w) at d ∙ ap (λ (x : ℕ). drop x d) behind in
-    ap₂ (λ (x z : List ℕ). take at d ++ (x ++ z)) (e ∙ ap (λ (x : List ℕ). w ++ drop (0 + length w) x) (take-all k (drop at d) short)) (drop-of-length-le (drop at d) short)
+    ap₂ (λ (x z : List ℕ). take at d ++ (x ++ z)) (e ∙ ap (λ (x : List ℕ). w ++ drop (0 + length w) x) (take-all k (drop at d) short))
+    (drop-of-length-le (drop at d) short)
     ∙ ap (λ (x : List ℕ). take at d ++ x) (append-nil (w ++ drop (0 + length w) (drop at d)) ∙ ap (λ (x : List ℕ). w ++ x) rest)
 
 -- such a part is as long as what stands behind `at`
@@ -88,7 +89,8 @@ module _ (g : Settings) (packet : List ℕ) (p : Figures) (d : Figured g packet 
         let bound = sure g packet (d .passed) in
         length-whole packet (k (length packet)) (c (length packet)) (omega (arith, bound .chunks)) ∙ sym (L-fec g (length packet) fec)
 
-    block-spliced : (out y : List ℕ) (a : Answer) → place ≤ length out → outcome a y ≡ encodeCall packet (p .k) (p .c) out → y ≡ splice out 0 (blockFor packet)
+    block-spliced : (out y : List ℕ) (a : Answer) → place ≤ length out → outcome a y ≡ encodeCall packet (p .k) (p .c) out
+        → y ≡ splice out 0 (blockFor packet)
     unfolding encodeCall encodeFault blockFor z
     block-spliced out y a room e =
         let cells : ℕ = c (length packet) * (k (length packet) + parity) in
@@ -106,20 +108,26 @@ module _ (g : Settings) (packet : List ℕ) (p : Figures) (d : Figured g packet 
     count-fine : badCount (f g (length packet)) ≡ false
     unfolding badCount
     count-fine =
-        rw (ne-eqb (f g (length packet)) 0 (λ (e : f g (length packet) ≡ 0). omega (arith, f-some g packet (d .passed))), le-ltb most-f (f g (length packet)) (in-bounds g packet (d .passed) .few))
+        rw (
+          ne-eqb (f g (length packet)) 0 (λ (e : f g (length packet) ≡ 0). omega (arith, f-some g packet (d .passed))),
+          le-ltb most-f (f g (length packet)) (in-bounds g packet (d .passed) .few),
+        )
 
     much-fine : tooMuch (f g (length packet)) (s g (length packet)) ≡ false
     unfolding tooMuch
     much-fine = le-ltb place (f g (length packet) * s g (length packet)) (sure g packet (d .passed) .placed)
 
     pub interleaved : (block out y : List ℕ) (a : Answer) (i : ℕ) → block ≡ blockFor packet → i < f g (length packet)
-        → length (payloadFor g packet i) ≤ length out → outcome a y ≡ interleaveOf block (p .f) (p .s) i out → y ≡ splice out 0 (payloadFor g packet i)
+        → length (payloadFor g packet i) ≤ length out → outcome a y ≡ interleaveOf block (p .f) (p .s) i out
+        → y ≡ splice out 0 (payloadFor g packet i)
     unfolding interleaveOf interleaveFault
     interleaved block out y a i is-block less room e =
         let l : ℕ = length packet in
-        let figures : interleaveOf block (p .f) (p .s) i out ≡ interleaveOf block (f g l) (s g l) i out = ap₂ (λ (x w : ℕ). interleaveOf block x w i out) (is-f g packet p d) (is-s g packet p d) in
+        let figures : interleaveOf block (p .f) (p .s) i out ≡ interleaveOf block (f g l) (s g l) i out = ap₂
+        (λ (x w : ℕ). interleaveOf block x w i out) (is-f g packet p d) (is-s g packet p d) in
         written-is _ _ _ out y a
-        (skip 7 _ count-fine (skip 8 _ much-fine (skip 42 _ (lt-leb (f g l) i less) (skip 1 _ (le-ltb (length out) (s g l) (omega (arith, size-fec g packet fec i))) none-due))))
+        (skip 7 _ count-fine (skip 8 _ much-fine (skip 42 _ (lt-leb (f g l) i less)
+        (skip 1 _ (le-ltb (length out) (s g l) (omega (arith, size-fec g packet fec i))) none-due))))
         (e ∙ figures)
         ∙ ap (splice out 0) (ap (λ (b : List ℕ). fragmentOf b (f g l) (s g l) i) is-block ∙ sym (payload-fec g packet fec i))
 

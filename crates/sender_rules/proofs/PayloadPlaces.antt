@@ -11,7 +11,7 @@ use Rattle.cut_rules.specs.declared.Settings.{Settings}
 use Rattle.cut_rules.specs.declared.Figures.{Figures}
 use Rattle.cut_rules.proofs.PlanCases.{L-plain}
 use Rattle.sender_rules.specs.Fragments.{payloadFor}
-use Rattle.sender_rules.specs.Parts.{Figured}
+use Rattle.sender_rules.specs.inner.Parts.{Figured}
 use Rattle.sender_rules.proofs.FragmentLengths.{size-fec, size-plain, s-placed, sure, starts}
 use Rattle.sender_rules.proofs.PlannedFigures.{is-s}
 

@@ -14,7 +14,7 @@ use Rattle.cut_rules.specs.declared.Settings.{Settings}
 use Rattle.cut_rules.specs.declared.Figures.{Figures}
 use Rattle.cut_rules.proofs.PlanCases.{fitted}
 use Rattle.sender_rules.specs.Fragments.{payloadFor, headerFor, fragmentFor, fragmentsFor}
-use Rattle.sender_rules.specs.Parts.{Figured, Laid}
+use Rattle.sender_rules.specs.inner.Parts.{Figured, Laid}
 use Rattle.sender_rules.proofs.Checks.{in-bounds}
 use Rattle.sender_rules.proofs.FragmentLengths.{fragment-size, whole-size, sure, s-placed}
 use Rattle.sender_rules.proofs.FragmentLengths as lengths
@@ -80,7 +80,8 @@ module _ (g : Settings) (packet : List ℕ) (p : Figures) (d : Figured g packet 
 
   -- the header
   pub headed : (number i plen : ℕ) → plen ≡ length (payloadFor g packet i)
-      → record { number = number; index = i; count = p .f; fec = g .fec; rsk = p .k; rsz = p .z; address = g .address; plen = plen } ≡ headerFor g number packet i
+      → record { number = number; index = i; count = p .f; fec = g .fec; rsk = p .k; rsz = p .z; address = g .address; plen = plen } ≡ headerFor
+      g number packet i
   unfolding headerFor
   headed number i plen e = cc (is-f, is-k, is-z, e)
 

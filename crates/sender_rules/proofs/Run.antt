@@ -10,7 +10,7 @@ use Rattle.cut_rules.specs.Sizes.{h, f, s}
 use Rattle.cut_rules.specs.declared.Settings.{Settings}
 use Rattle.cut_rules.specs.declared.Figures.{Figures}
 use Rattle.sender_rules.specs.Fragments.{fragmentFor, fragmentsFrom, fragmentsFor}
-use Rattle.sender_rules.specs.Parts.{Figured}
+use Rattle.sender_rules.specs.inner.Parts.{Figured}
 use Rattle.sender_rules.proofs.FragmentLengths.{from-none, from-more, from-size, within-whole}
 use Rattle.sender_rules.proofs.Laying.{part-lent, length-lent}
 use Rattle.sender_rules.proofs.PlannedFigures.{is-f, step-is}
@@ -30,7 +30,8 @@ module _ (g : Settings) (packet : List ℕ) (p : Figures) (d : Figured g packet 
     pub whole-length : (x : List ℕ) → x ≡ splice out 0 (fragmentsFor g number packet) → length x ≡ length out
     whole-length x e = ap length e ∙ splice-length out 0 (fragmentsFor g number packet) (omega arith)
 
-    module _ (i at : ℕ) (x : List ℕ) (less : i < p .f) (is-at : at ≡ i * (p .h + p .s)) (is-x : x ≡ splice out 0 (fragmentsFrom g number packet 0 i)) where
+    module _ (i at : ℕ) (x : List ℕ) (less : i < p .f) (is-at : at ≡ i * (p .h + p .s))
+        (is-x : x ≡ splice out 0 (fragmentsFrom g number packet 0 i)) where
       below : i < f g (length packet)
       below = omega (arith, is-f g packet p d)
 

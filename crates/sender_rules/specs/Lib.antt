@@ -1,4 +1,4 @@
 pub mod Fragments
 pub mod Calls
-pub mod Parts
 pub mod Claims
+pub mod inner

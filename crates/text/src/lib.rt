@@ -8,7 +8,8 @@ ghost use Rattle.text_rules.specs.Text.{laid, behind, letterOf, decimalOf, hexO
 
 // Bytes as they are.
 pub fn plain(out: &mut [u8], at: usize, letters: &[u8]) -> usize
-    ensures { λ r. ⌜ (r ≡ behind (now (out .entry)) at (now (letters .entry))) × (now (out .exit) ≡ laid (now (out .entry)) at (now (letters .entry))) ⌝ }
+    ensures { λ r. ⌜ (r ≡ behind (now (out .entry)) at (now (letters .entry)))
+        × (now (out .exit) ≡ laid (now (out .entry)) at (now (letters .entry))) ⌝ }
 {
     if out.len() < at {
         return at;
@@ -20,7 +21,8 @@ pub fn plain(out: &mut [u8], at: usize, letters: &[u8]) -> usize
 
 // Bytes in hex, two digits each.
 pub fn hex(out: &mut [u8], at: usize, raw: &[u8]) -> usize
-    ensures { λ r. ⌜ (r ≡ behind (now (out .entry)) at (hexOf (now (raw .entry)))) × (now (out .exit) ≡ laid (now (out .entry)) at (hexOf (now (raw .entry)))) ⌝ }
+    ensures { λ r. ⌜ (r ≡ behind (now (out .entry)) at (hexOf (now (raw .entry))))
+        × (now (out .exit) ≡ laid (now (out .entry)) at (hexOf (now (raw .entry)))) ⌝ }
 {
     let mut to = at;
     let mut i = 0;

@@ -1,7 +1,9 @@
 -- The claims of specs/Claims.antt, each by citation. Assumes nothing.
 use mathlib.Core.Path.{ap, sym, _∙_}
-use Rattle.text_rules.specs.Claims.{Decimal, Hex, numberFrom, bytesIn}
+use native.Mathlib.Omega.{arith}
+use Rattle.text_rules.specs.Claims.{Decimal, Hex, Bounded, numberFrom, bytesIn}
 use Rattle.text_rules.proofs.Digits.{decimal-back, decimal-front, hex-back}
+use Rattle.text_rules.proofs.Writing.{wrote-none, wrote-behind}
 
 pub decimal : Decimal
 decimal =
@@ -17,3 +19,6 @@ hex =
       back = hex-back;
       one = λ s t e. sym (hex-back s) ∙ ap bytesIn e ∙ hex-back t;
     }
+
+pub bounded : Bounded
+bounded = record { none = wrote-none; inside = λ before after from to w. omega arith; behind = wrote-behind }

@@ -37,7 +37,8 @@ module _ (d t : List ℕ) (at n : ℕ) (fit : n ≡ min (length t) (length d - a
 stored : (s : List ℕ) (i a : ℕ) → i < length s → drop i (set s i a) ≡ a ∷ drop (i + 1) s
 stored s i a h =
     drop-cons (set s i a) i 0 (lt-length-set s i a h)
-    ∙ ap₂ (λ (x : ℕ) (l : List ℕ). x ∷ l) (getD-set-same s i a 0 h) (drop-set-lt (suc i) s i a (omega arith) ∙ ap (λ (x : ℕ). drop x s) (sym (add-one i)))
+    ∙ ap₂ (λ (x : ℕ) (l : List ℕ). x ∷ l) (getD-set-same s i a 0 h) (drop-set-lt (suc i) s i a (omega arith)
+    ∙ ap (λ (x : ℕ). drop x s) (sym (add-one i)))
 
 -- the digits of x from the last to the first, stored in twenty places: none yet,
 pub digits-none : (x : ℕ) (s : List ℕ) → length s ≡ 20 → decimalOf x ++ drop (19 + 1) s ≡ decimalOf x
@@ -60,4 +61,8 @@ module _ (x y : ℕ) (s : List ℕ) (i a : ℕ) (h : i < length s) (e : decimalO
 -- a number below a power of ten has places left where it has more than one digit
 pub places-left : (i y : ℕ) → 10 ≤ y → y < 10 ^ (i + 1) → (0 < i) × (y / 10 < 10 ^ i)
 places-left zero y more h = absurd (omega (arith, pow-suc 10 0))
-places-left (suc i) y more h = (omega arith, div-lt-iff-lt-mul (lit< tt) .1 (omega (arith, pow-suc 10 (suc i), ap (λ (x : ℕ). 10 ^ x) (add-one (suc i)))))
+places-left (suc i) y more h = (
+  omega arith,
+  div-lt-iff-lt-mul (lit< tt) .1
+      (omega (arith, pow-suc 10 (suc i), ap (λ (x : ℕ). 10 ^ x) (add-one (suc i)))),
+)

@@ -1,11 +1,13 @@
--- Texts are read back, so no two numbers and no two runs of bytes have the same text. Proved in proofs/Proved.antt.
+-- Texts are read back, so no two numbers and no two runs of bytes have the same text; a writer touches nothing but what it wrote. Proved in
+-- proofs/Proved.antt.
 use mathlib.Core.Path.{_≡_}
 use mathlib.Core.Bool.{cond}
 use mathlib.Core.List.{List, [], _∷_}
-use Prim.Native.Nat.{ℕ, _+_, _-_, _*_, _<_}
+use Prim.Native.Nat.{ℕ, _+_, _-_, _*_, _≤_, _<_}
 use lib.Dec.{ltb}
-use lib.ListN.{getD}
+use lib.ListN.{length, getD}
 use Rattle.text_rules.specs.Text.{decimalOf, hexOf}
+use Rattle.text_rules.specs.Wrote.{Wrote}
 
 -- the number that decimal digits say behind a number x that was read before them
 unfoldable pub numberFrom : ℕ → List ℕ → ℕ
@@ -32,3 +34,9 @@ pub record Decimal : Type 0 where
 pub record Hex : Type 0 where
   pub back : (s : List ℕ) → bytesIn (hexOf s) ≡ s
   pub one : (s t : List ℕ) → hexOf s ≡ hexOf t → s ≡ t
+
+-- what a writer leaves: where it wrote nothing the buffer is as it was, and what it wrote is within the buffer and before each byte that stayed
+pub record Bounded : Type 0 where
+  pub none : (before after : List ℕ) (at : ℕ) → Wrote before at at after → after ≡ before
+  pub inside : (before after : List ℕ) (from to : ℕ) → Wrote before from to after → to ≤ length after
+  pub behind : (before after : List ℕ) (from to i : ℕ) → Wrote before from to after → to ≤ i → getD after i 0 ≡ getD before i 0

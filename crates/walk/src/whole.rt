@@ -11,12 +11,13 @@ ghost use Prim.Native.Nat.{_+_, _-_, _^_, _≤_, _<_};
 ghost use Rattle.item_rules.specs.Run.{runOf, firstOf, isBefore, nextOf};
 ghost use Rattle.walk_rules.specs.Names.{deepest, namesOf};
 ghost use Rattle.walk_rules.specs.Walk.{tourAt, refusal, walkOf};
-ghost use Rattle.walk_rules.specs.Whole.{itemRefusal};
+ghost use Rattle.walk_rules.specs.inner.Whole.{itemRefusal};
 
 // The number with which the walk of the packet from `from` to `end` is refused, or 0. The marks tell which names have not stood before.
 fn walk_packet(s: &[u8], names: &[u8], from: usize, end: usize, depth: usize) -> u8
     requires { ⌜ depth ≤ deepest + 1 ⌝ }
-    ensures { λ r. ⌜ r ≡ refusal (tourAt (deepest + 1 - depth) (now (s .entry)) (namesOf (now (names .entry))) depth [] (runOf (now (s .entry)) from end)) ⌝ }
+    ensures { λ r. ⌜ r ≡ refusal (tourAt (deepest + 1 - depth) (now (s .entry)) (namesOf (now (names .entry))) depth []
+        (runOf (now (s .entry)) from end)) ⌝ }
 {
     let mut marks = item::no_marks();
     let mut at = from;
@@ -53,7 +54,8 @@ fn walk_item(
     mark: bool,
 ) -> u8
     requires { ⌜ (depth ≤ deepest + 1) × (nextOf i ≤ end) ⌝ }
-    ensures { λ r. ⌜ r ≡ itemRefusal (deepest + 1 - depth) (now (s .entry)) (namesOf (now (names .entry))) depth (mark && isBefore (firstOf (i .name) (runOf (now (s .entry)) from end)) (i .from)) i ⌝ }
+    ensures { λ r. ⌜ r ≡ itemRefusal (deepest + 1 - depth) (now (s .entry)) (namesOf (now (names .entry))) depth
+        (mark && isBefore (firstOf (i .name) (runOf (now (s .entry)) from end)) (i .from)) i ⌝ }
 {
     let n = item::fault_of(s, from, end, i, mark);
     if n != 0 {
@@ -78,7 +80,8 @@ fn walk_item(
 // The same for a container's value.
 fn walk_value(s: &[u8], names: &[u8], depth: usize, i: Item) -> u8
     requires { ⌜ (depth ≤ deepest) × (nextOf i < 2 ^ 64) ⌝ }
-    ensures { λ r. ⌜ r ≡ refusal (tourAt (deepest - depth) (now (s .entry)) (namesOf (now (names .entry))) (depth + 1) [] (runOf (now (s .entry)) (i .from) (nextOf i))) ⌝ }
+    ensures { λ r. ⌜ r ≡ refusal (tourAt (deepest - depth) (now (s .entry)) (namesOf (now (names .entry))) (depth + 1) []
+        (runOf (now (s .entry)) (i .from) (nextOf i))) ⌝ }
 {
     walk_packet(s, names, i.from, i.from + i.len.0, depth + 1)
 }

@@ -72,12 +72,14 @@ not-too-deep : (cs : List ℕ) (d : ℕ) (b : Bool) (i : Item) → walkFault cs 
 unfolding walkFault
 not-too-deep cs d b i q =
     let r = or-right (faultOf b i) _ q in
-    ltb-false deepest d (clear (ltb deepest d) 32 [] (eqb-false 32 0 refl) (clear-rest (among (i .name) cs && not (eqb (i .bits .0 % 8) 0)) 35 _ (eqb-false 35 0 refl) r))
+    ltb-false deepest d (clear (ltb deepest d) 32 [] (eqb-false 32 0 refl)
+    (clear-rest (among (i .name) cs && not (eqb (i .bits .0 % 8) 0)) 35 _ (eqb-false 35 0 refl) r))
 
 module _ (s cs : List ℕ) where
   -- where a run is walked with no refusal, its items have no fault, and their contents and what is behind them none
   parts : (inner : Item → Tour) (d : ℕ) (seen : List ℕ) (i : Item) (r : Run) → refusal (tourBy inner cs d seen (item i r)) ≡ 0
-      → (walkFault cs d (among (i .name) seen) i ≡ 0) × (refusal (cond (among (i .name) cs) (inner i) (ends 0)) ≡ 0) × (refusal (tourBy inner cs d (i .name ∷ seen) r) ≡ 0)
+      → (walkFault cs d (among (i .name) seen) i ≡ 0) × (refusal (cond (among (i .name) cs) (inner i) (ends 0)) ≡ 0)
+      × (refusal (tourBy inner cs d (i .name ∷ seen) r) ≡ 0)
   unfolding tourBy refusal
   parts inner d seen i r q =
       let w = walkFault cs d (among (i .name) seen) i in
@@ -92,9 +94,11 @@ module _ (s cs : List ℕ) where
   unfolding tourBy plainBy
   plain-by inner inner′ d h seen (item i r) q =
       let p = parts inner d seen i r q in
-      simp (p .0) (ap (visit d i) (ap (andThen (cond (among (i .name) cs) (inner i) (ends 0))) (plain-by inner inner′ d h (i .name ∷ seen) r (p .2)) ∙ go (among (i .name) cs) (p .1)))
+      simp (p .0) (ap (visit d i) (ap (andThen (cond (among (i .name) cs) (inner i) (ends 0)))
+      (plain-by inner inner′ d h (i .name ∷ seen) r (p .2)) ∙ go (among (i .name) cs) (p .1)))
     where
-      go : (b : Bool) → refusal (cond b (inner i) (ends 0)) ≡ 0 → andThen (cond b (inner i) (ends 0)) (plainBy inner′ cs d r) ≡ andThen (cond b (inner′ i) (ends 0)) (plainBy inner′ cs d r)
+      go : (b : Bool) → refusal (cond b (inner i) (ends 0)) ≡ 0
+          → andThen (cond b (inner i) (ends 0)) (plainBy inner′ cs d r) ≡ andThen (cond b (inner′ i) (ends 0)) (plainBy inner′ cs d r)
       go true e = h i e (plainBy inner′ cs d r)
       go false e = refl
   plain-by inner inner′ d h seen (padding p) q = refl
@@ -104,7 +108,8 @@ module _ (s cs : List ℕ) where
   beyond d h k = omega arith
 
   -- below the deepest level nothing stands but padding
-  deep-ends : (inner : Item → Tour) (d : ℕ) (seen : List ℕ) (r : Run) → deepest < d → refusal (tourBy inner cs d seen r) ≡ 0 → (u : Tour) → andThen (tourBy inner cs d seen r) u ≡ u
+  deep-ends : (inner : Item → Tour) (d : ℕ) (seen : List ℕ) (r : Run) → deepest < d → refusal (tourBy inner cs d seen r) ≡ 0 → (u : Tour)
+      → andThen (tourBy inner cs d seen r) u ≡ u
   unfolding tourBy refusal andThen
   deep-ends inner d seen (item i r) h q u = absurd (beyond d h (not-too-deep cs d (among (i .name) seen) i (parts inner d seen i r q .0)))
   deep-ends inner d seen (padding p) h q u = refl
@@ -113,7 +118,8 @@ module _ (s cs : List ℕ) where
   next-level : (d k : ℕ) → d + suc k ≡ deepest → d + 1 + k ≡ deepest
   next-level d k h = omega arith
 
-  pub plain : (k d : ℕ) (seen : List ℕ) (r : Run) → d + k ≡ deepest → refusal (tourAt (suc k) s cs d seen r) ≡ 0 → tourAt (suc k) s cs d seen r ≡ plainAt k s cs d r
+  pub plain : (k d : ℕ) (seen : List ℕ) (r : Run) → d + k ≡ deepest → refusal (tourAt (suc k) s cs d seen r) ≡ 0
+      → tourAt (suc k) s cs d seen r ≡ plainAt k s cs d r
   unfolding tourAt plainAt andThen
   plain zero d seen r h q =
       plain-by (λ i. tourAt 0 s cs (d + 1) [] (runOf s (i .from) (nextOf i))) (λ i. ends 0) d

@@ -18,7 +18,7 @@ use Rattle.item_rules.proofs.Runs.{run-end, run-refused}
 use Rattle.item_rules.proofs.Seen.{Seen, ByItem, again, turn, stops}
 use Rattle.walk_rules.specs.Names.{deepest, namesOf, namesFault}
 use Rattle.walk_rules.specs.Walk.{Tour, visit, ends, stops as halts, unless, andThen, walkFault, tourBy, tourAt, refusal, walkOf}
-use Rattle.walk_rules.specs.Whole.{itemRefusal}
+use Rattle.walk_rules.specs.inner.Whole.{itemRefusal}
 
 -- what refuses two walks, one after the other
 pub then-refusal : (t u : Tour) → refusal (andThen t u) ≡ orElse (refusal t) (refusal u)
@@ -62,7 +62,8 @@ or-none n b = go (eqb n 0) b refl
 -- an item, its contents, and the items behind it
 by-item : (inner : Item → Tour) (cs : List ℕ) (d : ℕ) (seen : List ℕ) (i : Item) (r : Run)
     → refusal (tourBy inner cs d seen (item i r))
-    ≡ orElse (orElse (walkFault cs d (among (i .name) seen) i) (cond (among (i .name) cs) (refusal (inner i)) 0)) (refusal (tourBy inner cs d (i .name ∷ seen) r))
+    ≡ orElse (orElse (walkFault cs d (among (i .name) seen) i) (cond (among (i .name) cs) (refusal (inner i)) 0))
+    (refusal (tourBy inner cs d (i .name ∷ seen) r))
 unfolding tourBy refusal
 by-item inner cs d seen i r =
     let w = walkFault cs d (among (i .name) seen) i in
@@ -76,7 +77,8 @@ walk-by-item : (k : ℕ) (s cs : List ℕ) (d : ℕ) → ByItem (λ seen r. refu
 unfolding tourAt itemRefusal refusal
 walk-by-item zero s cs d seen i r =
     by-item (λ i. ends 0) cs d seen i r
-    ∙ ap (λ (n : ℕ). orElse n (refusal (tourBy (λ i. ends 0) cs d (i .name ∷ seen) r))) (or-none (walkFault cs d (among (i .name) seen) i) (among (i .name) cs))
+    ∙ ap (λ (n : ℕ). orElse n (refusal (tourBy (λ i. ends 0) cs d (i .name ∷ seen) r)))
+    (or-none (walkFault cs d (among (i .name) seen) i) (among (i .name) cs))
 walk-by-item (suc k) s cs d seen i r = by-item (λ i. tourAt k s cs (d + 1) [] (runOf s (i .from) (nextOf i))) cs d seen i r
 
 -- an item's own fault, by the tests, where 31 and 33 are not due
@@ -100,7 +102,8 @@ module _ (cs : List ℕ) (d : ℕ) (b : Bool) (i : Item) (n : ℕ) (q : n ≡ fa
       pub no-fault : d ≤ deepest → 0 ≡ walkFault cs d b i
       no-fault h = others 0 (skip _ _ w (skip _ _ (le-ltb deepest d h) none-due))
 
-pub container-whole : (cs : List ℕ) (i : Item) → among (i .name) cs ≡ true → i .bits .0 % 8 ≡ 0 → among (i .name) cs && not (eqb (i .bits .0 % 8) 0) ≡ false
+pub container-whole : (cs : List ℕ) (i : Item) → among (i .name) cs ≡ true → i .bits .0 % 8 ≡ 0
+    → among (i .name) cs && not (eqb (i .bits .0 % 8) 0) ≡ false
 container-whole cs i a h = simp (a, h)
 
 pub no-container : (cs : List ℕ) (i : Item) → among (i .name) cs ≡ false → among (i .name) cs && not (eqb (i .bits .0 % 8) 0) ≡ false
@@ -164,10 +167,12 @@ WalkSeen k s cs d from end marks at = Seen (λ seen r. refusal (tourAt k s cs d 
 
 module _ (k : ℕ) (s cs : List ℕ) (d from end : ℕ) (marks : List Bool) (at : ℕ) (w : WalkSeen k s cs d from end marks at) where
   pub walk-ends : (p : Bytes) → stepIn s at end ≡ step.End p → 0 ≡ refusal (tourAt k s cs d [] (runOf s from end))
-  walk-ends p e = sym (w .rest ∙ ap (λ (r : Run). refusal (tourAt k s cs d (w .names) r)) (run-end s at end p e) ∙ tour-end k s cs d (w .names) (p .0))
+  walk-ends p e = sym (w .rest ∙ ap (λ (r : Run). refusal (tourAt k s cs d (w .names) r)) (run-end s at end p e)
+      ∙ tour-end k s cs d (w .names) (p .0))
 
   pub walk-refused : (n : ℕ) → stepIn s at end ≡ step.Refused n → n ≡ refusal (tourAt k s cs d [] (runOf s from end))
-  walk-refused n e = sym (w .rest ∙ ap (λ (r : Run). refusal (tourAt k s cs d (w .names) r)) (run-refused s at end n e) ∙ tour-refused k s cs d (w .names) n)
+  walk-refused n e = sym (w .rest ∙ ap (λ (r : Run). refusal (tourAt k s cs d (w .names) r)) (run-refused s at end n e)
+      ∙ tour-refused k s cs d (w .names) n)
 
   module _ (i : Item) (e : stepIn s at end ≡ step.Item i) (h n : ℕ) (p : h ≡ i .name % slots)
       (q : n ≡ itemRefusal k s cs d (again s from end marks h i) i) where

@@ -1,5 +1,5 @@
 pub mod Names
 pub mod Walk
 pub mod Step
-pub mod Whole
 pub mod Claims
+pub mod inner

@@ -19,7 +19,8 @@ use Rattle.base_rules.proofs.Firsts.{due, skip, none-due}
 use Rattle.base_rules.proofs.Logic.{or-left, or-right}
 use Rattle.base_rules.proofs.Splice.{splice-next}
 use Rattle.base_rules.proofs.Tables.{length-table, table-add, table-same}
-use Rattle.weave_rules.specs.Calls.{badCount, tooMuch, badChunk, interleaveFault, interleaveOf, deinterleaveFault, deinterleaveOf, notKept, enoughFault, enoughOf, numberOf}
+use Rattle.weave_rules.specs.Calls.{badCount, tooMuch, badChunk, interleaveFault, interleaveOf, deinterleaveFault, deinterleaveOf, notKept}
+use Rattle.weave_rules.specs.Calls.{enoughFault, enoughOf, numberOf}
 use Rattle.cut_rules.specs.Cells.{fragmentOf, cellOf, cellsOf}
 use Rattle.cut_rules.specs.Missing.{suffice}
 use Rattle.cut_rules.specs.Sizes.{receivedC}
@@ -109,7 +110,8 @@ module _ (block out : List ℕ) (f s i : ℕ) where
         unfolding interleaveOf interleaveFault
         weave-1 h = leaves 1 _ _ _ _ (lit< tt) (skip 7 _ counted (skip 8 _ held (skip 42 _ (lt-leb f i below) (due 1 _ (lt-ltb (length out) s h)))))
 
-        pub weave-done : (y : List ℕ) → s ≤ length out → y ≡ splice out 0 (fragmentOf block f s i) → outcome (granted []) y ≡ interleaveOf block f s i out
+        pub weave-done : (y : List ℕ) → s ≤ length out → y ≡ splice out 0 (fragmentOf block f s i)
+            → outcome (granted []) y ≡ interleaveOf block f s i out
         unfolding interleaveOf interleaveFault
         weave-done y h e =
             writes _ _ _ _ _ (skip 7 _ counted (skip 8 _ held (skip 42 _ (lt-leb f i below) (skip 1 _ (le-ltb (length out) s h) none-due)))) e
@@ -150,10 +152,12 @@ module _ (held out : List ℕ) (f s : ℕ) where
         pub cells-room : length out < f * s → outcome (refused 1) out ≡ deinterleaveOf held f s out
         cells-room h = no-room (rw (le-ltb (length held) (f * s) whole, lt-ltb (length out) (f * s) h))
 
-        pub cells-done : (y : List ℕ) → f * s ≤ length out → y ≡ splice out 0 (cellsOf held f s) → outcome (granted []) y ≡ deinterleaveOf held f s out
+        pub cells-done : (y : List ℕ) → f * s ≤ length out → y ≡ splice out 0 (cellsOf held f s)
+            → outcome (granted []) y ≡ deinterleaveOf held f s out
         unfolding deinterleaveOf deinterleaveFault
         cells-done y h e =
-            let none : ltb (length held) (f * s) || ltb (length out) (f * s) ≡ false = rw (le-ltb (length held) (f * s) whole, le-ltb (length out) (f * s) h) in
+            let none : ltb (length held) (f * s) || ltb (length out) (f * s) ≡ false = rw
+            (le-ltb (length held) (f * s) whole, le-ltb (length out) (f * s) h) in
             writes _ _ _ _ _ (skip 7 _ counted (skip 8 _ placed (skip 1 _ none none-due))) e
 
 -- ---- whether the fragments suffice
@@ -179,11 +183,13 @@ module _ (kept : List Bool) (f s k : ℕ) where
         told-so b e =
             ap (λ (x : Bool). granted (bit x ∷ [])) e ∙ grants _ _ (skip 7 _ counted (skip 8 _ placed (skip 8 _ sound none-due)))
 
-        pub held-enough : (b : Bool) → b ≡ suffice (notKept kept) f (k + parity) (f * s / (k + parity)) → b ≡ true → numberOf Enough ≡ enoughOf kept f s k
+        pub held-enough : (b : Bool) → b ≡ suffice (notKept kept) f (k + parity) (f * s / (k + parity)) → b ≡ true
+            → numberOf Enough ≡ enoughOf kept f s k
         unfolding numberOf
         held-enough b e t = told-so true (sym t ∙ e)
 
-        pub held-not : (b : Bool) → b ≡ suffice (notKept kept) f (k + parity) (f * s / (k + parity)) → b ≡ false → numberOf NotEnough ≡ enoughOf kept f s k
+        pub held-not : (b : Bool) → b ≡ suffice (notKept kept) f (k + parity) (f * s / (k + parity)) → b ≡ false
+            → numberOf NotEnough ≡ enoughOf kept f s k
         unfolding numberOf
         held-not b e t = told-so false (sym t ∙ e)
 

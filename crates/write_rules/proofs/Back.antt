@@ -37,7 +37,8 @@ reads-back pre rest end name bits v hn hb whole fits =
     let by-value : s ≡ headed ++ value = simp append-assoc in
     let at-bits : length named ≡ length pre + 4 = length-append pre (bytesOf 4 name) ∙ ap (λ (k : ℕ). length pre + k) (length-bytes 4 name) in
     let at-value : length headed ≡ length pre + head = length-append named (bytesOf 4 bits) ∙ omega (arith, at-bits, length-bytes 4 bits) in
-    let is-name : numberAt 4 s (length pre) ≡ name = ap (λ (l : List ℕ). numberAt 4 l (length pre)) by-name ∙ number-behind pre (bytesOf 4 bits ++ value) name hn in
+    let is-name : numberAt 4 s (length pre) ≡ name = ap (λ (l : List ℕ). numberAt 4 l (length pre)) by-name
+    ∙ number-behind pre (bytesOf 4 bits ++ value) name hn in
     let is-bits : numberAt 4 s (length pre + 4) ≡ bits =
     ap (λ (k : ℕ). numberAt 4 s k) (sym at-bits) ∙ ap (λ (l : List ℕ). numberAt 4 l (length named)) by-bits ∙ number-behind named value bits hb in
     record {

@@ -48,7 +48,8 @@ run-written pre (e ∷ es) pad fit few =
     let rest : List ℕ = packetOf es pad in
     let s : List ℕ = pre ++ (it ++ rest) in
     let long : length it ≡ head + bytesFor (e .bits) = length-item (e .name) (e .bits) (e .value) (fit .0 .whole) in
-    let all : length s ≡ length pre + (length it + length rest) = length-append pre (it ++ rest) ∙ ap (λ (k : ℕ). length pre + k) (length-append it rest) in
+    let all : length s ≡ length pre + (length it + length rest) = length-append pre (it ++ rest)
+    ∙ ap (λ (k : ℕ). length pre + k) (length-append it rest) in
     let read = reads-back pre rest (length s) (e .name) (e .bits) (e .value) (fit .0 .name-held) (fit .0 .bits-held) (fit .0 .whole) (omega arith) in
     let next : length (pre ++ it) ≡ nextOf (itemOf (length pre) e) = length-append pre it ∙ omega (arith, long) in
     let on : runOf s (length (pre ++ it)) (length s) ≡ entriesRun (length (pre ++ it)) es (length pad) =
@@ -67,7 +68,8 @@ unseen-next : (seen : List ℕ) (e : Entry) (es : List Entry) → Apart (e ∷ e
 unfolding among namesOf
 unseen-next seen e es apart h m d q =
     either (eqb (e .name) m)
-    (λ t. let same : e .name ≡ m = eqb-true (e .name) m t in clash q (subst (λ x. among x (namesOf es) ≡ false) same (apart .0 (λ z. d (sym same ∙ z)))))
+    (λ t. let same : e .name ≡ m = eqb-true (e .name) m t in clash q
+    (subst (λ x. among x (namesOf es) ≡ false) same (apart .0 (λ z. d (sym same ∙ z)))))
     (λ t. simp t (h m d (simp (t, q))))
 
 no-fault : (seen : List ℕ) (at : ℕ) (e : Entry) (es : List Entry) → Fits e → Unseen seen (e ∷ es) → faultOf (among (e .name) seen) (itemOf at e) ≡ 0
@@ -81,7 +83,8 @@ pub faults-none : (seen : List ℕ) (at : ℕ) (es : List Entry) (n : ℕ) → A
 unfolding entriesRun faultsOf
 faults-none seen at [] n fit apart h = refl
 faults-none seen at (e ∷ es) n fit apart h =
-    simp (no-fault seen at e es (fit .0) h) (faults-none (e .name ∷ seen) (nextOf (itemOf at e)) es n (fit .1) (apart .1) (unseen-next seen e es apart h))
+    simp (no-fault seen at e es (fit .0) h) (faults-none (e .name ∷ seen) (nextOf (itemOf at e)) es n (fit .1) (apart .1)
+    (unseen-next seen e es apart h))
 
 -- ---- the first of its name
 
@@ -96,7 +99,8 @@ pub fits-at : (before after : List Entry) (e : Entry) → AllFit (before ++ (e �
 fits-at [] after e fit = fit .0
 fits-at (b ∷ before) after e fit = fits-at before after e (fit .1)
 
-pub first-written : (at : ℕ) (before after : List Entry) (e : Entry) (n : ℕ) → AllFit (before ++ (e ∷ after)) → among (e .name) (namesOf before) ≡ false
+pub first-written : (at : ℕ) (before after : List Entry) (e : Entry) (n : ℕ) → AllFit (before ++ (e ∷ after))
+    → among (e .name) (namesOf before) ≡ false
     → firstOf (e .name) (entriesRun at (before ++ (e ∷ after)) n) ≡ found.At (itemOf (at + length (packetOf before [])) e)
 unfolding entriesRun firstOf packetOf among namesOf
 first-written at [] after e n fit new =

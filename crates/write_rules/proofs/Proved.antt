@@ -35,7 +35,8 @@ opens es pad fit apart few = simp (sound es pad fit apart few)
 
 -- and the first item under a name stands where it was written
 module _ (before after : List Entry) (e : Entry) (pad : List ℕ) (fit : AllFit (before ++ (e ∷ after))) (few : length pad ≤ 7) where
-  first : among (e .name) (namesOf before) ≡ false → firstOf (e .name) (wholeRun (packetOf (before ++ (e ∷ after)) pad)) ≡ found.At (itemOf (length (packetOf before [])) e)
+  first : among (e .name) (namesOf before) ≡ false → firstOf (e .name) (wholeRun (packetOf (before ++ (e ∷ after)) pad)) ≡ found.At
+      (itemOf (length (packetOf before [])) e)
   first new =
       ap (firstOf (e .name)) (run-written [] (before ++ (e ∷ after)) pad fit few) ∙ first-written 0 before after e (length pad) fit new
       ∙ ap (λ (k : ℕ). found.At (itemOf k e)) (zero-add (length (packetOf before [])))

@@ -3,7 +3,7 @@ use Prim.Native.Nat.{_≤_}
 use mathlib.Core.Path.{_≡_, ap}
 use lib.ListN.{length}
 use borrow.Author.Needs.{needs}
-use Rattle.ask.specs.Held.{heldOf}
+use Rattle.ask.specs.inner.Held.{heldOf}
 use Rattle.ask.proofs.answer_all.Statement.{statement}
 use Rattle.ask.proofs.answer_all.Tie as tie
 

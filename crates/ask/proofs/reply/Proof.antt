@@ -24,14 +24,18 @@ returns : tie.Need-returns
 returns c = search needs
 
 array-write-out : tie.Need-array-write-out
-array-write-out c = omega (arith, c .before .before .before .before .answer .ensures .within, slice-aggregate-answer (c .before .before .before .before .before))
+array-write-out c =
+    omega (arith, c .before .before .before .before .answer .ensures .within, slice-aggregate-answer (c .before .before .before .before .before))
 
 add-out : tie.Need-add-out
-add-out c = omega (arith, c .before .before .before .before .answer .ensures .within, slice-aggregate-answer (c .before .before .before .before .before))
+add-out c =
+    omega (arith, c .before .before .before .before .answer .ensures .within, slice-aggregate-answer (c .before .before .before .before .before))
 
 array-share-prefix-out : tie.Need-array-share-prefix-out
 array-share-prefix-out c =
-    closed 10 (c .before .before .before .before .before .before .before .room .result) (slice-aggregate-answer (c .before .before .before .before .before)) (omega arith) (c .before .before .before .before .answer .ensures)
+    let Room = c .before .before .before .before .before .before .before .room in
+    closed 10 (Room .result) (slice-aggregate-answer (c .before .before .before .before .before)) (omega arith)
+    (c .before .before .before .before .answer .ensures)
 
 slice-aggregate-write-all : tie.Need-slice-aggregate-write-all
 slice-aggregate-write-all c = front _ _ (array-share-prefix-out (c .before))

@@ -3,12 +3,13 @@ use Prim.Native.Nat.{_≤_, _-_}
 use mathlib.Core.Path.{_≡_, ap}
 use lib.ListN.{length}
 use borrow.Author.Needs.{needs}
-use Rattle.ask.specs.Held.{heldOf}
+use Rattle.ask.specs.inner.Held.{heldOf}
 use Rattle.ask.proofs.take_all.Statement.{statement}
 use Rattle.ask.proofs.take_all.Tie as tie
 
 abbrev Inv-loop : tie.InvT-loop
-Inv-loop chunk line₀ used seat₀ n₀ i₀ line seat n i = (i ≤ length chunk) × (n ≤ length line) × (length line ≡ length line₀) × (length seat ≡ length seat₀)
+Inv-loop chunk line₀ used seat₀ n₀ i₀ line seat n i = (i ≤ length chunk) × (n ≤ length line) × (length line ≡ length line₀)
+    × (length seat ≡ length seat₀)
 
 abbrev μ-loop : tie.MeasureT-loop
 μ-loop chunk line₀ used seat₀ n₀ i₀ line seat n i = length chunk - i

@@ -23,8 +23,10 @@ returns : tie.Need-returns
 returns c =
     let x = c .before .before .before .before .args .x in
     let second = c .before .before .low2 .ensures ∙ ap (λ (y : ℕ). y % 256) (sym (div-div-eq-div-mul x 256 256)) in
-    let first = c .before .before .before .low .ensures ∙ ap (λ (y : ℕ). y % 256) (sym (ap (λ (y : ℕ). y / 256) (div-div-eq-div-mul x 256 256) ∙ div-div-eq-div-mul x 65536 256)) in
-    bytes-more 3 x (bytes-more 2 (x / 256) (bytes-more 1 (x / 256 / 256) (bytes-more 0 _ (bytes-none _) first) second) (c .before .low3 .ensures)) (c .low4 .ensures)
+    let first = c .before .before .before .low .ensures
+    ∙ ap (λ (y : ℕ). y % 256) (sym (ap (λ (y : ℕ). y / 256) (div-div-eq-div-mul x 256 256) ∙ div-div-eq-div-mul x 65536 256)) in
+    bytes-more 3 x (bytes-more 2 (x / 256) (bytes-more 1 (x / 256 / 256) (bytes-more 0 _ (bytes-none _) first) second)
+    (c .before .low3 .ensures)) (c .low4 .ensures)
 
 pub bytes4-spec : {M : Type 1} → statement M
 bytes4-spec =

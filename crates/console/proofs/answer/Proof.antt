@@ -1,6 +1,6 @@
 -- `answer` meets its contract: where no group has an answer, the buffer is as it was. Assumes nothing.
 use borrow.Author.Needs.{needs}
-use Rattle.console.proofs.Writing.{next}
+use Rattle.text_rules.proofs.Writing.{next}
 use Rattle.console.proofs.answer.Statement.{statement}
 use Rattle.console.proofs.answer.Tie as tie
 

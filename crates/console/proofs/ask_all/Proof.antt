@@ -1,6 +1,6 @@
 -- `ask_all` meets its contract: a group that has no answer leaves the buffer to the next. Assumes nothing.
 use borrow.Author.Needs.{needs}
-use Rattle.console.proofs.Writing.{next}
+use Rattle.text_rules.proofs.Writing.{next}
 use Rattle.console.proofs.ask_all.Statement.{statement}
 use Rattle.console.proofs.ask_all.Tie as tie
 

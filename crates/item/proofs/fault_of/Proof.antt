@@ -21,10 +21,12 @@ bad-ptr-requires : tie.Need-bad-ptr-requires
 bad-ptr-requires c κs = search needs
 
 returns-3 : tie.Need-returns-3
-returns-3 c = fault-ptr _ _ (sym (c .before .before .before .again .ensures) ∙ c .before .before .if2 .left) (sym (c .before .bad-ptr .ensures) ∙ c .if3 .taken)
+returns-3 c =
+    fault-ptr _ _ (sym (c .before .before .before .again .ensures) ∙ c .before .before .if2 .left) (sym (c .before .bad-ptr .ensures) ∙ c .if3 .taken)
 
 returns-4 : tie.Need-returns-4
-returns-4 c = fault-none _ _ (sym (c .before .before .before .again .ensures) ∙ c .before .before .if2 .left) (sym (c .before .bad-ptr .ensures) ∙ c .if3 .left)
+returns-4 c =
+    fault-none _ _ (sym (c .before .before .before .again .ensures) ∙ c .before .before .if2 .left) (sym (c .before .bad-ptr .ensures) ∙ c .if3 .left)
 
 pub fault-of-spec : {M : Type 1} → statement M
 fault-of-spec =

@@ -58,7 +58,8 @@ enum-told-2 : tie.Need-enum-told-2 Inv-loop μ-loop
 enum-told-2 c = search needs
 
 returns-3 : tie.Need-returns-3 Inv-loop μ-loop
-returns-3 c = sym (c .before .before .before .loop .inv ∙ first-refused _ _ _ _ _ (sym (c .before .before .step-in .ensures) ∙ c .enum-told2 .given .1))
+returns-3 c =
+    sym (c .before .before .before .loop .inv ∙ first-refused _ _ _ _ _ (sym (c .before .before .step-in .ensures) ∙ c .enum-told2 .given .1))
 
 pub first-in-spec : {M : Type 1} → statement M
 first-in-spec =

@@ -32,13 +32,18 @@ bytes-of-requires : tie.Need-bytes-of-requires
 bytes-of-requires c κs = search needs
 
 returns-3 : tie.Need-returns-3
-returns-3 c = let h = c .before .before .before .before .before .if2 .left in let f = c .if3 .taken in is-overrun _ _ _ _ _ h (c .before .before .before .read42 .ensures) (c .before .before .bytes-of .ensures) (omega arith)
+returns-3 c =
+    let h = c .before .before .before .before .before .if2 .left in let f = c .if3 .taken in is-overrun _ _ _ _ _ h
+    (c .before .before .before .read42 .ensures) (c .before .before .bytes-of .ensures) (omega arith)
 
 add-t12 : tie.Need-add-t12
 add-t12 c = search needs
 
 returns-4 : tie.Need-returns-4
-returns-4 c = let h = c .before .before .before .before .before .if2 .left in let f = c .if3 .left in is-item _ _ _ _ _ _ h (c .before .before .before .before .read4 .ensures) (c .before .before .before .read42 .ensures) (c .before .before .bytes-of .ensures) (omega arith)
+returns-4 c =
+    let h = c .before .before .before .before .before .if2 .left in let f = c .if3 .left in is-item _ _ _ _ _ _ h
+    (c .before .before .before .before .read4 .ensures) (c .before .before .before .read42 .ensures) (c .before .before .bytes-of .ensures)
+    (omega arith)
 
 pub step-in-spec : {M : Type 1} → statement M
 step-in-spec =

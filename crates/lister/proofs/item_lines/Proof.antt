@@ -34,13 +34,15 @@ loop-less : tie.Need-loop-less Inv-loop μ-loop
 loop-less c =
     let item = c .before .before .before .before .before .before in
     let step = item .before .before in
-    turn _ _ _ _ _ _ _ (step .before .before .loop .inv) _ (step .walk-step .ensures) _ (item .handed .given .1) _ _ (c .before .before .before .item-line .ensures) .1
+    turn _ _ _ _ _ _ _ (step .before .before .loop .inv) _ (step .walk-step .ensures) _ (item .handed .given .1) _ _
+    (c .before .before .before .item-line .ensures) .1
 
 loop-again : tie.Need-loop-again Inv-loop μ-loop
 loop-again c =
     let item = c .before .before .before .before .before .before in
     let step = item .before .before in
-    turn _ _ _ _ _ _ _ (step .before .before .loop .inv) _ (step .walk-step .ensures) _ (item .handed .given .1) _ _ (c .before .before .before .item-line .ensures) .0
+    turn _ _ _ _ _ _ _ (step .before .before .loop .inv) _ (step .walk-step .ensures) _ (item .handed .given .1) _ _
+    (c .before .before .before .item-line .ensures) .0
 
 enum-known-handed-2 : tie.Need-enum-known-handed-2 Inv-loop μ-loop
 enum-known-handed-2 c = search needs
@@ -55,7 +57,8 @@ returns : tie.Need-returns Inv-loop μ-loop
 returns c =
     let last = c .before .before .before .before .before .before in
     let step = last .before .before in
-    end _ _ _ _ _ _ _ (step .before .before .loop .inv) _ (step .walk-step .ensures) _ (last .handed2 .given .1) _ _ (c .before .before .number-line .ensures)
+    end _ _ _ _ _ _ _ (step .before .before .loop .inv) _ (step .walk-step .ensures) _ (last .handed2 .given .1) _ _
+    (c .before .before .number-line .ensures)
 
 same-length : tie.Need-same-length Inv-loop μ-loop
 same-length c = ap length (returns c .1) ∙ laid-length _ _ _

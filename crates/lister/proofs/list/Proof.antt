@@ -37,7 +37,8 @@ same-length-2 c = search needs
 returns-2 : tie.Need-returns-2
 returns-2 c =
     let known = c .before .before .before .before .before .before in
-    let text = packet-passes _ _ (known .before .before .check .ensures) _ _ (known .checked2 .given .1) (c .before .before .before .before .payload .ensures) in
+    let text = packet-passes _ _ (known .before .before .check .ensures) _ _ (known .checked2 .given .1)
+    (c .before .before .before .before .payload .ensures) in
     lays-same _ _ text (c .before .before .list-payload .ensures)
 
 pub list-spec : {M : Type 1} → statement M

@@ -21,8 +21,10 @@ same-length c = search needs
 
 returns : tie.Need-returns
 returns c =
-    let number = c .before .before .before .before .before .before .before in
-    lays-more _ _ _ _ (number .before .before .before .before .plain .ensures) (lays-more _ _ _ _ (number .decimal .ensures) (c .before .before .plain2 .ensures))
+    let Before = c .before .before .before .before .before .before .before in
+    let number = Before in
+    lays-more _ _ _ _ (number .before .before .before .before .plain .ensures)
+    (lays-more _ _ _ _ (number .decimal .ensures) (c .before .before .plain2 .ensures))
 
 pub number-line-spec : {M : Type 1} → statement M
 number-line-spec =

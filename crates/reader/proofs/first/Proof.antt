@@ -1,4 +1,5 @@
--- `reader::first` meets its contract, by a walk of its MIR: the reader that `open` makes is kept in a local and passed to `step`. Of the two calls only
+-- `reader::first` meets its contract, by a walk of its MIR: the reader that `open` makes is kept in a local and passed to `step`. Of the
+-- two calls only
 -- their contracts are known, and the reader's machine value only as what `open` returned. Assumes nothing.
 use mathlib.Core.Path.{_≡_, refl, ap, _∙_}
 use Prim.Native.Nat.{ℕ}
@@ -103,7 +104,8 @@ module _ {M : Type 1} (𝓤 : URA M) (H : Heap 𝓤) (A : Atoms 𝓤) (W : Given
         → ent 𝓤 (With 𝓤 H A W κ q s) (WpFn 𝓤 H C Λ code.function (lentVal s ∷ []) Post)
     walk p =
         qed W (raw (With 𝓤 H A W κ q s) ∷ []) ∵ enter ! C Λ code.function (lentVal s ∷ []) _ $
-        alloc1 ! (λ l₀. alloc1 ! (λ l₁. alloc1 ! (λ l₂. alloc0 ! $ params1 ! $ pass1 ! (init ! 2 refl (shr-slice-lawful 𝓤 H A W (named 0) κ u8 .typed s (lentVal s ∷ []) p .0)) $ pass0 ! $
+        alloc1 ! (λ l₀. alloc1 ! (λ l₁. alloc1 ! (λ l₂. alloc0 ! $ params1 ! $ pass1 !
+        (init ! 2 refl (shr-slice-lawful 𝓤 H A W (named 0) κ u8 .typed s (lentVal s ∷ []) p .0)) $ pass0 ! $
         -- opening
         move ! (6 ∷ []) $ use1 W (raw (Opens 𝓤 H A mem run .pre to-open) ⊛ ‵ (Own κ s)) (again 𝓤 H A W κ q s) $ split ! $
         calls-at ! fm (Opens 𝓤 H A mem run) opens to-open (and-then ! (load ! (from ! (stop !)) (look ! 4 refl)) (no-more !)) (λ v.
@@ -117,7 +119,8 @@ module _ {M : Type 1} (𝓤 : URA M) (H : Heap 𝓤) (A : Atoms 𝓤) (W : Given
         -- [the step; the token; what the packet owns; _2; …; _1; …; room for _0; …]
         land ! (from ! (stop !)) (init ! 7 refl (EL.lawful S.the-type S′.the-laws 𝓤 H A W tt .typed t _ is .0)) $
         returns ! (look ! 7 refl) $ forget ! 3 refl $ forget ! 5 refl $ forget ! 7 refl $
-        move ! (7 ∷ 8 ∷ []) $ free1 ! $ move ! (5 ∷ 6 ∷ []) $ free1 ! $ move ! (3 ∷ 4 ∷ []) $ free1 ! $ free0 ! $ by ! (exits t u (e ∙ ap stepOf made)))))))))
+        move ! (7 ∷ 8 ∷ []) $ free1 ! $ move ! (5 ∷ 6 ∷ []) $ free1 ! $ move ! (3 ∷ 4 ∷ []) $ free1 ! $ free0 ! $ by !
+        (exits t u (e ∙ ap stepOf made)))))))))
 
 module _ {M : Type 1} (𝓤 : URA M) (H : Heap 𝓤) (A : Atoms 𝓤) (W : Given 𝓤 H A) (mem : Memory → SProp 𝓤) (run : Routine → Fun 𝓤) (𝓣 : Tables 𝓤 H)
     (opens : Triple 𝓤 (𝓣 .C #reader·open) (Opens 𝓤 H A mem run)) (steps : Triple 𝓤 (𝓣 .C #reader·step) (Steps 𝓤 H A mem run)) where

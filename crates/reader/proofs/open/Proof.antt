@@ -1,4 +1,5 @@
--- `reader::open` meets its contract, by a walk of its MIR: `refusal_of` is called with the packet, and the number that it answers stands in the reader
+-- `reader::open` meets its contract, by a walk of its MIR: `refusal_of` is called with the packet, and the number that it answers stands in
+-- the reader
 -- beside the packet and 0. Of that call only its contract is known. Assumes nothing.
 use mathlib.Core.Path.{_≡_, refl, ap}
 use Prim.Native.Nat.{ℕ, _<_, _^_}
@@ -18,7 +19,8 @@ use contract.Monad.{Fun}
 use contract.Running.{givenOf, tables, tablesOf}
 use types.Kit.{Given, ‵, raw, _⊛_, ⋆, _$_, _∵_, !, qed, by, move, drop, use1, rewrite, split, fjoin, suffices, frame}
 use types.Part.{agg}
-use types.Run.{look, init, forget, stop, from, load, lit, and-then, no-more, assigns, land, returns, enter, alloc1, alloc0, params1, pass1, pass0, free1, free0}
+use types.Run.{look, init, forget, stop, from, load, lit, and-then, no-more, assigns, land, returns, enter, alloc1, alloc0, params1, pass1, pass0}
+use types.Run.{free1, free0}
 use sound.WpLaws.{FmC, fmOf, WpFn-mono}
 use denote.Laws.{Is}
 use denote.Plain.{uint-makes, uint-lawful}
@@ -75,9 +77,11 @@ module _ {M : Type 1} (𝓤 : URA M) (H : Heap 𝓤) (A : Atoms 𝓤) (W : Given
       qed W (‵ (u8 .own n (u ∷ [])) ∷ (‵ (flft κ q) ⊛ ‵ ftrue) ∷ ‵ (Own κ s) ∷ []) ∵
       suffices ! _ (ends-at 𝓤 H A opening.ended stayed (opening.clauses 𝓤 H A mem run) W
       (((κ, tt), (q, tt), tt, (s, tt), (lentVal s ∷ [], tt)), tt) (T′.lowered (made n)) (made n) (tt, tt) (tt, tt)) $
-      says ! (ap made e) $ drop ! $ frame ! $ use1 W (‵ (Own κ s) ⊛ ‵ (Own κ s)) (twice 𝓤 H A W κ q s) $ split ! $ nothing ! $ move ! (1 ∷ 0 ∷ []) $ fjoin ! $ frame ! $
+      says ! (ap made e) $ drop ! $ frame ! $ use1 W (‵ (Own κ s) ⊛ ‵ (Own κ s)) (twice 𝓤 H A W κ q s) $ split ! $ nothing ! $ move !
+      (1 ∷ 0 ∷ []) $ fjoin ! $ frame ! $
       -- [what the packet owns]: with the facts of the two numbers it is what the reader owns
-      nothing ! $ owned ! u8 (Is u8) (uint-makes 𝓤 H A W w8) n _ (refl, fits) $ fjoin ! $ owned ! usize (Is usize) (uint-makes 𝓤 H A W w64) 0 _ (refl, lit< tt) $ fjoin ! $
+      nothing ! $ owned ! u8 (Is u8) (uint-makes 𝓤 H A W w8) n _ (refl, fits) $ fjoin ! $ owned ! usize (Is usize) (uint-makes 𝓤 H A W w64) 0 _
+      (refl, lit< tt) $ fjoin ! $
       move ! (1 ∷ 0 ∷ []) $ fjoin ! $ by ! (own-shut 𝓤 H A W (shape (κ, tt)) (laws (κ, tt)) (fields κ (made n)))
 
   module _ (C : Calls 𝓤 H) (Λ : Loops 𝓤 H) (fm : FmC 𝓤 H (W .laws) C)
@@ -96,7 +100,8 @@ module _ {M : Type 1} (𝓤 : URA M) (H : Heap 𝓤) (A : Atoms 𝓤) (W : Given
         land ! (from ! (stop !)) (init ! 3 refl (uint-lawful 𝓤 H A W w8 .typed n _ is .0)) $
         rewrite ! 3 (λ (w : Val). ‵ (fat fullShare (tyInt w8) l₂ 0 w)) (ap only (is .0)) refl $
         -- the reader
-        assigns ! (agg ! (and-then ! (load ! (from ! (stop !)) (look ! 5 refl)) (and-then ! (lit ! tt) (and-then ! (load ! (from ! (stop !)) (look ! 3 refl)) (no-more !)))))
+        assigns ! (agg ! (and-then ! (load ! (from ! (stop !)) (look ! 5 refl))
+        (and-then ! (lit ! tt) (and-then ! (load ! (from ! (stop !)) (look ! 3 refl)) (no-more !)))))
         (from ! (stop !)) (init ! 7 refl (tt, (typed .1, (record { fits = lit< tt }, (record { fits = is .1 }, tt))))) $
         returns ! (look ! 7 refl) $ forget ! 3 refl $ forget ! 5 refl $ forget ! 7 refl $
         move ! (7 ∷ 8 ∷ []) $ free1 ! $ move ! (5 ∷ 6 ∷ []) $ free1 ! $ move ! (3 ∷ 4 ∷ []) $ free1 ! $ free0 ! $ by ! (exits n u e (is .1)))))))
@@ -122,4 +127,5 @@ open-spec 𝓤 H 𝓜 𝓖 𝓡 =
     entered 𝓤 H (tripleOf 𝓤 H (𝓖 .A) opening.signature (opening.spec 𝓤 H (𝓖 .A) (𝓜 .mem) (𝓡 .run)))
     (tables 𝓤 H 𝓜 𝓡 code.env .C) (tables 𝓤 H 𝓜 𝓡 code.env .Λ) #reader·open code.function (code.unfolded 𝓤 H 𝓜 𝓡)
     (meets 𝓤 H (𝓖 .A) (givenOf 𝓤 H 𝓜 𝓖) (𝓜 .mem) (𝓡 .run) (tablesOf 𝓤 H 𝓜 (tables 𝓤 H 𝓜 𝓡 code.env))
-    (cited 𝓤 H (RefusalOf 𝓤 H (𝓖 .A) (𝓜 .mem) (𝓡 .run)) 𝓜 𝓡 code.env #reader·refusal-of refusal-def.routine code.calls-reader·refusal-of (refusal-thm.met 𝓤 H 𝓜 𝓖 𝓡)))
+    (cited 𝓤 H (RefusalOf 𝓤 H (𝓖 .A) (𝓜 .mem) (𝓡 .run)) 𝓜 𝓡 code.env #reader·refusal-of refusal-def.routine code.calls-reader·refusal-of
+    (refusal-thm.met 𝓤 H 𝓜 𝓖 𝓡)))

@@ -50,7 +50,8 @@ returns : tie.Need-returns Inv-loop μ-loop
 returns c =
     let k = c .before .before .before .before in
     let e = sym (k .before .before .step-in .ensures) ∙ k .step .given .1 in
-    check-stops _ _ _ (k .before .before .before .loop .inv) _ e _ _ (c .before .before .slot .ensures .0) (c .before .fault-of .ensures) (c .if1 .taken)
+    check-stops _ _ _ (k .before .before .before .loop .inv) _ e _ _ (c .before .before .slot .ensures .0) (c .before .fault-of .ensures)
+    (c .if1 .taken)
 
 array-write-marks : tie.Need-array-write-marks Inv-loop μ-loop
 array-write-marks c = search needs

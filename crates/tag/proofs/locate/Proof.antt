@@ -32,7 +32,8 @@ enum-known-f c = search needs
 returns-3 : tie.Need-returns-3
 returns-3 c =
     let k = c .before .before .before .before in
-    sym (is-located _ _ _ _ _ _ _ (k .before .before .before .check .ensures) (k .before .before .if1 .left) (k .before .check2 .ensures) (k .if2 .left)
+    sym (is-located _ _ _ _ _ _ _ (k .before .before .before .check .ensures) (k .before .before .if1 .left) (k .before .check2 .ensures)
+    (k .if2 .left)
     (sym (c .before .before .before .first-in .ensures) ∙ c .before .f .given .1) refl)
 
 enum-told : tie.Need-enum-told
@@ -49,15 +50,19 @@ enum-told-2 c = search needs
 
 returns-4 : tie.Need-returns-4
 returns-4 c =
-    let k = c .before .before .before .before .before .before .before in
-    sym (is-located _ _ _ _ _ _ _ (k .before .before .before .check .ensures) (k .before .before .if1 .left) (k .before .check2 .ensures) (k .if2 .left)
-    (sym (c .before .before .before .before .before .before .first-in .ensures) ∙ c .before .before .before .before .enum-told .given .1)
+    let Before = c .before .before .before .before .before .before .before in
+    let First-in = c .before .before .before .before .before .before .first-in in
+    let k = Before in
+    sym (is-located _ _ _ _ _ _ _ (k .before .before .before .check .ensures) (k .before .before .if1 .left) (k .before .check2 .ensures)
+    (k .if2 .left)
+    (sym (First-in .ensures) ∙ c .before .before .before .before .enum-told .given .1)
     (sym (c .before .before .before .first-in2 .ensures) ∙ c .before .g .given .1))
 
 returns-5 : tie.Need-returns-5
 returns-5 c =
     let k = c .before .before .before .before .before .before in
-    sym (is-located _ _ _ _ _ _ _ (k .before .before .before .check .ensures) (k .before .before .if1 .left) (k .before .check2 .ensures) (k .if2 .left)
+    sym (is-located _ _ _ _ _ _ _ (k .before .before .before .check .ensures) (k .before .before .if1 .left) (k .before .check2 .ensures)
+    (k .if2 .left)
     (sym (c .before .before .before .before .before .first-in .ensures) ∙ c .before .before .before .enum-told .given .1)
     (sym (c .before .before .first-in2 .ensures) ∙ c .enum-told2 .given .1))
 

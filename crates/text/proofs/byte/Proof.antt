@@ -26,8 +26,10 @@ same-length c = search needs
 returns : tie.Need-returns
 unfolding hexOf
 returns c =
-    let a = c .before .before .before .before .before .before .before .before .args in
-    lays-same (a .out .now) (a .at) (ap₂ (λ (x y : ℕ). x ∷ y ∷ []) (c .before .before .before .before .before .letter .ensures) (c .before .before .before .before .letter2 .ensures)) (c .before .before .plain .ensures)
+    let A = c .before .before .before .before .before .before .before .before .args in
+    let a = A in
+    lays-same (a .out .now) (a .at) (ap₂ (λ (x y : ℕ). x ∷ y ∷ []) (c .before .before .before .before .before .letter .ensures)
+    (c .before .before .before .before .letter2 .ensures)) (c .before .before .plain .ensures)
 
 pub byte-spec : {M : Type 1} → statement M
 byte-spec =

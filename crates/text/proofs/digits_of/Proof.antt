@@ -44,7 +44,8 @@ loop-again c =
     let letter = c .letter .result in
     let left = places-left i (turn .rest) (omega arith) (w .0) in
     let back : i - 1 + 1 ≡ i = omega arith in
-    let more = digits-more (c .before .before .before .before .args .value) (turn .rest) s i letter (omega arith) (w .3) (omega arith) (c .letter .ensures) in
+    let more = digits-more (c .before .before .before .before .args .value) (turn .rest) s i letter (omega arith) (w .3) (omega arith)
+    (c .letter .ensures) in
     (rw back (left .1), omega arith, length-set s i letter ∙ w .2, rw back more)
 
 cast-letter-2 : tie.Need-cast-letter-2 Inv-loop μ-loop
@@ -64,8 +65,11 @@ same-length c =
 returns : tie.Need-returns Inv-loop μ-loop
 returns c =
     let end = c .before .before .loop in
-    let w = end .inv in
-    (w .1, digits-all (c .before .before .before .before .args .value) (end .rest) (end .digits) (end .i) (c .letter2 .result) (omega arith) (w .3) (omega arith) (c .letter2 .ensures))
+    let w = end .inv in (
+      w .1,
+      digits-all (c .before .before .before .before .args .value) (end .rest) (end .digits) (end .i) (c .letter2 .result) (omega arith)
+          (w .3) (omega arith) (c .letter2 .ensures),
+    )
 
 pub digits-of-spec : {M : Type 1} → statement M
 digits-of-spec =

@@ -36,8 +36,11 @@ same-length c = search needs
 
 returns-2 : tie.Need-returns-2
 returns-2 c =
-    let a = c .before .before .before .before .before .before .before .before .before .args in
-    put-lays (a .out .now) (a .letters .now) (a .at) _ (c .before .before .before .before .before .least .ensures) _ (c .before .before .put .result) (omega arith) (c .before .before .put .ensures)
+    let A = c .before .before .before .before .before .before .before .before .before .args in
+    let Put = c .before .before .put in
+    let a = A in
+    put-lays (a .out .now) (a .letters .now) (a .at) _ (c .before .before .before .before .before .least .ensures) _ (Put .result) (omega arith)
+    (Put .ensures)
 
 pub plain-spec : {M : Type 1} → statement M
 plain-spec =

@@ -16,7 +16,8 @@ step-from-requires : tie.Need-step-from-requires
 step-from-requires c κs = search needs
 
 returns-2 : tie.Need-returns-2
-returns-2 c = c .step-from .ensures ∙ sym (steps-on _ _ (c .before .before .before .before .before .args .w) (omega (arith, c .before .before .if1 .left)))
+returns-2 c =
+    c .step-from .ensures ∙ sym (steps-on _ _ (c .before .before .before .before .before .args .w) (omega (arith, c .before .before .if1 .left)))
 
 pub walk-step-spec : {M : Type 1} → statement M
 walk-step-spec = tie.close (tie.spec returns step-from-requires returns-2)

@@ -18,17 +18,25 @@ bad-ptr-requires : tie.Need-bad-ptr-requires
 bad-ptr-requires c κs = search needs
 
 returns-2 : tie.Need-returns-2
-returns-2 c = not-ptr _ _ _ _ _ (c .before .before .before .before .bytes-of .ensures) (c .before .before .if1 .left) (told (c .before .bad-ptr .ensures) (c .if2 .taken))
+returns-2 c =
+    not-ptr _ _ _ _ _ (c .before .before .before .before .bytes-of .ensures) (c .before .before .if1 .left)
+    (told (c .before .bad-ptr .ensures) (c .if2 .taken))
 
 add-if3 : tie.Need-add-if3
 unfolding bytesFor ceil
 add-if3 c = omega arith
 
 returns-3 : tie.Need-returns-3
-returns-3 c = no-room _ _ _ _ _ (c .before .before .before .before .before .before .bytes-of .ensures) (c .before .before .before .before .if1 .left) (told (c .before .before .before .bad-ptr .ensures) (c .before .before .if2 .left)) (omega arith)
+returns-3 c =
+    let Bytes-of = c .before .before .before .before .before .before .bytes-of in
+    no-room _ _ _ _ _ (Bytes-of .ensures) (c .before .before .before .before .if1 .left)
+    (told (c .before .before .before .bad-ptr .ensures) (c .before .before .if2 .left)) (omega arith)
 
 returns-4 : tie.Need-returns-4
-returns-4 c = all-right _ _ _ _ _ (c .before .before .before .before .before .before .bytes-of .ensures) (c .before .before .before .before .if1 .left) (told (c .before .before .before .bad-ptr .ensures) (c .before .before .if2 .left)) (omega arith)
+returns-4 c =
+    let Bytes-of = c .before .before .before .before .before .before .bytes-of in
+    all-right _ _ _ _ _ (Bytes-of .ensures) (c .before .before .before .before .if1 .left)
+    (told (c .before .before .before .bad-ptr .ensures) (c .before .before .if2 .left)) (omega arith)
 
 pub fault-spec : {M : Type 1} → statement M
 fault-spec =

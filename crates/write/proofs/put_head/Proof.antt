@@ -26,7 +26,12 @@ same-length : tie.Need-same-length
 same-length c = search needs
 
 returns : tie.Need-returns
-returns c = head-put _ _ _ _ _ _ _ _ _ (c .before .before .before .before .before .before .before .before .before .before .before .before .before .pre) (c .before .before .before .before .before .before .before .before .before .before .before .bytes4 .ensures) (c .before .before .before .before .before .before .before .before .before .before .bytes42 .ensures) (c .before .before .before .before .before .before .before .put .ensures) (c .before .before .put2 .ensures)
+returns c =
+    let P = c .before .before .before .before .before .before .before .before .before .before .before .before .before .pre in
+    let Bytes4 = c .before .before .before .before .before .before .before .before .before .before .before .bytes4 in
+    let Bytes42 = c .before .before .before .before .before .before .before .before .before .before .bytes42 in
+    let Put = c .before .before .before .before .before .before .before .put in
+    head-put _ _ _ _ _ _ _ _ _ (P) (Bytes4 .ensures) (Bytes42 .ensures) (Put .ensures) (c .before .before .put2 .ensures)
 
 pub put-head-spec : {M : Type 1} → statement M
 put-head-spec =

@@ -30,13 +30,17 @@ same-length : tie.Need-same-length
 same-length c = search needs
 
 returns : tie.Need-returns
-returns c = value-put _ _ _ _ _ (c .before .before .before .before .before .before .before .before .pre .0) (c .before .if1 .taken) (c .before .before .before .before .put .ensures)
+returns c =
+    let P = c .before .before .before .before .before .before .before .before .pre in
+    value-put _ _ _ _ _ (P .0) (c .before .if1 .taken) (c .before .before .before .before .put .ensures)
 
 same-length-2 : tie.Need-same-length-2
 same-length-2 c = search needs
 
 returns-2 : tie.Need-returns-2
-returns-2 c = nothing-put _ _ _ _ _ (c .before .before .before .before .before .before .before .pre .0) (c .if1 .left) (c .before .before .before .put .ensures)
+returns-2 c =
+    let P = c .before .before .before .before .before .before .before .pre in
+    nothing-put _ _ _ _ _ (P .0) (c .if1 .left) (c .before .before .before .put .ensures)
 
 pub put-value-spec : {M : Type 1} → statement M
 put-value-spec =

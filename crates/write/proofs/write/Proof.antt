@@ -25,19 +25,30 @@ power-requires : tie.Need-power-requires
 power-requires c κs = search needs
 
 put-head-requires : tie.Need-put-head-requires
-put-head-requires c κs = omega (arith, taken _ _ _ _ (sym (c .before .before .before .before .fault .ensures) ∙ c .before .before .before .if1 .left) .1)
+put-head-requires c κs =
+    omega (arith, taken _ _ _ _ (sym (c .before .before .before .before .fault .ensures) ∙ c .before .before .before .if1 .left) .1)
 
 put-value-requires : tie.Need-put-value-requires
 put-value-requires c κs =
-    let fits = taken _ _ _ _ (sym (c .before .before .before .before .before .before .before .before .fault .ensures) ∙ c .before .before .before .before .before .before .before .if1 .left) in
-    (omega (arith, fits .0, fits .1), omega (arith, pow-pos (c .before .before .before .before .before .before .unused .result)))
+    let Fault = c .before .before .before .before .before .before .before .before .fault in
+    let If1 = c .before .before .before .before .before .before .before .if1 in
+    let Unused = c .before .before .before .before .before .before .unused in
+    let fits = taken _ _ _ _ (sym (Fault .ensures) ∙ If1 .left) in
+    (omega (arith, fits .0, fits .1), omega (arith, pow-pos (Unused .result)))
 
 same-length : tie.Need-same-length
 same-length c = search needs
 
 returns-2 : tie.Need-returns-2
 unfolding numberOf writeCall
-returns-2 c = writes _ _ _ _ _ (sym (sym (c .before .before .before .before .before .before .before .before .before .before .before .fault .ensures) ∙ c .before .before .before .before .before .before .before .before .before .before .if1 .left)) (item-put _ _ _ _ _ _ _ _ (c .before .before .before .before .before .before .put-head .ensures) (c .before .before .put-value .ensures) (c .before .before .before .before .before .before .before .before .power .ensures) (c .before .before .before .before .before .before .before .before .before .unused .ensures .0))
+returns-2 c =
+    let Fault = c .before .before .before .before .before .before .before .before .before .before .before .fault in
+    let If1 = c .before .before .before .before .before .before .before .before .before .before .if1 in
+    let Unused = c .before .before .before .before .before .before .before .before .before .unused in
+    let Power = c .before .before .before .before .before .before .before .before .power in
+    let Put-head = c .before .before .before .before .before .before .put-head in
+    writes _ _ _ _ _ (sym (sym (Fault .ensures) ∙ If1 .left))
+    (item-put _ _ _ _ _ _ _ _ (Put-head .ensures) (c .before .before .put-value .ensures) (Power .ensures) (Unused .ensures .0))
 
 pub write-spec : {M : Type 1} → statement M
 write-spec =

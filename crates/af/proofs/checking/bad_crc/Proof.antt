@@ -28,7 +28,9 @@ crc-for-requires c κs = search needs
 
 returns : tie.Need-returns
 unfolding badCrc coveredOf
-returns c = ap₂ (λ (a b : ℕ). not (eqb a b)) (c .before .before .before .read2 .ensures) (c .crc-for .ensures ∙ ap (λ (b : Bool). crcFor b (coveredOf (c .before .before .before .before .before .args .packet .now))) (c .before .before .cf-of .ensures))
+returns c =
+    ap₂ (λ (a b : ℕ). not (eqb a b)) (c .before .before .before .read2 .ensures) (c .crc-for .ensures
+    ∙ ap (λ (b : Bool). crcFor b (coveredOf (c .before .before .before .before .before .args .packet .now))) (c .before .before .cf-of .ensures))
 
 pub bad-crc-spec : {M : Type 1} → statement M
 bad-crc-spec =

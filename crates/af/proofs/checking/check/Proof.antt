@@ -27,9 +27,11 @@ read4-requires c κs = search needs
 
 returns-2 : tie.Need-returns-2
 returns-2 c =
+    let Ar-of = c .before .ar-of in
     let d = c .before .before .before .before in
     let passed = sym (d .if1 .left) ∙ d .before .fault .ensures in
-    check-granted (d .before .before .before .args .packet .now) _ (c .before .ar-of .result) passed (c .before .before .before .read2 .ensures) (c .before .before .cf-of .ensures) (c .before .ar-of .ensures) refl (c .read4 .ensures)
+    check-granted (d .before .before .before .args .packet .now) _ (Ar-of .result) passed (c .before .before .before .read2 .ensures)
+    (c .before .before .cf-of .ensures) (Ar-of .ensures) refl (c .read4 .ensures)
 
 pub check-spec : {M : Type 1} → statement M
 check-spec =

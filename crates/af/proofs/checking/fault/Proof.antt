@@ -24,14 +24,20 @@ on-21 c e = skip 20 _ (le-ltb _ _ (c .if1 .left)) e ∙ checks.in-order (seen c)
 on-22 : (c : tie.Else2) {r : ℕ} → r ≡ first (checks.from-22 (seen (c .before .before))) → r ≡ afFault (seen (c .before .before))
 on-22 c e = on-21 (c .before .before) (skip 21 _ (same (sym (c .before .read2 .ensures) ∙ c .if2 .left)) e)
 
-on-23 : (c : tie.Else3) {r : ℕ} → r ≡ first (checks.from-23 (seen (c .before .before .before .before))) → r ≡ afFault (seen (c .before .before .before .before))
-on-23 c e = on-22 (c .before .before) (skip 22 _ (told (c .before .bad-length .ensures) (c .if3 .left)) e)
+on-23 : (c : tie.Else3) {r : ℕ} → r ≡ first (checks.from-23 (seen (c .before .before .before .before)))
+    → r ≡ afFault (seen (c .before .before .before .before))
+on-23 c e =
+    on-22 (c .before .before) (skip 22 _ (told (c .before .bad-length .ensures) (c .if3 .left)) e)
 
-on-24 : (c : tie.Else4) {r : ℕ} → r ≡ first (checks.from-24 (seen (c .before .before .before .before .before .before))) → r ≡ afFault (seen (c .before .before .before .before .before .before))
-on-24 c e = on-23 (c .before .before) (skip 23 _ (same (ap (λ (k : ℕ). k / 16 % 8) (sym (c .before .ar-of .ensures)) ∙ c .if4 .left)) e)
+on-24 : (c : tie.Else4) {r : ℕ} → r ≡ first (checks.from-24 (seen (c .before .before .before .before .before .before)))
+    → r ≡ afFault (seen (c .before .before .before .before .before .before))
+on-24 c e =
+    on-23 (c .before .before) (skip 23 _ (same (ap (λ (k : ℕ). k / 16 % 8) (sym (c .before .ar-of .ensures)) ∙ c .if4 .left)) e)
 
-on-25 : (c : tie.Else5) {r : ℕ} → r ≡ first (checks.from-25 (seen (c .before .before .before .before .before .before .before .before))) → r ≡ afFault (seen (c .before .before .before .before .before .before .before .before))
-on-25 c e = on-24 (c .before .before) (skip 24 _ (same (sym (number-one _ 9 (c .before .byte-at .ensures)) ∙ c .if5 .left)) e)
+on-25 : (c : tie.Else5) {r : ℕ} → r ≡ first (checks.from-25 (seen (c .before .before .before .before .before .before .before .before)))
+    → r ≡ afFault (seen (c .before .before .before .before .before .before .before .before))
+on-25 c e =
+    on-24 (c .before .before) (skip 24 _ (same (sym (number-one _ 9 (c .before .byte-at .ensures)) ∙ c .if5 .left)) e)
 
 returns : tie.Need-returns
 returns c = due 20 _ (lt-ltb _ _ (c .if1 .taken)) ∙ checks.in-order (c .before .before .args .packet .now)

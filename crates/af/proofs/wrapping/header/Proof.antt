@@ -41,7 +41,10 @@ ar-with-requires : tie.Need-ar-with-requires
 ar-with-requires c κs = search needs
 
 returns : tie.Need-returns
-returns c = laid _ _ _ _ (c .before .before .before .before .args .seq) (c .before .before .before .before .args .len) (c .before .before .before .before .args .cf) (c .before .before .before .bytes2 .ensures) (c .before .before .bytes4 .ensures) (c .before .bytes22 .ensures) (c .ar-with .ensures)
+returns c =
+    let A = c .before .before .before .before .args in
+    laid _ _ _ _ (A .seq) (A .len) (A .cf) (c .before .before .before .bytes2 .ensures) (c .before .before .bytes4 .ensures)
+    (c .before .bytes22 .ensures) (c .ar-with .ensures)
 
 pub header-spec : {M : Type 1} → statement M
 header-spec =

@@ -34,10 +34,13 @@ same-length c = search needs
 
 returns : tie.Need-returns
 returns c =
-    let a = c .before .before .before .before .before .before .before .before .before .args in
+    let A = c .before .before .before .before .before .before .before .before .before .args in
+    let Crc-for = c .before .before .before .before .before .before .crc-for in
+    let a = A in
     let field = c .before .before .before .before .before .bytes2 in
-    put-is (a .out .now) (field .result) _ (a .end) _ (omega (arith, length-bytes crcBytes (c .before .before .before .before .before .before .crc-for .result), ap length (field .ensures))) (c .before .before .put .ensures)
-    ∙ ap (splice (a .out .now) (a .end)) (field .ensures ∙ ap (bytesOf crcBytes) (c .before .before .before .before .before .before .crc-for .ensures))
+    put-is (a .out .now) (field .result) _ (a .end) _ (omega (arith, length-bytes crcBytes (Crc-for .result), ap length (field .ensures)))
+    (c .before .before .put .ensures)
+    ∙ ap (splice (a .out .now) (a .end)) (field .ensures ∙ ap (bytesOf crcBytes) (Crc-for .ensures))
 
 pub put-crc-spec : {M : Type 1} → statement M
 put-crc-spec =

@@ -36,9 +36,11 @@ same-length c = search needs
 returns-3 : tie.Need-returns-3
 unfolding numberOf
 returns-3 c =
-    let d = c .before .before .before .before .before .before .before .before in
+    let Before = c .before .before .before .before .before .before .before .before in
+    let Put-front = c .before .before .before .before .before .before .put-front in
+    let d = Before in
     let a = d .before .before .before .before .args in
-    let written = cases.packed (a .seq) (a .cf) (a .payload .now) (a .out .now) _ _ (c .before .before .before .before .before .before .put-front .ensures) (c .before .before .put-crc .ensures) in
+    let written = cases.packed (a .seq) (a .cf) (a .payload .now) (a .out .now) _ _ (Put-front .ensures) (c .before .before .put-crc .ensures) in
     cases.wrap-done (a .seq) (a .cf) (a .payload .now) (a .out .now) (d .before .if1 .left) _ (d .if2 .left) written
 
 pub wrap-spec : {M : Type 1} → statement M

@@ -29,9 +29,12 @@ same-length c = search needs
 
 returns : tie.Need-returns
 returns c =
-    let g = c .before .before .before .before .before .before .before .before .args in
-    told (g .kept .now) (g .f) (g .s) (g .k) (g .block .now) _ (c .filled-number .result) (c .before .before .before .before .before .kept-of .result) (c .before .before .before .fill .result)
-    (c .before .before .before .before .before .kept-of .ensures) (c .before .before .before .fill .ensures) (c .filled-number .ensures)
+    let A = c .before .before .before .before .before .before .before .before .args in
+    let Kept-of = c .before .before .before .before .before .kept-of in
+    let Fill = c .before .before .before .fill in
+    let g = A in
+    told (g .kept .now) (g .f) (g .s) (g .k) (g .block .now) _ (c .filled-number .result) (Kept-of .result) (Fill .result)
+    (Kept-of .ensures) (Fill .ensures) (c .filled-number .ensures)
 
 pub bailhammer-fill-spec : {M : Type 1} → statement M
 bailhammer-fill-spec = tie.close (tie.spec kept-of-requires fill-requires filled-number-requires same-length returns)

@@ -56,7 +56,8 @@ returns c =
     let said = c .before .before in
     let listed = said .before .before in
     let known = listed .before .before .before .before in
-    told-granted found-widths _ (known .before .before .before .args .told .now) (ap locatedNumber (known .l .given .1)) (listed .found-values .ensures) (said .tell .ensures)
+    told-granted found-widths _ (known .before .before .before .args .told .now) (ap locatedNumber (known .l .given .1))
+    (listed .found-values .ensures) (said .tell .ensures)
 
 same-length-2 : tie.Need-same-length-2
 same-length-2 c = search needs
@@ -67,7 +68,8 @@ returns-2 c =
     let said = c .before .before in
     let listed = said .before .before in
     let known = listed .before .before .before .before in
-    told-granted found-widths _ (known .before .before .before .args .told .now) (ap locatedNumber (known .l2 .given .1)) (listed .found-values2 .ensures) (said .tell2 .ensures)
+    told-granted found-widths _ (known .before .before .before .args .told .now) (ap locatedNumber (known .l2 .given .1))
+    (listed .found-values2 .ensures) (said .tell2 .ensures)
 
 returns-3 : tie.Need-returns-3
 unfolding locatedNumber

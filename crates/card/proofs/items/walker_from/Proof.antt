@@ -32,7 +32,8 @@ returns c =
     let third = fourth .before in
     let second = third .before in
     let first = second .before in
-    walker-read (first .before .before .args .s .now) (c .before .read86 .ensures) (c .read87 .ensures) (first .read8 .ensures) (second .read82 .ensures)
+    walker-read (first .before .before .args .s .now) (c .before .read86 .ensures) (c .read87 .ensures) (first .read8 .ensures)
+    (second .read82 .ensures)
     (third .read83 .ensures)
     (fourth .read84 .ensures)
     (last .read85 .ensures)

@@ -38,9 +38,11 @@ same-length c = search needs
 
 returns : tie.Need-returns
 returns c =
-    let start = c .before .before .before .before .before .before .before .before in
+    let Before = c .before .before .before .before .before .before .before .before in
+    let start = Before in
     let w = start .args .w in
-    walker-laid (start .args .d .now) w (start .pre) (as-long (w .ends) _ (start .good .1 .0 .1 .1 .1 .1 .1 .0 .1 .0 .1)) (c .before .before .tell .ensures)
+    walker-laid (start .args .d .now) w (start .pre) (as-long (w .ends) _ (start .good .1 .0 .1 .1 .1 .1 .1 .0 .1 .0 .1))
+    (c .before .before .tell .ensures)
 
 pub write-walker-spec : {M : Type 1} → statement M
 write-walker-spec =

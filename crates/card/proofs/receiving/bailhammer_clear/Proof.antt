@@ -39,7 +39,8 @@ returns : tie.Need-returns
 returns c =
     let opened = c .before .before .before in
     let a = opened .before .before .before .before .args in
-    clear-no-record (a .table .now) (length (a .lent .now)) (opened .unpack .result .answer) (opened .unpack .result .table) (opened .unpack .ensures) _ (c .before .fault .given .1)
+    clear-no-record (a .table .now) (length (a .lent .now)) (opened .unpack .result .answer) (opened .unpack .result .table)
+    (opened .unpack .ensures) _ (c .before .fault .given .1)
 
 same-length-2 : tie.Need-same-length-2
 same-length-2 c = search needs
@@ -50,7 +51,8 @@ returns-2 c =
     let opened = cleared .before .before .before in
     let a = opened .before .before .before .before .args in
     clear-refused (a .table .now) (length (a .lent .now)) (opened .unpack .result .answer) (opened .unpack .result .table) (opened .unpack .ensures)
-    (cleared .clear .result .answer) (cleared .clear .result .table) (cleared .clear .ensures) (cleared .before .enum-told .given .1) _ (c .before .answer .given .1)
+    (cleared .clear .result .answer) (cleared .clear .result .table) (cleared .clear .ensures) (cleared .before .enum-told .given .1) _
+    (c .before .answer .given .1)
 
 same-length-3 : tie.Need-same-length-3
 same-length-3 c = search needs
@@ -63,7 +65,8 @@ returns-3 c =
     let opened = cleared .before .before .before in
     let a = opened .before .before .before .before .args in
     clear-done (a .table .now) (length (a .lent .now)) (opened .unpack .result .answer) (opened .unpack .result .table) (opened .unpack .ensures)
-    (cleared .clear .result .answer) (cleared .clear .result .table) (cleared .clear .ensures) (cleared .before .enum-told .given .1) _ (packed .pack .result)
+    (cleared .clear .result .answer) (cleared .clear .result .table) (cleared .clear .ensures) (cleared .before .enum-told .given .1) _
+    (packed .pack .result)
     (done .enum-told2 .given .1) (packed .pack .ensures)
 
 pub bailhammer-clear-spec : {M : Type 1} → statement M

@@ -45,7 +45,8 @@ returns : tie.Need-returns
 returns c =
     let opened = c .before .before .before in
     let a = opened .before .before .before .before .before .before .before .args in
-    receive-refused (addressOf (a .addressed) (a .source) (a .dest)) (a .datagram .now) _ _ _ (opened .unpack .result .answer) (opened .unpack .result .table)
+    receive-refused (addressOf (a .addressed) (a .source) (a .dest)) (a .datagram .now) _ _ _ (opened .unpack .result .answer)
+    (opened .unpack .result .table)
     (opened .unpack .ensures) (c .before .fault .given .1) refl
 
 same-length-2 : tie.Need-same-length-2
@@ -79,9 +80,11 @@ returns-2 c =
       each = λ i (b : i < four). typed-place (t .places) _ (ok .0 .1 .1) i (omega arith);
       oldest = omega (arith, ok .1 .0);
     } in
-    received-there (addressOf (a .addressed) (a .source) (a .dest)) (a .datagram .now) _ _ (said .tell-receipt .result) (opened .unpack .result .answer)
+    received-there (addressOf (a .addressed) (a .source) (a .dest)) (a .datagram .now) _ _ (said .tell-receipt .result)
+    (opened .unpack .result .answer)
     (opened .unpack .result .table) (opened .unpack .ensures) (addressed .address-of .result) (packed .pack .result) t (got .receive .result .answer)
-    (told .enum-told .given .1) (addressed .address-of .ensures) (got .receive .ensures) (packed-length t typed) (packed .pack .ensures) (said .tell-receipt .ensures)
+    (told .enum-told .given .1) (addressed .address-of .ensures) (got .receive .ensures) (packed-length t typed) (packed .pack .ensures)
+    (said .tell-receipt .ensures)
 
 pub bailhammer-receive-spec : {M : Type 1} → statement M
 bailhammer-receive-spec =

@@ -1,6 +1,6 @@
 -- `seen_values` meets its contract, case by case. Assumes nothing.
 use mathlib.Core.Path.{sym, ap}
-use Rattle.card_rules.specs.Receiving.{seenTold}
+use Rattle.card_rules.specs.inner.Queried.{seenTold}
 use borrow.Author.Needs.{needs}
 use Rattle.card.proofs.receiving.seen_values.Statement.{statement}
 use Rattle.card.proofs.receiving.seen_values.Tie as tie

@@ -45,7 +45,8 @@ returns c =
     let third = c .before in
     let second = third .before in
     let first = second .before in
-    eight (first .before .args .p) (first .seen-values .ensures) (second .seen-values2 .ensures) (third .seen-values3 .ensures) (c .seen-values4 .ensures)
+    eight (first .before .args .p) (first .seen-values .ensures) (second .seen-values2 .ensures) (third .seen-values3 .ensures)
+    (c .seen-values4 .ensures)
 
 pub shown-values-spec : {M : Type 1} → statement M
 shown-values-spec =

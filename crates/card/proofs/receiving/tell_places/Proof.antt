@@ -2,7 +2,8 @@
 use mathlib.Core.Path.{ap}
 use Rattle.base_rules.specs.Bytes.{bytesOf}
 use Rattle.card_rules.specs.Told.{inWidths}
-use Rattle.card_rules.specs.Receiving.{places-widths, queriedIn}
+use Rattle.card_rules.specs.Receiving.{places-widths}
+use Rattle.card_rules.specs.inner.Queried.{queriedIn}
 use Rattle.card_rules.proofs.ToldLaws.{told-granted, told-refused}
 use Rattle.card_rules.proofs.TellLaws.{as-wide}
 use borrow.Author.Needs.{needs}
@@ -40,7 +41,8 @@ returns c =
     let said = c .before .before in
     let listed = said .before .before in
     let known = listed .before .before .before .before in
-    told-granted places-widths _ (known .before .before .before .args .told .now) (ap queriedIn (known .q .given .1)) (listed .shown-values .ensures) (said .tell .ensures)
+    told-granted places-widths _ (known .before .before .before .args .told .now) (ap queriedIn (known .q .given .1))
+    (listed .shown-values .ensures) (said .tell .ensures)
 
 returns-2 : tie.Need-returns-2
 unfolding queriedIn

@@ -102,7 +102,8 @@ returns-2 c =
     let given = known .a2 .given in
     let before = known .before .before .before .args .told .now in (
       sym (ap number (given .1)),
-      told-in 1 (given .0 .0) (given .0 .1 .0) _ before _ _ (listed .receipt-values2 .ensures) (said .tell2 .ensures) ∙ sym (ap (λ (x : Received). toldAfter x before) (given .1)),
+      told-in 1 (given .0 .0) (given .0 .1 .0) _ before _ _ (listed .receipt-values2 .ensures) (said .tell2 .ensures)
+          ∙ sym (ap (λ (x : Received). toldAfter x before) (given .1)),
     )
 
 same-length-3 : tie.Need-same-length-3
@@ -117,7 +118,8 @@ returns-3 c =
     let given = known .a3 .given in
     let before = known .before .before .before .args .told .now in (
       sym (ap number (given .1)),
-      told-in 0 0 0 _ before _ _ (listed .receipt-values3 .ensures) (said .tell3 .ensures) ∙ sym (ap (λ (x : Received). toldAfter x before) (given .1)),
+      told-in 0 0 0 _ before _ _ (listed .receipt-values3 .ensures) (said .tell3 .ensures)
+          ∙ sym (ap (λ (x : Received). toldAfter x before) (given .1)),
     )
 
 returns-4 : tie.Need-returns-4

@@ -29,7 +29,9 @@ returns c =
     let sent = said .before .before .before .before in
     let set = sent .before .before in
     let a = set .before .before .before .before .args in
-    sent-as (twos 1) (a .told .now) (sent .fragment .ensures ∙ ap (λ (x : Settings). fragmentCall x (a .number) (a .packet .now) (a .index) (a .out .now)) (set .settings-of .ensures)) (said .tell-length .ensures)
+    sent-as (twos 1) (a .told .now) (sent .fragment .ensures
+    ∙ ap (λ (x : Settings). fragmentCall x (a .number) (a .packet .now) (a .index) (a .out .now)) (set .settings-of .ensures))
+    (said .tell-length .ensures)
 
 pub bailhammer-fragment-spec : {M : Type 1} → statement M
 bailhammer-fragment-spec =

@@ -29,7 +29,8 @@ returns c =
     let sent = said .before .before .before .before in
     let set = sent .before .before in
     let a = set .before .before .before .before .args in
-    sent-as (twos 4) (a .told .now) (sent .fragments .ensures ∙ ap (λ (x : Settings). fragmentsCall x (a .number) (a .packet .now) (a .out .now)) (set .settings-of .ensures)) (said .tell-split .ensures)
+    sent-as (twos 4) (a .told .now) (sent .fragments .ensures
+    ∙ ap (λ (x : Settings). fragmentsCall x (a .number) (a .packet .now) (a .out .now)) (set .settings-of .ensures)) (said .tell-split .ensures)
 
 pub bailhammer-fragments-spec : {M : Type 1} → statement M
 bailhammer-fragments-spec =

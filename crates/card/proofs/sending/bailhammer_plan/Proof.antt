@@ -26,7 +26,8 @@ returns c =
     let planned = said .before .before in
     let set = planned .before in
     let a = set .before .before .args in
-    told-as (twos 10) (a .told .now) (planned .plan .ensures ∙ ap (λ (x : Settings). planOf x (a .l)) (set .settings-of .ensures)) (said .tell-plan .ensures)
+    told-as (twos 10) (a .told .now) (planned .plan .ensures ∙ ap (λ (x : Settings). planOf x (a .l)) (set .settings-of .ensures))
+    (said .tell-plan .ensures)
 
 pub bailhammer-plan-spec : {M : Type 1} → statement M
 bailhammer-plan-spec =

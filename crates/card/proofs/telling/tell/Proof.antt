@@ -57,9 +57,12 @@ loop-less c = omega arith
 
 loop-again : tie.Need-loop-again Inv-loop μ-loop
 loop-again c =
-    let turn = c .before .before .before .before .before .before .before .loop in
-    let start = c .before .before .before .before .before .before .before .before .before .before .before .before in
-    tells-more _ _ _ _ (start .pre .1) (turn .inv) _ (omega arith) (omega arith) (omega (arith, start .pre .0)) refl (c .before .before .put-number .ensures)
+    let Before = c .before .before .before .before .before .before .before .before .before .before .before .before in
+    let L = c .before .before .before .before .before .before .before .loop in
+    let turn = L in
+    let start = Before in
+    tells-more _ _ _ _ (start .pre .1) (turn .inv) _ (omega arith) (omega arith) (omega (arith, start .pre .0)) refl
+    (c .before .before .put-number .ensures)
 
 same-length : tie.Need-same-length Inv-loop μ-loop
 same-length c = c .before .loop .inv .long

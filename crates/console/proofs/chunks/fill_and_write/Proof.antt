@@ -14,7 +14,8 @@ mark-all-requires : tie.Need-mark-all-requires
 mark-all-requires c κs = search needs
 
 array-share-prefix-mask : tie.Need-array-share-prefix-mask
-array-share-prefix-mask c = again _ _ (c .before .before .mark-all .last .1 .0) _ (slice-aggregate-mark-all (c .before .before .before)) (search needs)
+array-share-prefix-mask c =
+    again _ _ (c .before .before .mark-all .last .1 .0) _ (slice-aggregate-mark-all (c .before .before .before)) (search needs)
 
 slice-aggregate-fill-chunk : tie.Need-slice-aggregate-fill-chunk
 slice-aggregate-fill-chunk c = front _ _ (array-share-prefix-mask (c .before))

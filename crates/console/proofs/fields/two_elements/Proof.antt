@@ -2,7 +2,7 @@
 use mathlib.Core.Path.{ap}
 use native.Mathlib.Omega.{arith}
 use borrow.Author.Needs.{needs}
-use Rattle.console.specs.Sized.{sizeOf}
+use Rattle.console.specs.inner.Sized.{sizeOf}
 use Rattle.console.proofs.fields.two_elements.Statement.{statement}
 use Rattle.console.proofs.fields.two_elements.Tie as tie
 
@@ -19,7 +19,9 @@ enum-known-b : tie.Need-enum-known-b
 enum-known-b c = search needs
 
 cast-t6 : tie.Need-cast-t6
-cast-t6 c = omega (arith, c .before .before .before .before .before .before .before .decimal-to .ensures, ap sizeOf (c .before .before .before .before .before .a .given .1))
+cast-t6 c =
+    let Decimal-to = c .before .before .before .before .before .before .before .decimal-to in
+    omega (arith, Decimal-to .ensures, ap sizeOf (c .before .before .before .before .before .a .given .1))
 
 cast-t7 : tie.Need-cast-t7
 cast-t7 c = omega (arith, c .before .before .before .decimal-to2 .ensures, ap sizeOf (c .before .b .given .1))

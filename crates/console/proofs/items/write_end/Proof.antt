@@ -1,7 +1,7 @@
 -- `items::write_end` meets its contract: it is one text, or none. Assumes nothing.
 use native.Mathlib.Omega.{arith}
 use borrow.Author.Needs.{needs}
-use Rattle.console.proofs.Writing.{wrote}
+use Rattle.text_rules.proofs.Writing.{wrote}
 use Rattle.console.proofs.items.write_end.Statement.{statement}
 use Rattle.console.proofs.items.write_end.Tie as tie
 

@@ -1,6 +1,6 @@
 -- `items::write_found` meets its contract: the value goes on where the bits stop. Assumes nothing.
 use borrow.Author.Needs.{needs}
-use Rattle.console.proofs.Writing.{chain}
+use Rattle.text_rules.proofs.Writing.{chain}
 use Rattle.console.proofs.items.write_found.Statement.{statement}
 use Rattle.console.proofs.items.write_found.Tie as tie
 

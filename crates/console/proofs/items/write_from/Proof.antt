@@ -1,7 +1,7 @@
 -- `items::write_from` meets its contract: at each turn the items so far stand behind the word. Its turns fall. Assumes nothing.
 use borrow.Author.Needs.{needs}
-use Rattle.console.specs.Wrote.{Wrote}
-use Rattle.console.proofs.Writing.{chain}
+use Rattle.text_rules.specs.Wrote.{Wrote}
+use Rattle.text_rules.proofs.Writing.{chain}
 use Rattle.console.proofs.items.write_from.Statement.{statement}
 use Rattle.console.proofs.items.write_from.Tie as tie
 
@@ -36,7 +36,10 @@ same-length : tie.Need-same-length Inv-loop μ-loop
 same-length c = search needs
 
 returns : tie.Need-returns Inv-loop μ-loop
-returns c = chain (c .before .before .before .before .before .before .before .before .before .before .before .word .ensures) (chain (c .before .before .before .before .before .before .before .loop .inv) (c .before .before .write-end .ensures))
+returns c =
+    let Word = c .before .before .before .before .before .before .before .before .before .before .before .word in
+    let L = c .before .before .before .before .before .before .before .loop in
+    chain (Word .ensures) (chain (L .inv) (c .before .before .write-end .ensures))
 
 write-item-requires : tie.Need-write-item-requires Inv-loop μ-loop
 write-item-requires c κs = search needs
@@ -51,7 +54,9 @@ loop-less : tie.Need-loop-less Inv-loop μ-loop
 loop-less c = search needs
 
 loop-again : tie.Need-loop-again Inv-loop μ-loop
-loop-again c = chain (c .before .before .before .before .before .before .before .before .before .before .loop .inv) (c .before .before .before .write-item .ensures)
+loop-again c =
+    let L = c .before .before .before .before .before .before .before .before .before .before .loop in
+    chain (L .inv) (c .before .before .before .write-item .ensures)
 
 same-length-2 : tie.Need-same-length-2 Inv-loop μ-loop
 same-length-2 c = search needs

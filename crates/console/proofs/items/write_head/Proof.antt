@@ -1,7 +1,7 @@
 -- `items::write_head` meets its contract: each text goes on where the one before stops. Assumes nothing.
 use native.Mathlib.Omega.{arith}
 use borrow.Author.Needs.{needs}
-use Rattle.console.proofs.Writing.{wrote, goes}
+use Rattle.text_rules.proofs.Writing.{wrote, goes}
 use Rattle.console.proofs.items.write_head.Statement.{statement}
 use Rattle.console.proofs.items.write_head.Tie as tie
 
@@ -31,8 +31,12 @@ same-length c = search needs
 
 returns : tie.Need-returns
 returns c =
-    let a = c .before .before .before .before .before .before .before .before .before .before .before .before .before .before .before .before .before .before .args in
-    goes _ (goes _ (wrote (a .out .now) (a .at) _ (omega arith) (c .before .before .before .before .before .before .before .before .before .before .before .before .before .plain .ensures)) (c .before .before .before .before .before .before .before .before .hex .ensures)) (c .before .before .labelled .ensures)
+    let A = c .before .before .before .before .before .before .before .before .before .before .before .before .before .before .before .before
+    .before .before .args in
+    let Plain = c .before .before .before .before .before .before .before .before .before .before .before .before .before .plain in
+    let Hex = c .before .before .before .before .before .before .before .before .hex in
+    let a = A in
+    goes _ (goes _ (wrote (a .out .now) (a .at) _ (omega arith) (Plain .ensures)) (Hex .ensures)) (c .before .before .labelled .ensures)
 
 pub write-head-spec : {M : Type 1} → statement M
 write-head-spec =

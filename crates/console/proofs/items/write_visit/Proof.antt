@@ -1,7 +1,7 @@
 -- `items::write_visit` meets its contract: the name goes on where the depth stops. Assumes nothing.
 use native.Mathlib.Omega.{arith}
 use borrow.Author.Needs.{needs}
-use Rattle.console.proofs.Writing.{wrote, chain}
+use Rattle.text_rules.proofs.Writing.{wrote, chain}
 use Rattle.console.proofs.items.write_visit.Statement.{statement}
 use Rattle.console.proofs.items.write_visit.Tie as tie
 
@@ -16,16 +16,20 @@ slice-aggregate-write-head c = search needs
 
 write-head-requires : tie.Need-write-head-requires
 write-head-requires c κs =
-    let a = c .before .before .before .before .before .before .before .before .before .args in
-    let w = wrote (a .out .now) (a .at) _ (omega arith) (c .before .before .before .before .before .labelled .ensures) in omega (arith, w .within, w .same)
+    let A = c .before .before .before .before .before .before .before .before .before .args in
+    let a = A in
+    let w = wrote (a .out .now) (a .at) _ (omega arith) (c .before .before .before .before .before .labelled .ensures) in omega
+    (arith, w .within, w .same)
 
 same-length : tie.Need-same-length
 same-length c = search needs
 
 returns : tie.Need-returns
 returns c =
-    let a = c .before .before .before .before .before .before .before .before .before .before .before .before .args in
-    chain (wrote (a .out .now) (a .at) _ (omega arith) (c .before .before .before .before .before .before .before .before .labelled .ensures)) (c .before .before .write-head .ensures)
+    let A = c .before .before .before .before .before .before .before .before .before .before .before .before .args in
+    let Labelled = c .before .before .before .before .before .before .before .before .labelled in
+    let a = A in
+    chain (wrote (a .out .now) (a .at) _ (omega arith) (Labelled .ensures)) (c .before .before .write-head .ensures)
 
 pub write-visit-spec : {M : Type 1} → statement M
 write-visit-spec =

@@ -1,7 +1,7 @@
 -- `items::write_visits` meets its contract: at each turn the items so far stand behind the word. Its turns fall. Assumes nothing.
 use borrow.Author.Needs.{needs}
-use Rattle.console.specs.Wrote.{Wrote}
-use Rattle.console.proofs.Writing.{chain, goes}
+use Rattle.text_rules.specs.Wrote.{Wrote}
+use Rattle.text_rules.proofs.Writing.{chain, goes}
 use Rattle.console.proofs.items.write_visits.Statement.{statement}
 use Rattle.console.proofs.items.write_visits.Tie as tie
 
@@ -45,7 +45,10 @@ same-length : tie.Need-same-length Inv-loop μ-loop
 same-length c = search needs
 
 returns : tie.Need-returns Inv-loop μ-loop
-returns c = chain (c .before .before .before .before .before .before .before .before .before .before .before .before .before .before .word .ensures) (goes _ (c .before .before .before .before .before .before .before .before .before .before .loop .inv) (c .before .before .labelled .ensures))
+returns c =
+    let Word = c .before .before .before .before .before .before .before .before .before .before .before .before .before .before .word in
+    let L = c .before .before .before .before .before .before .before .before .before .before .loop in
+    chain (Word .ensures) (goes _ (L .inv) (c .before .before .labelled .ensures))
 
 enum-told : tie.Need-enum-told Inv-loop μ-loop
 enum-told c = search needs
@@ -63,7 +66,9 @@ loop-less : tie.Need-loop-less Inv-loop μ-loop
 loop-less c = search needs
 
 loop-again : tie.Need-loop-again Inv-loop μ-loop
-loop-again c = chain (c .before .before .before .before .before .before .before .before .before .before .loop .inv) (c .before .before .before .write-visit .ensures)
+loop-again c =
+    let L = c .before .before .before .before .before .before .before .before .before .before .loop in
+    chain (L .inv) (c .before .before .before .write-visit .ensures)
 
 same-length-3 : tie.Need-same-length-3 Inv-loop μ-loop
 same-length-3 c = search needs

@@ -1,6 +1,6 @@
 -- `packets::write_figures` meets its contract: each figure goes on where the one before stops. Assumes nothing.
 use borrow.Author.Needs.{needs}
-use Rattle.console.proofs.Writing.{goes}
+use Rattle.text_rules.proofs.Writing.{goes}
 use Rattle.console.proofs.packets.write_figures.Statement.{statement}
 use Rattle.console.proofs.packets.write_figures.Tie as tie
 
@@ -44,7 +44,12 @@ same-length : tie.Need-same-length
 same-length c = search needs
 
 returns : tie.Need-returns
-returns c = goes _ (goes _ (goes _ (c .before .before .before .before .before .before .before .before .before .before .before .before .before .before .before .before .before .before .before .before .number .ensures) (c .before .before .before .before .before .before .before .before .before .before .before .before .before .before .labelled .ensures)) (c .before .before .before .before .before .before .before .before .labelled2 .ensures)) (c .before .before .labelled3 .ensures)
+returns c =
+    let Number = c .before .before .before .before .before .before .before .before .before .before .before .before .before .before .before
+    .before .before .before .before .before .number in
+    let Labelled = c .before .before .before .before .before .before .before .before .before .before .before .before .before .before .labelled in
+    let Labelled2 = c .before .before .before .before .before .before .before .before .labelled2 in
+    goes _ (goes _ (goes _ (Number .ensures) (Labelled .ensures)) (Labelled2 .ensures)) (c .before .before .labelled3 .ensures)
 
 pub write-figures-spec : {M : Type 1} → statement M
 write-figures-spec =

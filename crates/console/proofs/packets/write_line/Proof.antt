@@ -1,6 +1,6 @@
 -- `packets::write_line` meets its contract: the listing goes on where the word stops. Assumes nothing.
 use borrow.Author.Needs.{needs}
-use Rattle.console.proofs.Writing.{goes}
+use Rattle.text_rules.proofs.Writing.{goes}
 use Rattle.console.proofs.packets.write_line.Statement.{statement}
 use Rattle.console.proofs.packets.write_line.Tie as tie
 

@@ -2,7 +2,7 @@
 use native.Mathlib.Omega.{arith}
 use borrow.Author.Needs.{needs}
 use Rattle.console.proofs.Parts.{front}
-use Rattle.console.proofs.Writing.{wrote}
+use Rattle.text_rules.proofs.Writing.{wrote}
 use Rattle.console.proofs.packets.write_listing.Statement.{statement}
 use Rattle.console.proofs.packets.write_listing.Tie as tie
 

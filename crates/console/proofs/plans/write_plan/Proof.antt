@@ -2,8 +2,8 @@
 use Prim.Native.Nat.{_≤_, _-_}
 use native.Mathlib.Omega.{arith}
 use borrow.Author.Needs.{needs}
-use Rattle.console.specs.Wrote.{Wrote}
-use Rattle.console.proofs.Writing.{chain, goes}
+use Rattle.text_rules.specs.Wrote.{Wrote}
+use Rattle.text_rules.proofs.Writing.{chain, goes}
 use Rattle.console.proofs.plans.write_plan.Statement.{statement}
 use Rattle.console.proofs.plans.write_plan.Tie as tie
 

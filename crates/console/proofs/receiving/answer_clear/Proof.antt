@@ -2,7 +2,7 @@
 use mathlib.Core.Path.{ap}
 use native.Mathlib.Omega.{arith}
 use borrow.Author.Needs.{needs}
-use Rattle.console.specs.Sized.{sizeOf}
+use Rattle.console.specs.inner.Sized.{sizeOf}
 use Rattle.console.proofs.receiving.answer_clear.Statement.{statement}
 use Rattle.console.proofs.receiving.answer_clear.Tie as tie
 
@@ -31,7 +31,10 @@ part-clear-start : tie.Need-part-clear-start
 part-clear-start c = search needs
 
 part-clear-end : tie.Need-part-clear-end
-part-clear-end c = omega (arith, c .before .before .before .before .before .before .before .before .before .before .pre, c .before .before .before .before .before .before .decimal-to .ensures, ap sizeOf (c .before .before .before .before .lent .given .1))
+part-clear-end c =
+    let P = c .before .before .before .before .before .before .before .before .before .before .pre in
+    let Decimal-to = c .before .before .before .before .before .before .decimal-to in
+    omega (arith, P, Decimal-to .ensures, ap sizeOf (c .before .before .before .before .lent .given .1))
 
 clear-requires : tie.Need-clear-requires
 clear-requires c κs = search needs

@@ -2,7 +2,7 @@
 use mathlib.Core.Path.{ap}
 use native.Mathlib.Omega.{arith}
 use borrow.Author.Needs.{needs}
-use Rattle.console.specs.Sized.{sizeOf}
+use Rattle.console.specs.inner.Sized.{sizeOf}
 use Rattle.console.proofs.receiving.answer_query.Statement.{statement}
 use Rattle.console.proofs.receiving.answer_query.Tie as tie
 
@@ -31,7 +31,9 @@ part-query-start : tie.Need-part-query-start
 part-query-start c = search needs
 
 part-query-end : tie.Need-part-query-end
-part-query-end c = omega (arith, c .before .before .before .before .before .before .before .before .pre, c .before .before .before .before .decimal-to .ensures, ap sizeOf (c .before .before .lent .given .1))
+part-query-end c =
+    let P = c .before .before .before .before .before .before .before .before .pre in
+    omega (arith, P, c .before .before .before .before .decimal-to .ensures, ap sizeOf (c .before .before .lent .given .1))
 
 query-requires : tie.Need-query-requires
 query-requires c κs = search needs

@@ -1,8 +1,9 @@
--- `receiving::write_delivered` meets its contract: no more bytes are shown than the buffer has, and each part goes on where the one before stops. Assumes nothing.
+-- `receiving::write_delivered` meets its contract: no more bytes are shown than the buffer has, and each part goes on where the one before
+-- stops. Assumes nothing.
 use native.Mathlib.Omega.{arith}
 use borrow.Author.Needs.{needs}
 use Rattle.console.proofs.Parts.{front}
-use Rattle.console.proofs.Writing.{chain, goes}
+use Rattle.text_rules.proofs.Writing.{chain, goes}
 use Rattle.console.proofs.receiving.write_delivered.Statement.{statement}
 use Rattle.console.proofs.receiving.write_delivered.Tie as tie
 
@@ -25,7 +26,9 @@ slice-aggregate-write-displaced : tie.Need-slice-aggregate-write-displaced
 slice-aggregate-write-displaced c = search needs
 
 write-displaced-requires : tie.Need-write-displaced-requires
-write-displaced-requires c κs = let w = goes _ (c .before .before .before .before .before .before .before .before .before .number .ensures) (c .before .before .before .before .labelled .ensures) in omega (arith, w .within, w .same)
+write-displaced-requires c κs =
+    let Number = c .before .before .before .before .before .before .before .before .before .number in
+    let w = goes _ (Number .ensures) (c .before .before .before .before .labelled .ensures) in omega (arith, w .within, w .same)
 
 slice-aggregate-value : tie.Need-slice-aggregate-value
 slice-aggregate-value c = search needs
@@ -40,7 +43,12 @@ same-length : tie.Need-same-length
 same-length c = search needs
 
 returns-2 : tie.Need-returns-2
-returns-2 c = chain (chain (goes _ (c .before .before .before .before .before .before .before .before .before .before .before .before .before .before .before .before .before .before .number .ensures) (c .before .before .before .before .before .before .before .before .before .before .before .before .before .labelled .ensures)) (c .before .before .before .before .before .before .before .before .write-displaced .ensures)) (c .before .before .value .ensures)
+returns-2 c =
+    let Number = c .before .before .before .before .before .before .before .before .before .before .before .before .before .before .before
+    .before .before .before .number in
+    let Labelled = c .before .before .before .before .before .before .before .before .before .before .before .before .before .labelled in
+    let Write-displaced = c .before .before .before .before .before .before .before .before .write-displaced in
+    chain (chain (goes _ (Number .ensures) (Labelled .ensures)) (Write-displaced .ensures)) (c .before .before .value .ensures)
 
 pub write-delivered-spec : {M : Type 1} → statement M
 write-delivered-spec =

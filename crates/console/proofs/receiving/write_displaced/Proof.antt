@@ -1,7 +1,7 @@
 -- `receiving::write_displaced` meets its contract: the number goes on where the label stops. Assumes nothing.
 use native.Mathlib.Omega.{arith}
 use borrow.Author.Needs.{needs}
-use Rattle.console.proofs.Writing.{wrote, goes}
+use Rattle.text_rules.proofs.Writing.{wrote, goes}
 use Rattle.console.proofs.receiving.write_displaced.Statement.{statement}
 use Rattle.console.proofs.receiving.write_displaced.Tie as tie
 
@@ -31,16 +31,20 @@ same-length c = search needs
 
 returns : tie.Need-returns
 returns c =
-    let a = c .before .before .before .before .before .before .before .before .before .before .before .before .before .args in
-    goes _ (wrote (a .out .now) (a .at) _ (omega arith) (c .before .before .before .before .before .before .before .before .before .plain .ensures)) (c .before .before .plain2 .ensures)
+    let A = c .before .before .before .before .before .before .before .before .before .before .before .before .before .args in
+    let Plain = c .before .before .before .before .before .before .before .before .before .plain in
+    let a = A in
+    goes _ (wrote (a .out .now) (a .at) _ (omega arith) (Plain .ensures)) (c .before .before .plain2 .ensures)
 
 same-length-2 : tie.Need-same-length-2
 same-length-2 c = search needs
 
 returns-2 : tie.Need-returns-2
 returns-2 c =
-    let a = c .before .before .before .before .before .before .before .before .before .before .before .before .before .args in
-    goes _ (wrote (a .out .now) (a .at) _ (omega arith) (c .before .before .before .before .before .before .before .before .before .plain .ensures)) (c .before .before .decimal .ensures)
+    let A = c .before .before .before .before .before .before .before .before .before .before .before .before .before .args in
+    let Plain = c .before .before .before .before .before .before .before .before .before .plain in
+    let a = A in
+    goes _ (wrote (a .out .now) (a .at) _ (omega arith) (Plain .ensures)) (c .before .before .decimal .ensures)
 
 pub write-displaced-spec : {M : Type 1} → statement M
 write-displaced-spec =

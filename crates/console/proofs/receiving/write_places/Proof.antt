@@ -1,6 +1,6 @@
 -- `receiving::write_places` meets its contract: each place goes on where the one before stops. Assumes nothing.
 use borrow.Author.Needs.{needs}
-use Rattle.console.proofs.Writing.{chain}
+use Rattle.text_rules.proofs.Writing.{chain}
 use Rattle.console.proofs.receiving.write_places.Statement.{statement}
 use Rattle.console.proofs.receiving.write_places.Tie as tie
 
@@ -26,7 +26,14 @@ same-length : tie.Need-same-length
 same-length c = search needs
 
 returns : tie.Need-returns
-returns c = chain (chain (chain (chain (c .before .before .before .before .before .before .before .before .before .before .before .before .before .before .before .before .before .before .word .ensures) (c .before .before .before .before .before .before .before .before .before .before .before .before .before .before .write-seen .ensures)) (c .before .before .before .before .before .before .before .before .before .before .write-seen2 .ensures)) (c .before .before .before .before .before .before .write-seen3 .ensures)) (c .before .before .write-seen4 .ensures)
+returns c =
+    let Word = c .before .before .before .before .before .before .before .before .before .before .before .before .before .before .before .before
+    .before .before .word in
+    let Write-seen = c .before .before .before .before .before .before .before .before .before .before .before .before .before .before .write-seen in
+    let Write-seen2 = c .before .before .before .before .before .before .before .before .before .before .write-seen2 in
+    let Write-seen3 = c .before .before .before .before .before .before .write-seen3 in
+    chain (chain (chain (chain (Word .ensures) (Write-seen .ensures)) (Write-seen2 .ensures)) (Write-seen3 .ensures))
+    (c .before .before .write-seen4 .ensures)
 
 pub write-places-spec : {M : Type 1} → statement M
 write-places-spec =

@@ -1,7 +1,7 @@
 -- `receiving::write_seen` meets its contract: it is one text. Assumes nothing.
 use native.Mathlib.Omega.{arith}
 use borrow.Author.Needs.{needs}
-use Rattle.console.proofs.Writing.{wrote}
+use Rattle.text_rules.proofs.Writing.{wrote}
 use Rattle.console.proofs.receiving.write_seen.Statement.{statement}
 use Rattle.console.proofs.receiving.write_seen.Tie as tie
 

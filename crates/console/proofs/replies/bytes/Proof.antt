@@ -3,7 +3,7 @@ use native.Mathlib.Omega.{arith}
 use borrow.Author.Needs.{needs}
 use Rattle.text_rules.specs.Text.{hexOf}
 use Rattle.text_rules.proofs.Laws.{lays-more}
-use Rattle.console.proofs.Writing.{wrote}
+use Rattle.text_rules.proofs.Writing.{wrote}
 use Rattle.console.proofs.replies.bytes.Statement.{statement}
 use Rattle.console.proofs.replies.bytes.Tie as tie
 
@@ -18,8 +18,11 @@ same-length c = search needs
 
 returns : tie.Need-returns
 returns c =
-    let a = c .before .before .before .before .before .before .before .before .before .before .before .args in
-    wrote (a .out .now) 0 _ (omega arith) (lays-more (a .out .now) 0 (a .name .now) (hexOf (a .raw .now)) (c .before .before .before .before .before .before .plain .ensures) (c .before .before .hex .ensures))
+    let A = c .before .before .before .before .before .before .before .before .before .before .before .args in
+    let Plain = c .before .before .before .before .before .before .plain in
+    let a = A in
+    wrote (a .out .now) 0 _ (omega arith) (lays-more (a .out .now) 0 (a .name .now) (hexOf (a .raw .now)) (Plain .ensures)
+    (c .before .before .hex .ensures))
 
 pub bytes-spec : {M : Type 1} → statement M
 bytes-spec = tie.close (tie.spec plain-requires hex-requires same-length returns)

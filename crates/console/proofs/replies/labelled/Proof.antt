@@ -16,8 +16,10 @@ same-length c = search needs
 
 returns : tie.Need-returns
 returns c =
-    let a = c .before .before .before .before .before .before .before .before .before .before .args in
-    lays-more (a .out .now) (a .at) (a .label .now) (decimalOf (a .value)) (c .before .before .before .before .before .before .plain .ensures) (c .before .before .decimal .ensures)
+    let A = c .before .before .before .before .before .before .before .before .before .before .args in
+    let Plain = c .before .before .before .before .before .before .plain in
+    let a = A in
+    lays-more (a .out .now) (a .at) (a .label .now) (decimalOf (a .value)) (Plain .ensures) (c .before .before .decimal .ensures)
 
 pub labelled-spec : {M : Type 1} → statement M
 labelled-spec = tie.close (tie.spec plain-requires decimal-requires same-length returns)

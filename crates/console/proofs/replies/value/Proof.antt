@@ -1,7 +1,7 @@
 -- `replies::value` meets its contract: the bytes go on where the label stops. Assumes nothing.
 use native.Mathlib.Omega.{arith}
 use borrow.Author.Needs.{needs}
-use Rattle.console.proofs.Writing.{wrote, goes}
+use Rattle.text_rules.proofs.Writing.{wrote, goes}
 use Rattle.console.proofs.replies.value.Statement.{statement}
 use Rattle.console.proofs.replies.value.Tie as tie
 
@@ -19,8 +19,10 @@ same-length c = search needs
 
 returns : tie.Need-returns
 returns c =
-    let a = c .before .before .before .before .before .before .before .before .before .before .before .before .before .args in
-    goes _ (wrote (a .out .now) (a .at) _ (omega arith) (c .before .before .before .before .before .before .before .before .plain .ensures)) (c .before .before .plain2 .ensures)
+    let A = c .before .before .before .before .before .before .before .before .before .before .before .before .before .args in
+    let Plain = c .before .before .before .before .before .before .before .before .plain in
+    let a = A in
+    goes _ (wrote (a .out .now) (a .at) _ (omega arith) (Plain .ensures)) (c .before .before .plain2 .ensures)
 
 hex-requires : tie.Need-hex-requires
 hex-requires c κs = search needs
@@ -30,8 +32,10 @@ same-length-2 c = search needs
 
 returns-2 : tie.Need-returns-2
 returns-2 c =
-    let a = c .before .before .before .before .before .before .before .before .before .before .before .before .args in
-    goes _ (wrote (a .out .now) (a .at) _ (omega arith) (c .before .before .before .before .before .before .before .plain .ensures)) (c .before .before .hex .ensures)
+    let A = c .before .before .before .before .before .before .before .before .before .before .before .before .args in
+    let Plain = c .before .before .before .before .before .before .before .plain in
+    let a = A in
+    goes _ (wrote (a .out .now) (a .at) _ (omega arith) (Plain .ensures)) (c .before .before .hex .ensures)
 
 pub value-spec : {M : Type 1} → statement M
 value-spec =

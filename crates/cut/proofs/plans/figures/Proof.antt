@@ -52,10 +52,16 @@ sure-requires c κs = search needs
 
 returns : tie.Need-returns
 returns c =
-    let a = c .before .before .before .before .before .before .before .before .before .args in
-    cases.figured (a .g) (a .l) _ _ _ (c .before .before .before .before .before .before .before .before .chunks .ensures .0) (c .before .before .before .before .before .before .before .per-chunk .ensures .0)
-    (c .before .before .before .before .before .before .with-fec .ensures) (c .before .before .before .before .before .with-fec2 .ensures) (c .before .before .before .before .with-fec3 .ensures) (c .before .before .before .with-fec4 .ensures)
-    (c .before .before .header .ensures .0) (c .before .before .before .before .before .before .before .before .before .pre .2) (c .before .before .before .before .before .before .before .before .before .pre .3) (c .before .before .before .before .before .before .before .before .before .pre .5) (c .before .round-up .ensures) (c .sure .ensures)
+    let A = c .before .before .before .before .before .before .before .before .before .args in
+    let P = c .before .before .before .before .before .before .before .before .before .pre in
+    let Chunks = c .before .before .before .before .before .before .before .before .chunks in
+    let Per-chunk = c .before .before .before .before .before .before .before .per-chunk in
+    let With-fec = c .before .before .before .before .before .before .with-fec in
+    let a = A in
+    cases.figured (a .g) (a .l) _ _ _ (Chunks .ensures .0) (Per-chunk .ensures .0)
+    (With-fec .ensures) (c .before .before .before .before .before .with-fec2 .ensures) (c .before .before .before .before .with-fec3 .ensures)
+    (c .before .before .before .with-fec4 .ensures)
+    (c .before .before .header .ensures .0) (P .2) (P .3) (P .5) (c .before .round-up .ensures) (c .sure .ensures)
 
 pub figures-spec : {M : Type 1} → statement M
 figures-spec =

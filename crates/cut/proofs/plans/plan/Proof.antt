@@ -17,12 +17,17 @@ use Rattle.cut.proofs.plans.plan.Tie as tie
 fitting : (c : tie.Else1) → fit (c .before .before .args .g) ≡ true
 fitting c = sym (c .before .fits2 .ensures) ∙ not-false _ (c .if1 .left)
 
-f-is : (c : tie.After-round-up) → c .round-up .result ≡ size.f (c .before .before .before .before .before .before .before .args .g) (c .before .before .before .before .before .before .before .args .l)
+f-is : (c : tie.After-round-up) → c .round-up .result ≡ size.f (c .before .before .before .before .before .before .before .args .g)
+    (c .before .before .before .before .before .before .before .args .l)
 unfolding size.f
-f-is c = c .round-up .ensures ∙ ap₂ ceil (c .before .before .total .ensures .0) (c .before .room .ensures .0)
+f-is c =
+    c .round-up .ensures ∙ ap₂ ceil (c .before .before .total .ensures .0) (c .before .room .ensures .0)
 
 f-some : (c : tie.After-round-up) → 0 < c .round-up .result
-f-some c = omega (arith, c .round-up .ensures, ceils.some (c .before .before .total .result) (c .before .room .result) (c .before .room .ensures .1) (c .before .before .total .ensures .1))
+f-some c =
+    let Total = c .before .before .total in
+    let Room = c .before .room in
+    omega (arith, c .round-up .ensures, ceils.some (Total .result) (Room .result) (Room .ensures .1) (Total .ensures .1))
 
 fits-requires : tie.Need-fits-requires
 fits-requires c κs = search needs
@@ -57,17 +62,34 @@ round-up-requires c κs = search needs
 returns-4 : tie.Need-returns-4
 unfolding numberOf
 returns-4 c =
-    let a = c .before .before .before .before .before .before .before .before .args in
-    cases.plan-41 (a .g) (a .l) (fitting (c .before .before .before .before .before .before)) (c .before .before .before .before .before .if2 .left) (c .before .before .before .before .if3 .left) (omega (arith, f-is (c .before), c .if4 .taken))
+    let A = c .before .before .before .before .before .before .before .before .args in
+    let a = A in
+    cases.plan-41 (a .g) (a .l) (fitting (c .before .before .before .before .before .before))
+    (c .before .before .before .before .before .if2 .left) (c .before .before .before .before .if3 .left)
+    (omega (arith, f-is (c .before), c .if4 .taken))
 
 figures-requires : tie.Need-figures-requires
-figures-requires c κs = (c .before .before .before .before .before .if2 .left, c .before .before .before .before .if3 .left, c .before .before .room .ensures .0, c .before .before .before .total .ensures .0, c .before .before .before .total .ensures .2, f-is (c .before), f-some (c .before), c .if4 .left)
+figures-requires c κs =
+    let Total = c .before .before .before .total in (
+      c .before .before .before .before .before .if2 .left,
+      c .before .before .before .before .if3 .left,
+      c .before .before .room .ensures .0,
+      Total .ensures .0,
+      Total .ensures .2,
+      f-is (c .before),
+      f-some (c .before),
+      c .if4 .left,
+    )
 
 returns-5 : tie.Need-returns-5
 unfolding numberOf
 returns-5 c =
-    let a = c .before .before .before .before .before .before .before .before .before .args in
-    ap granted (c .figures .ensures) ∙ cases.plan-cut (a .g) (a .l) (fitting (c .before .before .before .before .before .before .before)) (c .before .before .before .before .before .before .if2 .left) (c .before .before .before .before .before .if3 .left) (omega (arith, f-is (c .before .before), c .before .if4 .left))
+    let A = c .before .before .before .before .before .before .before .before .before .args in
+    let Before = c .before .before .before .before .before .before .before in
+    let If2 = c .before .before .before .before .before .before .if2 in
+    let a = A in
+    ap granted (c .figures .ensures) ∙ cases.plan-cut (a .g) (a .l) (fitting (Before)) (If2 .left)
+    (c .before .before .before .before .before .if3 .left) (omega (arith, f-is (c .before .before), c .before .if4 .left))
 
 pub plan-spec : {M : Type 1} → statement M
 plan-spec =

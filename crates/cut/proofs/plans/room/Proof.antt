@@ -31,23 +31,31 @@ divided-requires c κs = search needs
 
 div-share : tie.Need-div-share
 div-share c =
-    let a = c .before .before .before .before .before .before .args in
-    omega (arith, c .divided .ensures, cases.divisor-some (a .g) (cases.fitted (a .g) (c .before .before .before .before .before .before .pre .0)) (c .before .before .if1 .left))
+    let A = c .before .before .before .before .before .before .args in
+    let P = c .before .before .before .before .before .before .pre in
+    let a = A in
+    omega (arith, c .divided .ensures, cases.divisor-some (a .g) (cases.fitted (a .g) (P .0)) (c .before .before .if1 .left))
 
 returns-2 : tie.Need-returns-2
 returns-2 c =
-    let a = c .before .before .before .before .before .before .before .args in
+    let A = c .before .before .before .before .before .before .before .args in
+    let P = c .before .before .before .before .before .before .before .pre in
+    let a = A in
     let g = a .g in
-    let ok = cases.fitted g (c .before .before .before .before .before .before .before .pre .0) in
-    let e = cases.S-share g (a .l) _ _ (c .before .before .before .if1 .left) (c .before .before .chunks .ensures .0) (c .before .divided .ensures) (omega arith) in
+    let ok = cases.fitted g (P .0) in
+    let e = cases.S-share g (a .l) _ _ (c .before .before .before .if1 .left) (c .before .before .chunks .ensures .0)
+    (c .before .divided .ensures) (omega arith) in
     (e, omega (arith, e, cases.S-some g (a .l) ok (omega arith)), omega (arith, ok .mtu-most))
 
 returns-3 : tie.Need-returns-3
 returns-3 c =
-    let a = c .before .before .before .before .before .before .before .args in
+    let A = c .before .before .before .before .before .before .before .args in
+    let P = c .before .before .before .before .before .before .before .pre in
+    let a = A in
     let g = a .g in
-    let ok = cases.fitted g (c .before .before .before .before .before .before .before .pre .0) in
-    let e = cases.S-room g (a .l) _ _ (c .before .before .before .if1 .left) (c .before .before .chunks .ensures .0) (c .before .divided .ensures) (omega arith) in
+    let ok = cases.fitted g (P .0) in
+    let e = cases.S-room g (a .l) _ _ (c .before .before .before .if1 .left) (c .before .before .chunks .ensures .0)
+    (c .before .divided .ensures) (omega arith) in
     (omega (arith, e), omega (arith, ok .room), omega (arith, ok .mtu-most))
 
 pub room-spec : {M : Type 1} → statement M

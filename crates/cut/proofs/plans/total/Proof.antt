@@ -27,11 +27,12 @@ mul-result c = let a : c .before .chunks .result ≤ most-l = omega arith in
 returns : tie.Need-returns
 unfolding size.n
 returns c =
+    let Chunks = c .before .chunks in
     let a = c .before .before .before .args in
     let g = a .g in
     let l = a .l in
-    let e : c .before .chunks .result * (c .per-chunk .result + parity) ≡ size.L g l =
-    ap₂ (λ (x y : ℕ). x * (y + parity)) (c .before .chunks .ensures .0) (c .per-chunk .ensures .0) ∙ sym (cases.L-fec g l (c .before .before .if1 .taken)) in
+    let e : Chunks .result * (c .per-chunk .result + parity) ≡ size.L g l =
+    ap₂ (λ (x y : ℕ). x * (y + parity)) (Chunks .ensures .0) (c .per-chunk .ensures .0) ∙ sym (cases.L-fec g l (c .before .before .if1 .taken)) in
     (e, omega (arith, e, cases.L-some g l (omega arith)), omega (arith, e, cases.L-most g l (omega arith) (omega arith)))
 
 returns-2 : tie.Need-returns-2

@@ -16,10 +16,13 @@ enum-told-2 : tie.Need-enum-told-2
 enum-told-2 c = search needs
 
 returns : tie.Need-returns
-returns c = passed (c .before .before .before .before .args .packet .now) _ (sym (ap numberOf (c .enum-told .given .1)) ∙ c .before .before .check .ensures)
+returns c =
+    passed (c .before .before .before .before .args .packet .now) _ (sym (ap numberOf (c .enum-told .given .1)) ∙ c .before .before .check .ensures)
 
 returns-2 : tie.Need-returns-2
-returns-2 c = not-passed (c .before .before .before .before .args .packet .now) _ (sym (ap numberOf (c .enum-told2 .given .1)) ∙ c .before .before .check .ensures)
+returns-2 c =
+    not-passed (c .before .before .before .before .args .packet .now) _ (sym (ap numberOf (c .enum-told2 .given .1))
+    ∙ c .before .before .check .ensures)
 
 pub accepted-spec : {M : Type 1} → statement M
 accepted-spec = tie.close (tie.spec check-requires enum-told enum-told-2 returns returns-2)

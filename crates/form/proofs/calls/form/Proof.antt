@@ -15,11 +15,15 @@ use Rattle.form.proofs.calls.form.Statement.{statement}
 use Rattle.form.proofs.calls.form.Tie as tie
 
 -- what is known once nothing is due
-none-due : (c : tie.Else1) → 0 ≡ formFault (c .before .before .before .before .args .p) (length (c .before .before .before .before .args .held .now)) (length (c .before .before .before .before .args .out .now))
-none-due c = sym (c .if1 .left) ∙ c .before .form-fault .ensures
+none-due : (c : tie.Else1) → 0 ≡ formFault (c .before .before .before .before .args .p)
+    (length (c .before .before .before .before .args .held .now)) (length (c .before .before .before .before .args .out .now))
+none-due c =
+    sym (c .if1 .left) ∙ c .before .form-fault .ensures
 
-free : (c : tie.Else1) → (badPlace (c .before .before .before .before .args .p) ≡ false) × (place ≤ length (c .before .before .before .before .args .held .now)) × (most-l ≤ length (c .before .before .before .before .args .out .now))
-free c = fault-free (c .before .before .before .before .args .p) _ _ (sym (none-due c))
+free : (c : tie.Else1) → (badPlace (c .before .before .before .before .args .p) ≡ false)
+    × (place ≤ length (c .before .before .before .before .args .held .now)) × (most-l ≤ length (c .before .before .before .before .args .out .now))
+free c =
+    fault-free (c .before .before .before .before .args .p) _ _ (sym (none-due c))
 
 form-fault-requires : tie.Need-form-fault-requires
 form-fault-requires c κs = search needs
@@ -34,8 +38,11 @@ enough-in-requires c κs = free c .0
 
 returns-2 : tie.Need-returns-2
 returns-2 c =
-    let a = c .before .before .before .before .before .before .args in
-    form-waits (a .p) (a .held .now) (a .out .now) (none-due (c .before .before)) (told (c .before .enough-in .ensures) (not-true (c .before .enough-in .result) (c .if2 .taken)))
+    let A = c .before .before .before .before .before .before .args in
+    let Enough-in = c .before .enough-in in
+    let a = A in
+    form-waits (a .p) (a .held .now) (a .out .now) (none-due (c .before .before))
+    (told (Enough-in .ensures) (not-true (Enough-in .result) (c .if2 .taken)))
 
 hand-out-requires : tie.Need-hand-out-requires
 hand-out-requires c κs =

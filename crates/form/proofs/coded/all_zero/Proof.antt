@@ -34,8 +34,9 @@ loop-less c = omega arith
 
 loop-again : tie.Need-loop-again Inv-loop μ-loop
 loop-again c =
+    let L = c .before .before .before .loop in
     let s = c .before .before .before .before .args .s .now in
-    (refl, omega arith, below-more (λ (j : ℕ). getD s j 0 ≡ 0) (c .before .before .before .loop .i) (c .before .before .before .loop .inv .2) (c .if1 .left))
+    (refl, omega arith, below-more (λ (j : ℕ). getD s j 0 ≡ 0) (L .i) (L .inv .2) (c .if1 .left))
 
 returns-2 : tie.Need-returns-2 Inv-loop μ-loop
 returns-2 c =

@@ -14,10 +14,15 @@ use Rattle.form.proofs.coded.decode.Tie as tie
 
 -- what the two calls leave
 known : (c : tie.After-cells4) (r : Filled) → c .before .fill .result ≡ r
-    → laws.Decoding (c .before .before .before .before .before .before .before .before .before .before .before .before .args .p) (c .before .before .before .before .before .before .before .before .before .before .before .before .args .held .now) (c .before .before .before .before .before .deinterleave .last .1 .1 .1 .0) (c .before .fill .last .1 .1 .1 .1 .0) r
+    → laws.Decoding (c .before .before .before .before .before .before .before .before .before .before .before .before .args .p)
+    (c .before .before .before .before .before .before .before .before .before .before .before .before .args .held .now)
+    (c .before .before .before .before .before .deinterleave .last .1 .1 .1 .0) (c .before .fill .last .1 .1 .1 .1 .0) r
 known c r is =
-    let size : length (c .before .before .before .before .before .deinterleave .last .1 .1 .1 .0) ≡ place = search needs in
-    laws.decoding _ _ (c .before .fill .result) (c .before .before .before .before .before .before .before .before .before .before .before .before .pre .0) (c .before .before .before .before .before .before .before .before .before .before .before .before .pre .1) (search needs) size (c .before .before .before .before .before .deinterleave .ensures) (c .before .fill .ensures) is
+    let P = c .before .before .before .before .before .before .before .before .before .before .before .before .pre in
+    let Deinterleave = c .before .before .before .before .before .deinterleave in
+    let Fill = c .before .fill in
+    let size : length (Deinterleave .last .1 .1 .1 .0) ≡ place = search needs in
+    laws.decoding _ _ (Fill .result) (P .0) (P .1) (search needs) size (Deinterleave .ensures) (Fill .ensures) is
 
 cast-f : tie.Need-cast-f
 cast-f c = search needs
@@ -58,23 +63,32 @@ slice-aggregate-gather c = search needs
 gather-requires : tie.Need-gather-requires
 unfolding receivedC
 gather-requires c κs =
+    let P = c .before .before .before .before .before .before .before .before .before .before .before .before .before .before .before .before .pre in
     let room = laws.chunks-room (known (c .before .before .before .before) Done (c .before .before .enum-told .given .1)) in
-    (room .0, omega (arith, room .1, c .before .before .before .before .before .before .before .before .before .before .before .before .before .before .before .before .pre .2), omega (arith, room .2))
+    (room .0, omega (arith, room .1, P .2), omega (arith, room .2))
 
 mul-l : tie.Need-mul-l
 unfolding receivedC
-mul-l c = omega (arith, laws.chunks-room (known (c .before .before .before .before .before .before .before) Done (c .before .before .before .before .before .enum-told .given .1)) .1)
+mul-l c =
+    let Before = c .before .before .before .before .before .before .before in
+    omega (arith, laws.chunks-room (known (Before) Done (c .before .before .before .before .before .enum-told .given .1)) .1)
 
 cast-l : tie.Need-cast-l
 cast-l c = search needs
 
 sub-l : tie.Need-sub-l
 unfolding receivedC
-sub-l c = laws.zeros-within (known (c .before .before .before .before .before .before .before .before) Done (c .before .before .before .before .before .before .enum-told .given .1))
+sub-l c =
+    let Before = c .before .before .before .before .before .before .before .before in
+    let Enum-told = c .before .before .before .before .before .before .enum-told in
+    laws.zeros-within (known (Before) Done (Enum-told .given .1))
 
 mul-all-zero : tie.Need-mul-all-zero
 unfolding receivedC
-mul-all-zero c = omega (arith, laws.chunks-room (known (c .before .before .before .before .before .before .before .before) Done (c .before .before .before .before .before .before .enum-told .given .1)) .1)
+mul-all-zero c =
+    let Before = c .before .before .before .before .before .before .before .before in
+    let Enum-told = c .before .before .before .before .before .before .enum-told in
+    omega (arith, laws.chunks-room (known (Before) Done (Enum-told .given .1)) .1)
 
 sub-all-zero : tie.Need-sub-all-zero
 sub-all-zero c = search needs
@@ -85,8 +99,14 @@ part-all-zero-start c = search needs
 part-all-zero-end : tie.Need-part-all-zero-end
 unfolding receivedC
 part-all-zero-end c =
-    let d = known (c .before .before .before .before .before .before .before .before .before) Done (c .before .before .before .before .before .before .before .enum-told .given .1) in
-    omega (arith, laws.chunks-room d .1, laws.result-room d (c .before .before .before .before .before .before .before .before .before .before .before .before .before .before .before .before .before .before .before .before .before .args .buffer .now) _ (c .before .before .before .before .before .before .before .before .before .before .before .before .before .before .before .before .before .before .before .before .before .pre .2) (c .before .before .before .before .gather .ensures))
+    let A = c .before .before .before .before .before .before .before .before .before .before .before .before .before .before .before .before
+    .before .before .before .before .before .args in
+    let P = c .before .before .before .before .before .before .before .before .before .before .before .before .before .before .before .before
+    .before .before .before .before .before .pre in
+    let Before = c .before .before .before .before .before .before .before .before .before in
+    let Enum-told = c .before .before .before .before .before .before .before .enum-told in
+    let d = known (Before) Done (Enum-told .given .1) in
+    omega (arith, laws.chunks-room d .1, laws.result-room d (A .buffer .now) _ (P .2) (c .before .before .before .before .gather .ensures))
 
 all-zero-requires : tie.Need-all-zero-requires
 all-zero-requires c κs = search needs
@@ -97,9 +117,18 @@ same-length c = search needs
 returns : tie.Need-returns
 unfolding receivedC
 returns c =
-    let d = known (c .before .before .before .before .before .before .before .before .before .before .before .before) Done (c .before .before .before .before .before .before .before .before .before .before .enum-told .given .1) in
-    let buffer = c .before .before .before .before .before .before .before .before .before .before .before .before .before .before .before .before .before .before .before .before .before .before .before .before .args .buffer .now in
-    (laws.proposes d buffer _ (c .before .before .before .before .before .before .before .before .before .before .before .before .before .before .before .before .before .before .before .before .before .before .before .before .pre .2) (c .before .before .before .before .before .before .before .gather .ensures) (c .before .all-zero .ensures .0 (c .if1 .taken)), laws.result-room d buffer _ (c .before .before .before .before .before .before .before .before .before .before .before .before .before .before .before .before .before .before .before .before .before .before .before .before .pre .2) (c .before .before .before .before .before .before .before .gather .ensures))
+    let A = c .before .before .before .before .before .before .before .before .before .before .before .before .before .before .before .before
+    .before .before .before .before .before .before .before .before .args in
+    let P = c .before .before .before .before .before .before .before .before .before .before .before .before .before .before .before .before
+    .before .before .before .before .before .before .before .before .pre in
+    let Before = c .before .before .before .before .before .before .before .before .before .before .before .before in
+    let Enum-told = c .before .before .before .before .before .before .before .before .before .before .enum-told in
+    let Gather = c .before .before .before .before .before .before .before .gather in
+    let d = known (Before) Done (Enum-told .given .1) in
+    let buffer = A .buffer .now in (
+      laws.proposes d buffer _ (P .2) (Gather .ensures) (c .before .all-zero .ensures .0 (c .if1 .taken)),
+      laws.result-room d buffer _ (P .2) (Gather .ensures),
+    )
 
 enum-told-2 : tie.Need-enum-told-2
 enum-told-2 c = search needs
@@ -116,18 +145,33 @@ same-length-2 c = search needs
 returns-2 : tie.Need-returns-2
 unfolding receivedC
 returns-2 c =
-    let d = known (c .before .before .before .before .before .before .before .before .before .before .before .before) Done (c .before .before .before .before .before .before .before .before .before .before .enum-told .given .1) in
-    let buffer = c .before .before .before .before .before .before .before .before .before .before .before .before .before .before .before .before .before .before .before .before .before .before .before .before .args .buffer .now in
-    (laws.damaged d buffer _ (c .before .before .before .before .before .before .before .before .before .before .before .before .before .before .before .before .before .before .before .before .before .before .before .before .pre .2) (c .before .before .before .before .before .before .before .gather .ensures) (λ e. clash (c .before .all-zero .ensures .1 e) (c .if1 .left)), laws.result-room d buffer _ (c .before .before .before .before .before .before .before .before .before .before .before .before .before .before .before .before .before .before .before .before .before .before .before .before .pre .2) (c .before .before .before .before .before .before .before .gather .ensures))
+    let A = c .before .before .before .before .before .before .before .before .before .before .before .before .before .before .before .before
+    .before .before .before .before .before .before .before .before .args in
+    let P = c .before .before .before .before .before .before .before .before .before .before .before .before .before .before .before .before
+    .before .before .before .before .before .before .before .before .pre in
+    let Before = c .before .before .before .before .before .before .before .before .before .before .before .before in
+    let Enum-told = c .before .before .before .before .before .before .before .before .before .before .enum-told in
+    let Gather = c .before .before .before .before .before .before .before .gather in
+    let d = known (Before) Done (Enum-told .given .1) in
+    let buffer = A .buffer .now in (
+      laws.damaged d buffer _ (P .2) (Gather .ensures) (λ e. clash (c .before .all-zero .ensures .1 e) (c .if1 .left)),
+      laws.result-room d buffer _ (P .2) (Gather .ensures),
+    )
 
 returns-3 : tie.Need-returns-3
-returns-3 c = (laws.nothing-agrees (known (c .before .before) Nothing (c .enum-told2 .given .1)), c .before .before .before .before .before .before .before .before .before .before .before .before .before .before .pre .2)
+returns-3 c =
+    let P = c .before .before .before .before .before .before .before .before .before .before .before .before .before .before .pre in
+    (laws.nothing-agrees (known (c .before .before) Nothing (c .enum-told2 .given .1)), P .2)
 
 returns-4 : tie.Need-returns-4
-returns-4 c = (laws.short-agrees (known (c .before .before) NotEnough (c .enum-told3 .given .1)), c .before .before .before .before .before .before .before .before .before .before .before .before .before .before .pre .2)
+returns-4 c =
+    let P = c .before .before .before .before .before .before .before .before .before .before .before .before .before .before .pre in
+    (laws.short-agrees (known (c .before .before) NotEnough (c .enum-told3 .given .1)), P .2)
 
 returns-5 : tie.Need-returns-5
-returns-5 c = (laws.refused-agrees (known (c .before .before) (Refused _) (c .enum-told4 .given .1)), c .before .before .before .before .before .before .before .before .before .before .before .before .before .before .pre .2)
+returns-5 c =
+    let P = c .before .before .before .before .before .before .before .before .before .before .before .before .before .before .pre in
+    (laws.refused-agrees (known (c .before .before) (Refused _) (c .enum-told4 .given .1)), P .2)
 
 pub decode-spec : {M : Type 1} → statement M
 decode-spec =

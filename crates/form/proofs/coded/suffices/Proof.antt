@@ -26,13 +26,25 @@ enum-told-3 : tie.Need-enum-told-3
 enum-told-3 c = search needs
 
 returns : tie.Need-returns
-returns c = laws.suffices-yes (c .before .before .before .before .before .before .before .args .p) (c .before .before .before .before .before .before .before .pre .0) (c .before .before .before .before .before .before .before .pre .1) (c .before .before .enough .result) (c .enum-told .given .1) (c .before .before .enough .ensures)
+returns c =
+    let A = c .before .before .before .before .before .before .before .args in
+    let P = c .before .before .before .before .before .before .before .pre in
+    let Enough = c .before .before .enough in
+    laws.suffices-yes (A .p) (P .0) (P .1) (Enough .result) (c .enum-told .given .1) (Enough .ensures)
 
 returns-2 : tie.Need-returns-2
-returns-2 c = laws.suffices-no (c .before .before .before .before .before .before .before .args .p) (c .before .before .before .before .before .before .before .pre .0) (c .before .before .before .before .before .before .before .pre .1) (c .before .before .enough .result) (c .enum-told2 .given .1) (c .before .before .enough .ensures)
+returns-2 c =
+    let A = c .before .before .before .before .before .before .before .args in
+    let P = c .before .before .before .before .before .before .before .pre in
+    let Enough = c .before .before .enough in
+    laws.suffices-no (A .p) (P .0) (P .1) (Enough .result) (c .enum-told2 .given .1) (Enough .ensures)
 
 returns-3 : tie.Need-returns-3
-returns-3 c = laws.suffices-refused (c .before .before .before .before .before .before .before .args .p) (c .before .before .before .before .before .before .before .pre .0) (c .before .before .before .before .before .before .before .pre .1) (c .before .before .enough .result) _ (c .enum-told3 .given .1) (c .before .before .enough .ensures)
+returns-3 c =
+    let A = c .before .before .before .before .before .before .before .args in
+    let P = c .before .before .before .before .before .before .before .pre in
+    let Enough = c .before .before .enough in
+    laws.suffices-refused (A .p) (P .0) (P .1) (Enough .result) _ (c .enum-told3 .given .1) (Enough .ensures)
 
 pub suffices-spec : {M : Type 1} → statement M
 suffices-spec =

@@ -21,7 +21,10 @@ read2-requires-2 : tie.Need-read2-requires-2
 read2-requires-2 c κs = search needs
 
 returns : tie.Need-returns
-returns c = address-there _ (c .before .before .address-at .result) _ _ (told (c .before .before .before .before .has-address .ensures) (c .before .before .before .if1 .taken)) (c .before .before .address-at .ensures .0) (c .before .read2 .ensures) (c .read22 .ensures)
+returns c =
+    let Address-at = c .before .before .address-at in
+    address-there _ (Address-at .result) _ _ (told (c .before .before .before .before .has-address .ensures)
+    (c .before .before .before .if1 .taken)) (Address-at .ensures .0) (c .before .read2 .ensures) (c .read22 .ensures)
 
 returns-2 : tie.Need-returns-2
 returns-2 c = address-none _ (told (c .before .has-address .ensures) (c .if1 .left))

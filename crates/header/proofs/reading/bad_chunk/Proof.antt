@@ -8,7 +8,9 @@ returns : tie.Need-returns
 returns c = chunk-none (c .before .args .f) (c .before .args .s) (c .before .args .k) (c .before .args .z) (c .if1 .taken)
 
 returns-2 : tie.Need-returns-2
-returns-2 c = chunk-over (c .before .before .args .f) (c .before .before .args .s) (c .before .before .args .k) (c .before .before .args .z) (c .before .if1 .left) (c .if2 .taken)
+returns-2 c =
+    let A = c .before .before .args in
+    chunk-over (A .f) (A .s) (A .k) (A .z) (c .before .if1 .left) (c .if2 .taken)
 
 mul-if3 : tie.Need-mul-if3
 mul-if3 c = search needs
@@ -17,10 +19,14 @@ add-if3 : tie.Need-add-if3
 add-if3 c = search needs
 
 returns-3 : tie.Need-returns-3
-returns-3 c = chunk-less (c .before .before .before .args .f) (c .before .before .before .args .s) (c .before .before .before .args .k) (c .before .before .before .args .z) (c .before .before .if1 .left) (c .before .if2 .left) (c .if3 .taken)
+returns-3 c =
+    let A = c .before .before .before .args in
+    chunk-less (A .f) (A .s) (A .k) (A .z) (c .before .before .if1 .left) (c .before .if2 .left) (c .if3 .taken)
 
 returns-4 : tie.Need-returns-4
-returns-4 c = chunk-rest (c .before .before .before .args .f) (c .before .before .before .args .s) (c .before .before .before .args .k) (c .before .before .before .args .z) (c .before .before .if1 .left) (c .before .if2 .left) (c .if3 .left)
+returns-4 c =
+    let A = c .before .before .before .args in
+    chunk-rest (A .f) (A .s) (A .k) (A .z) (c .before .before .if1 .left) (c .before .if2 .left) (c .if3 .left)
 
 pub bad-chunk-spec : {M : Type 1} → statement M
 bad-chunk-spec = tie.close (tie.spec returns returns-2 mul-if3 add-if3 returns-3 returns-4)

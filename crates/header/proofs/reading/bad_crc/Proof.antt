@@ -13,7 +13,9 @@ read2-requires : tie.Need-read2-requires
 read2-requires c κs = search needs
 
 slice-aggregate-word : tie.Need-slice-aggregate-word
-slice-aggregate-word c = sym (length-take-le _ (c .before .before .before .before .args .s .now) (covered _ _ (c .before .before .body-length .ensures .0) (c .before .before .before .before .pre)))
+slice-aggregate-word c =
+    sym (length-take-le _ (c .before .before .before .before .args .s .now)
+    (covered _ _ (c .before .before .body-length .ensures .0) (c .before .before .before .before .pre)))
 
 word-requires : tie.Need-word-requires
 word-requires c κs = search needs

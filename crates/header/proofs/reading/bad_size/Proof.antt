@@ -33,7 +33,9 @@ bad-chunk-requires : tie.Need-bad-chunk-requires
 bad-chunk-requires c κs = c .before .before .before .if1 .left
 
 returns-2 : tie.Need-returns-2
-returns-2 c = size-fec (c .before .before .before .before .before .before .before .args .h) (c .before .before .before .before .if1 .left) _ (c .before .before .before .if2 .taken) (c .bad-chunk .ensures)
+returns-2 c =
+    let A = c .before .before .before .before .before .before .before .args in
+    size-fec (A .h) (c .before .before .before .before .if1 .left) _ (c .before .before .before .if2 .taken) (c .bad-chunk .ensures)
 
 returns-3 : tie.Need-returns-3
 returns-3 c = size-plain (c .before .before .before .before .args .h) (c .before .if1 .left) (c .if2 .left)

@@ -16,10 +16,12 @@ add-result : tie.Need-add-result
 add-result c = search needs
 
 returns : tie.Need-returns
-returns c = (body-there _ _ (told (c .before .has-address .ensures) (c .if1 .taken)) (c .before .before .address-at .ensures .0), omega arith, omega arith)
+returns c =
+    (body-there _ _ (told (c .before .has-address .ensures) (c .if1 .taken)) (c .before .before .address-at .ensures .0), omega arith, omega arith)
 
 returns-2 : tie.Need-returns-2
-returns-2 c = (body-plain _ _ (told (c .before .has-address .ensures) (c .if1 .left)) (c .before .before .address-at .ensures .0), omega arith, omega arith)
+returns-2 c =
+    (body-plain _ _ (told (c .before .has-address .ensures) (c .if1 .left)) (c .before .before .address-at .ensures .0), omega arith, omega arith)
 
 pub body-length-spec : {M : Type 1} → statement M
 body-length-spec =

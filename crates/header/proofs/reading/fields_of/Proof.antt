@@ -29,7 +29,12 @@ read2-requires-2 : tie.Need-read2-requires-2
 read2-requires-2 c κs = search needs
 
 returns : tie.Need-returns
-returns c = fields-read _ _ _ _ _ _ _ _ _ (c .before .before .before .before .before .before .read2 .ensures) (c .before .before .before .before .before .read3 .ensures .0) (c .before .before .before .before .read32 .ensures .0) (c .before .before .before .before .before .before .before .has-fec .ensures) (c .before .before .before .rs-byte .ensures) (c .before .before .rs-byte2 .ensures) (c .before .address-of .ensures) (c .read22 .ensures)
+returns c =
+    let Has-fec = c .before .before .before .before .before .before .before .has-fec in
+    let Read2 = c .before .before .before .before .before .before .read2 in
+    fields-read _ _ _ _ _ _ _ _ _ (Read2 .ensures) (c .before .before .before .before .before .read3 .ensures .0)
+    (c .before .before .before .before .read32 .ensures .0) (Has-fec .ensures) (c .before .before .before .rs-byte .ensures)
+    (c .before .before .rs-byte2 .ensures) (c .before .address-of .ensures) (c .read22 .ensures)
 
 pub fields-of-spec : {M : Type 1} → statement M
 fields-of-spec =

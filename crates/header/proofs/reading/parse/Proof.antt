@@ -14,7 +14,8 @@ fields-of-requires : tie.Need-fields-of-requires
 fields-of-requires c κs = search needs
 
 returns-2 : tie.Need-returns-2
-returns-2 c = parse-read (c .before .before .before .before .args .own) _ _ (c .before .before .fault .ensures) _ (c .before .if1 .left) (c .fields-of .ensures)
+returns-2 c =
+    parse-read (c .before .before .before .before .args .own) _ _ (c .before .before .fault .ensures) _ (c .before .if1 .left) (c .fields-of .ensures)
 
 pub parse-spec : {M : Type 1} → statement M
 parse-spec = tie.close (tie.spec fault-requires returns fields-of-requires returns-2)

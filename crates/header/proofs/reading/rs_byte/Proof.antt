@@ -10,7 +10,9 @@ byte-at-requires : tie.Need-byte-at-requires
 byte-at-requires c κs = search needs
 
 returns : tie.Need-returns
-returns c = c .byte-at .ensures ∙ ap (λ (b : Bool). cond b (getD (c .before .before .before .args .s .now) (c .before .before .before .args .i) 0) 0) (sym (c .before .if1 .taken))
+returns c =
+    let A = c .before .before .before .args in
+    c .byte-at .ensures ∙ ap (λ (b : Bool). cond b (getD (A .s .now) (A .i) 0) 0) (sym (c .before .if1 .taken))
 
 returns-2 : tie.Need-returns-2
 returns-2 c = search needs

@@ -44,12 +44,16 @@ same-length c = search needs
 
 returns-2 : tie.Need-returns-2
 returns-2 c =
-    let known = c .before .before .before .before .before .before .before .before .before .before .before .before .before in
+    let Before = c .before .before .before .before .before .before .before .before .before .before .before .before .before in
+    let Bytes2 = c .before .before .before .before .before .before .before .before .before .before .bytes2 in
+    let Put = c .before .before .before .before .before .before .before .before .put in
+    let known = Before in
     let start = known .before .before .before in
     let pair = known .a .given in
     let a = start .args in
-    address-laid (a .a) (a .out .now) (a .at) (pair .0 .0) (pair .0 .1 .0) _ _ _ _ _ _ (pair .1) (c .before .before .before .before .before .before .before .before .before .before .bytes2 .ensures) (c .before .before .before .before .bytes22 .ensures) (start .pre .1)
-    (c .before .before .before .before .before .before .before .before .put .ensures)
+    address-laid (a .a) (a .out .now) (a .at) (pair .0 .0) (pair .0 .1 .0) _ _ _ _ _ _ (pair .1) (Bytes2 .ensures)
+    (c .before .before .before .before .bytes22 .ensures) (start .pre .1)
+    (Put .ensures)
     (c .before .before .put2 .ensures)
 
 pub put-address-spec : {M : Type 1} → statement M

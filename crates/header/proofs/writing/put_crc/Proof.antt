@@ -30,8 +30,11 @@ same-length c = search needs
 
 returns : tie.Need-returns
 returns c =
-    let start = c .before .before .before .before .before .before .before .before .before in
-    crc-laid (start .args .out .now) _ _ (start .args .at) _ _ (c .before .before .before .before .before .before .word .ensures) (c .before .before .before .before .bytes2 .ensures) (start .pre .1) (c .before .before .put .ensures)
+    let Before = c .before .before .before .before .before .before .before .before .before in
+    let Word = c .before .before .before .before .before .before .word in
+    let start = Before in
+    crc-laid (start .args .out .now) _ _ (start .args .at) _ _ (Word .ensures) (c .before .before .before .before .bytes2 .ensures)
+    (start .pre .1) (c .before .before .put .ensures)
 
 pub put-crc-spec : {M : Type 1} → statement M
 put-crc-spec =

@@ -18,8 +18,10 @@ same-length c = search needs
 
 returns : tie.Need-returns
 returns c =
-    let start = c .before .before .before .before .before .before .before in
-    fec-laid (start .args .h) (start .args .out .now) (start .args .at) _ _ (c .before .before .before .before .before .if1 .taken) (start .pre .1) (c .before .before .put .ensures)
+    let Before = c .before .before .before .before .before .before .before in
+    let start = Before in
+    fec-laid (start .args .h) (start .args .out .now) (start .args .at) _ _ (c .before .before .before .before .before .if1 .taken)
+    (start .pre .1) (c .before .before .put .ensures)
 
 returns-2 : tie.Need-returns-2
 returns-2 c =

@@ -65,7 +65,8 @@ returns c =
     let a = front .before .before .before .args in
     c .before .before .put .ensures
     ∙ header-put (a .h) (a .out .now) _
-    (header-laid (a .h) _ _ _ _ _ _ _ (front .put-front .ensures) (fec .put-fec .ensures .0) (fec .put-fec .ensures .1) (address .put-address .ensures .0)
+    (header-laid (a .h) _ _ _ _ _ _ _ (front .put-front .ensures) (fec .put-fec .ensures .0) (fec .put-fec .ensures .1)
+    (address .put-address .ensures .0)
     (address .put-address .ensures .1)
     (crc .put-crc .ensures))
 

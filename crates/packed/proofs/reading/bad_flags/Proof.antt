@@ -35,8 +35,11 @@ loop-less c = omega arith
 loop-again : tie.Need-loop-again Inv-loop μ-loop
 loop-again c =
     let a = c .before .before .before .args in
-    let d = c .before .before .loop in
-    (omega arith, bad-more (drop (a .i) (a .s .now)) (d .j) (d .bits) _ (d .inv .1) (rw length-drop (omega arith)) (sym (getD-drop (a .i) (a .s .now) (d .j) 0)))
+    let d = c .before .before .loop in (
+      omega arith,
+      bad-more (drop (a .i) (a .s .now)) (d .j) (d .bits) _ (d .inv .1) (rw length-drop (omega arith))
+          (sym (getD-drop (a .i) (a .s .now) (d .j) 0)),
+    )
 
 returns : tie.Need-returns Inv-loop μ-loop
 returns c =

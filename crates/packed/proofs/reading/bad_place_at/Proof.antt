@@ -21,7 +21,8 @@ bad-flags-requires : tie.Need-bad-flags-requires
 bad-flags-requires c κs = search needs
 
 returns-2 : tie.Need-returns-2
-returns-2 c = let a = c .before .before .before .before .args in fec-good (a .s .now) (a .i) (omega (arith, c .before .if1 .left)) (c .bad-flags .ensures)
+returns-2 c =
+    let a = c .before .before .before .before .args in fec-good (a .s .now) (a .i) (omega (arith, c .before .if1 .left)) (c .bad-flags .ensures)
 
 pub bad-place-at-spec : {M : Type 1} → statement M
 bad-place-at-spec =

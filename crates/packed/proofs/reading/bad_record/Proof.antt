@@ -18,7 +18,11 @@ bad-place-at-requires-2 c κs = search needs
 returns-2 : tie.Need-returns-2
 unfolding badRecord
 returns-2 c =
-    rw (told (c .before .before .before .bad-place-at .ensures) (c .before .before .if1 .left), told (c .before .bad-place-at2 .ensures) (c .if2 .taken))
+    rw (
+      told (c .before .before .before .bad-place-at .ensures) (c .before .before .if1 .left),
+      told (c .before .bad-place-at2 .ensures)
+          (c .if2 .taken),
+    )
 
 mul-bad-place-at : tie.Need-mul-bad-place-at
 mul-bad-place-at c = search needs
@@ -31,7 +35,11 @@ unfolding badRecord
 returns-3 c =
     let second = c .before .before in
     let first = second .before .before in
-    rw (told (first .before .bad-place-at .ensures) (first .if1 .left), told (second .before .bad-place-at2 .ensures) (second .if2 .left), told (c .before .bad-place-at3 .ensures) (c .if3 .taken))
+    rw (
+      told (first .before .bad-place-at .ensures) (first .if1 .left),
+      told (second .before .bad-place-at2 .ensures) (second .if2 .left),
+      told (c .before .bad-place-at3 .ensures) (c .if3 .taken),
+    )
 
 mul-bad-place-at-2 : tie.Need-mul-bad-place-at-2
 mul-bad-place-at-2 c = search needs
@@ -45,7 +53,12 @@ returns-4 c =
     let third = c .before in
     let second = third .before .before in
     let first = second .before .before in
-    rw (told (first .before .bad-place-at .ensures) (first .if1 .left), told (second .before .bad-place-at2 .ensures) (second .if2 .left), told (third .before .bad-place-at3 .ensures) (third .if3 .left), ← c .bad-place-at4 .ensures)
+    rw (
+      told (first .before .bad-place-at .ensures) (first .if1 .left),
+      told (second .before .bad-place-at2 .ensures) (second .if2 .left),
+      told (third .before .bad-place-at3 .ensures) (third .if3 .left),
+      ← c .bad-place-at4 .ensures,
+    )
 
 pub bad-record-spec : {M : Type 1} → statement M
 bad-record-spec =

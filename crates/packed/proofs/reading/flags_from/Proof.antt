@@ -43,7 +43,8 @@ loop-again c =
     let d = c .before .before .loop in (
       omega arith,
       length-set (d .kept) (d .j) _ ∙ d .inv .1,
-      filled-more isSet (drop (a .i) (a .s .now)) (d .kept) (d .j) _ 0 (d .inv .2) (omega arith) (rw length-drop (omega arith)) (sym (ap isSet (getD-drop (a .i) (a .s .now) (d .j) 0))),
+      filled-more isSet (drop (a .i) (a .s .now)) (d .kept) (d .j) _ 0 (d .inv .2) (omega arith) (rw length-drop (omega arith))
+          (sym (ap isSet (getD-drop (a .i) (a .s .now) (d .j) 0))),
     )
 
 returns : tie.Need-returns Inv-loop μ-loop

@@ -12,7 +12,9 @@ place-at-requires : tie.Need-place-at-requires
 place-at-requires c κs = search needs
 
 returns : tie.Need-returns
-returns c = c .place-at .ensures ∙ free-first _ (c .before .fresh .ensures) ∙ by-some (c .before .before .before .before .args .n) _ _ (c .before .before .if1 .taken)
+returns c =
+    c .place-at .ensures ∙ free-first _ (c .before .fresh .ensures)
+    ∙ by-some (c .before .before .before .before .args .n) _ _ (c .before .before .if1 .taken)
 
 place-from-requires : tie.Need-place-from-requires
 place-from-requires c κs = c .before .before .pre (c .if1 .left)

@@ -60,7 +60,17 @@ unfolding placeFrom
 returns c =
     let rsk = c .before .before .before .before in
     let condition = rsk .before .before .before .before in
-    rw (condition .byte-at .ensures, rsk .before .before .before .read2 .ensures, rsk .before .before .read4 .ensures, rsk .before .byte-at2 .ensures, rsk .byte-at3 .ensures, c .before .before .before .byte-at4 .ensures, c .before .before .read22 .ensures, c .before .read23 .ensures, c .flags-from .ensures)
+    rw (
+      condition .byte-at .ensures,
+      rsk .before .before .before .read2 .ensures,
+      rsk .before .before .read4 .ensures,
+      rsk .before .byte-at2 .ensures,
+      rsk .byte-at3 .ensures,
+      c .before .before .before .byte-at4 .ensures,
+      c .before .before .read22 .ensures,
+      c .before .read23 .ensures,
+      c .flags-from .ensures,
+    )
 
 pub place-from-spec : {M : Type 1} → statement M
 place-from-spec =

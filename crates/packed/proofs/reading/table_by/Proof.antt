@@ -27,7 +27,10 @@ oldest-by-requires : tie.Need-oldest-by-requires
 oldest-by-requires c κs = search needs
 
 returns : tie.Need-returns
-returns c = table-read (c .before .before .before .before .before .before .args .n) _ (c .before .before .before .before .place-by .ensures) (c .before .before .before .place-by2 .ensures) (c .before .before .place-by3 .ensures) (c .before .place-by4 .ensures) (c .oldest-by .ensures)
+returns c =
+    let A = c .before .before .before .before .before .before .args in
+    table-read (A .n) _ (c .before .before .before .before .place-by .ensures) (c .before .before .before .place-by2 .ensures)
+    (c .before .before .place-by3 .ensures) (c .before .place-by4 .ensures) (c .oldest-by .ensures)
 
 pub table-by-spec : {M : Type 1} → statement M
 table-by-spec =

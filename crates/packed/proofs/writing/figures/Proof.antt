@@ -52,7 +52,8 @@ array-read-t38 c = search needs
 returns : tie.Need-returns
 returns c =
     let number = c .before .before .before .before in
-    figures-are (number .before .args .p) (number .bytes2 .ensures) (c .before .before .before .bytes4 .ensures) (c .before .before .bytes22 .ensures) (c .before .bytes23 .ensures) (c .flag .ensures)
+    figures-are (number .before .args .p) (number .bytes2 .ensures) (c .before .before .before .bytes4 .ensures)
+    (c .before .before .bytes22 .ensures) (c .before .bytes23 .ensures) (c .flag .ensures)
 
 pub figures-spec : {M : Type 1} → statement M
 figures-spec =

@@ -52,7 +52,8 @@ returns c =
     let kept = c .before .before .args .t1 in
     let long : length kept ≡ most-f = c .before .before .good .0 .1 .0 .1 in
     let d = c .before .loop in
-    filled-all (d .bytes) _ (d .i) (omega (arith, c .loop-test .left)) (d .inv .2) ∙ ap (map bit) (take-all (d .i) kept (omega (arith, c .loop-test .left)))
+    filled-all (d .bytes) _ (d .i) (omega (arith, c .loop-test .left)) (d .inv .2)
+    ∙ ap (map bit) (take-all (d .i) kept (omega (arith, c .loop-test .left)))
 
 pub flags-spec : {M : Type 1} → statement M
 flags-spec =

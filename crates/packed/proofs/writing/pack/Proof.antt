@@ -46,7 +46,8 @@ returns-2 c =
     let first = second .before .before .before .before in
     let roomy = first .before .before in
     let a = roomy .before .before .args in
-    table-laid (a .t) (a .out .now) _ _ _ _ _ _ (roomy .if1 .left) (first .put-place .ensures) (second .put-place2 .ensures) (third .put-place3 .ensures)
+    table-laid (a .t) (a .out .now) _ _ _ _ _ _ (roomy .if1 .left) (first .put-place .ensures) (second .put-place2 .ensures)
+    (third .put-place3 .ensures)
     (fourth .put-place4 .ensures)
     (oldest .put .ensures)
 

@@ -44,7 +44,8 @@ returns c =
     let a = start .args in
     let p = placed .place-at .result in
     let long : length (p .kept) ≡ most-f = as-long (p .kept) _ (placed .place-at .ok .1 .1 .1 .1 .1 .1 .1 .1 .1 .1 .0 .1 .0 .1) in
-    place-laid (a .t) (a .i) p (a .out .now) _ _ _ _ (a .at) _ _ (placed .place-at .ensures) (start .pre) long (figured .before .before .figures .ensures)
+    place-laid (a .t) (a .i) p (a .out .now) _ _ _ _ (a .at) _ _ (placed .place-at .ensures) (start .pre) long
+    (figured .before .before .figures .ensures)
     (flagged .before .before .flags .ensures)
     (figured .put .ensures)
     (flagged .put2 .ensures)

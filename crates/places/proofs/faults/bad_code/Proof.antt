@@ -15,10 +15,14 @@ returns-2 : tie.Need-returns-2
 returns-2 c = k-none _ (not-false (c .before .before .before .before .args .p .fec) (c .before .if1 .left)) (c .if2 .taken)
 
 returns-3 : tie.Need-returns-3
-returns-3 c = k-over _ (not-false (c .before .before .before .before .before .args .p .fec) (c .before .before .if1 .left)) (c .before .if2 .left) (c .if3 .taken)
+returns-3 c =
+    k-over _ (not-false (c .before .before .before .before .before .args .p .fec) (c .before .before .if1 .left)) (c .before .if2 .left)
+    (c .if3 .taken)
 
 returns-4 : tie.Need-returns-4
-returns-4 c = z-over _ (not-false (c .before .before .before .before .before .before .args .p .fec) (c .before .before .before .if1 .left)) (c .before .before .if2 .left) (c .before .if3 .left)
+returns-4 c =
+    let A = c .before .before .before .before .before .before .args in
+    z-over _ (not-false (A .p .fec) (c .before .before .before .if1 .left)) (c .before .before .if2 .left) (c .before .if3 .left)
 
 pub bad-code-spec : {M : Type 1} → statement M
 bad-code-spec = tie.close (tie.spec cast-k returns returns-2 returns-3 returns-4)

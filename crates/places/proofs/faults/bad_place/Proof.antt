@@ -18,7 +18,8 @@ bad-code-requires : tie.Need-bad-code-requires
 bad-code-requires c κs = search needs
 
 returns-3 : tie.Need-returns-3
-returns-3 c = code-told _ (c .before .before .before .if1 .left) (told (c .before .before .bad-figures .ensures) (c .before .if2 .left)) (c .bad-code .ensures)
+returns-3 c =
+    code-told _ (c .before .before .before .if1 .left) (told (c .before .before .bad-figures .ensures) (c .before .if2 .left)) (c .bad-code .ensures)
 
 pub bad-place-spec : {M : Type 1} → statement M
 bad-place-spec =

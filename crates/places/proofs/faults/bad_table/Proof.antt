@@ -21,19 +21,31 @@ bad-place-at-requires-2 : tie.Need-bad-place-at-requires-2
 bad-place-at-requires-2 c κs = search needs
 
 returns-3 : tie.Need-returns-3
-returns-3 c = bad-1 _ (c .before .before .before .before .if1 .left) (told (c .before .before .before .bad-place-at .ensures) (c .before .before .if2 .left)) (told (c .before .bad-place-at2 .ensures) (c .if3 .taken))
+returns-3 c =
+    bad-1 _ (c .before .before .before .before .if1 .left)
+    (told (c .before .before .before .bad-place-at .ensures) (c .before .before .if2 .left))
+    (told (c .before .bad-place-at2 .ensures) (c .if3 .taken))
 
 bad-place-at-requires-3 : tie.Need-bad-place-at-requires-3
 bad-place-at-requires-3 c κs = search needs
 
 returns-4 : tie.Need-returns-4
-returns-4 c = bad-2 _ (c .before .before .before .before .before .before .if1 .left) (told (c .before .before .before .before .before .bad-place-at .ensures) (c .before .before .before .before .if2 .left)) (told (c .before .before .before .bad-place-at2 .ensures) (c .before .before .if3 .left)) (told (c .before .bad-place-at3 .ensures) (c .if4 .taken))
+returns-4 c =
+    let If1 = c .before .before .before .before .before .before .if1 in
+    bad-2 _ (If1 .left) (told (c .before .before .before .before .before .bad-place-at .ensures) (c .before .before .before .before .if2 .left))
+    (told (c .before .before .before .bad-place-at2 .ensures) (c .before .before .if3 .left))
+    (told (c .before .bad-place-at3 .ensures) (c .if4 .taken))
 
 bad-place-at-requires-4 : tie.Need-bad-place-at-requires-4
 bad-place-at-requires-4 c κs = search needs
 
 returns-5 : tie.Need-returns-5
-returns-5 c = bad-3 _ (c .before .before .before .before .before .before .before .if1 .left) (told (c .before .before .before .before .before .before .bad-place-at .ensures) (c .before .before .before .before .before .if2 .left)) (told (c .before .before .before .before .bad-place-at2 .ensures) (c .before .before .before .if3 .left)) (told (c .before .before .bad-place-at3 .ensures) (c .before .if4 .left)) (c .bad-place-at4 .ensures)
+returns-5 c =
+    let If1 = c .before .before .before .before .before .before .before .if1 in
+    let Bad-place-at = c .before .before .before .before .before .before .bad-place-at in
+    bad-3 _ (If1 .left) (told (Bad-place-at .ensures) (c .before .before .before .before .before .if2 .left))
+    (told (c .before .before .before .before .bad-place-at2 .ensures) (c .before .before .before .if3 .left))
+    (told (c .before .before .bad-place-at3 .ensures) (c .before .if4 .left)) (c .bad-place-at4 .ensures)
 
 pub bad-table-spec : {M : Type 1} → statement M
 bad-table-spec =

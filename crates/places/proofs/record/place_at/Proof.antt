@@ -16,16 +16,18 @@ array-copy-out-result c = search needs
 
 returns : tie.Need-returns
 returns c =
-    let long : length (c .before .before .before .args .t .places) ≡ four = as-long (c .before .before .before .args .t .places) _ (c .before .before .before .good .0 .1 .1 .0 .1 .0 .1) in
-    place-within (c .before .before .before .args .t) (c .before .before .before .args .i) _ (omega (arith, long))
+    let A = c .before .before .before .args in
+    let long : length (A .t .places) ≡ four = as-long (A .t .places) _ (c .before .before .before .good .0 .1 .1 .0 .1 .0 .1) in
+    place-within (A .t) (A .i) _ (omega (arith, long))
 
 free-place-requires : tie.Need-free-place-requires
 free-place-requires c κs = search needs
 
 returns-2 : tie.Need-returns-2
 returns-2 c =
-    let long : length (c .before .before .before .args .t .places) ≡ four = as-long (c .before .before .before .args .t .places) _ (c .before .before .before .good .0 .1 .1 .0 .1 .0 .1) in
-    place-past (c .before .before .before .args .t) (c .before .before .before .args .i) (omega (arith, long)) (c .free-place .ensures)
+    let A = c .before .before .before .args in
+    let long : length (A .t .places) ≡ four = as-long (A .t .places) _ (c .before .before .before .good .0 .1 .1 .0 .1 .0 .1) in
+    place-past (A .t) (A .i) (omega (arith, long)) (c .free-place .ensures)
 
 pub place-at-spec : {M : Type 1} → statement M
 place-at-spec =

@@ -20,8 +20,9 @@ returns c = refl
 
 returns-2 : tie.Need-returns-2
 returns-2 c =
-    let long : length (c .before .before .args .t .places) ≡ four = as-long (c .before .before .args .t .places) _ (c .before .before .good .0 .1 .1 .0 .1 .0 .1) in
-    with-past (c .before .before .args .t) (c .before .before .args .i) (c .before .before .args .p) (omega (arith, long))
+    let A = c .before .before .args in
+    let long : length (A .t .places) ≡ four = as-long (A .t .places) _ (c .before .before .good .0 .1 .1 .0 .1 .0 .1) in
+    with-past (A .t) (A .i) (A .p) (omega (arith, long))
 
 pub with-place-spec : {M : Type 1} → statement M
 with-place-spec = tie.close (tie.spec mul-places array-set-from-places returns returns-2)

@@ -16,8 +16,10 @@ refusal-requires c κs = search needs
 
 returns : tie.Need-returns
 returns c =
-    let a = c .before .before .before .before .before .before .args in
-    step-room (a .own) (a .table) (a .lent .now) (a .datagram .now) (a .out .now) (c .before .before .room-fault .ensures) (c .before .if1 .taken) (refusal-is _ _ (c .refusal .ensures))
+    let A = c .before .before .before .before .before .before .args in
+    let a = A in
+    step-room (a .own) (a .table) (a .lent .now) (a .datagram .now) (a .out .now) (c .before .before .room-fault .ensures)
+    (c .before .if1 .taken) (refusal-is _ _ (c .refusal .ensures))
 
 parse-requires : tie.Need-parse-requires
 parse-requires c κs = search needs
@@ -51,16 +53,30 @@ part-accept-end c = search needs
 
 accept-requires : tie.Need-accept-requires
 accept-requires c κs =
-    let a = c .before .before .before .before .before .before .before .before .before .before .before .before .before .args in
-    let p = header-passed (a .own) (a .datagram .now) (c .before .before .before .before .before .before .before .parse .ensures) (c .before .before .before .before .before .h .given .1) in
-    let none = sym (c .before .before .before .before .before .before .before .before .before .room-fault .ensures) ∙ c .before .before .before .before .before .before .before .before .if1 .left in
-    let r = fine-room (a .table) _ _ none in
-    (fine-table (a .table) _ _ none, record { all = r .0; room = r .1 }, heard (a .own) (a .datagram .now) (p .0) (p .1) (bytes-from (a .datagram .now) (λ i l. c .before .before .before .before .before .before .before .before .before .before .before .shared-slice-known .given i .fits)))
+    let A = c .before .before .before .before .before .before .before .before .before .before .before .before .before .args in
+    let Shared-slice-known = c .before .before .before .before .before .before .before .before .before .before .before .shared-slice-known in
+    let Room-fault = c .before .before .before .before .before .before .before .before .before .room-fault in
+    let If1 = c .before .before .before .before .before .before .before .before .if1 in
+    let Parse = c .before .before .before .before .before .before .before .parse in
+    let a = A in
+    let p = header-passed (a .own) (a .datagram .now) (Parse .ensures) (c .before .before .before .before .before .h .given .1) in
+    let none = sym (Room-fault .ensures) ∙ If1 .left in
+    let r = fine-room (a .table) _ _ none in (
+      fine-table (a .table) _ _ none,
+      record { all = r .0; room = r .1 },
+      heard (a .own) (a .datagram .now) (p .0) (p .1)
+          (bytes-from (a .datagram .now) (λ i l. Shared-slice-known .given i .fits)),
+    )
 
 returns-2 : tie.Need-returns-2
 returns-2 c =
-    let a = c .before .before .before .before .before .before .before .before .before .before .args in
-    step-header (a .own) (a .table) (a .lent .now) (a .datagram .now) (a .out .now) (c .before .before .before .before .before .before .room-fault .ensures) (c .before .before .before .before .before .if1 .left) (header-refused (a .own) (a .datagram .now) (c .before .before .before .before .parse .ensures) (c .before .before .m .given .1)) (refusal-is _ _ (c .refusal2 .ensures))
+    let A = c .before .before .before .before .before .before .before .before .before .before .args in
+    let Room-fault = c .before .before .before .before .before .before .room-fault in
+    let a = A in
+    step-header (a .own) (a .table) (a .lent .now) (a .datagram .now) (a .out .now) (Room-fault .ensures)
+    (c .before .before .before .before .before .if1 .left)
+    (header-refused (a .own) (a .datagram .now) (c .before .before .before .before .parse .ensures) (c .before .before .m .given .1))
+    (refusal-is _ _ (c .refusal2 .ensures))
 
 same-length : tie.Need-same-length
 same-length c = search needs
@@ -70,9 +86,16 @@ same-length-2 c = search needs
 
 returns-3 : tie.Need-returns-3
 returns-3 c =
-    let a = c .before .before .before .before .before .before .before .before .before .before .before .before .before .before .before .before .before .before .args in
-    let p = header-passed (a .own) (a .datagram .now) (c .before .before .before .before .before .before .before .before .before .before .before .before .parse .ensures) (c .before .before .before .before .before .before .before .before .before .before .h .given .1) in
-    step-arrives (a .own) (a .table) (a .lent .now) (a .datagram .now) (a .out .now) (c .before .before .before .before .before .before .before .before .before .before .before .before .before .before .room-fault .ensures) (c .before .before .before .before .before .before .before .before .before .before .before .before .before .if1 .left) _ p (c .before .before .before .before .accept .ensures)
+    let A = c .before .before .before .before .before .before .before .before .before .before .before .before .before .before .before .before
+    .before .before .args in
+    let Room-fault = c .before .before .before .before .before .before .before .before .before .before .before .before .before .before .room-fault in
+    let If1 = c .before .before .before .before .before .before .before .before .before .before .before .before .before .if1 in
+    let Parse = c .before .before .before .before .before .before .before .before .before .before .before .before .parse in
+    let H = c .before .before .before .before .before .before .before .before .before .before .h in
+    let a = A in
+    let p = header-passed (a .own) (a .datagram .now) (Parse .ensures) (H .given .1) in
+    step-arrives (a .own) (a .table) (a .lent .now) (a .datagram .now) (a .out .now) (Room-fault .ensures) (If1 .left) _ p
+    (c .before .before .before .before .accept .ensures)
 
 pub change-by-spec : {M : Type 1} → statement M
 change-by-spec =

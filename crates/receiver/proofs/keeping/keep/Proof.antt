@@ -14,7 +14,13 @@ offset-of-requires : tie.Need-offset-of-requires
 offset-of-requires c κs = search needs
 
 add-put : tie.Need-add-put
-add-put c = omega (arith, c .offset-of .ensures, offset-fits (c .before .before .before .before .before .args .h) (c .before .before .before .before .before .pre .2 .sound))
+add-put c =
+    omega (
+      arith,
+      c .offset-of .ensures,
+      offset-fits (c .before .before .before .before .before .args .h)
+          (c .before .before .before .before .before .pre .2 .sound),
+    )
 
 put-requires : tie.Need-put-requires
 put-requires c κs = search needs
@@ -23,9 +29,20 @@ kept-in-requires : tie.Need-kept-in-requires
 kept-in-requires c κs = search needs
 
 settle-requires : tie.Need-settle-requires
-settle-requires c κs = let a = c .before .before .before .before .before .before .before .before .before .before .before .args in
-    let p = c .before .before .before .before .before .before .before .before .before .before .before .pre in
-    (p .0, record { all = kept-long (a .i) (a .h) (a .lent .now) (a .payload .now) (p .0) (p .1 .all) (p .2) (c .before .before .before .before .before .before .offset-of .ensures) (c .before .before .before .before .before .put .ensures); room = p .1 .room }, ap badPlace (c .before .before .kept-in .ensures) ∙ p .3)
+settle-requires c κs =
+    let A = c .before .before .before .before .before .before .before .before .before .before .before .args in
+    let P = c .before .before .before .before .before .before .before .before .before .before .before .pre in
+    let Offset-of = c .before .before .before .before .before .before .offset-of in
+    let a = A in
+    let p = P in (
+      p .0,
+      record {
+        all = kept-long (a .i) (a .h) (a .lent .now) (a .payload .now) (p .0) (p .1 .all) (p .2) (Offset-of .ensures)
+            (c .before .before .before .before .before .put .ensures);
+        room = p .1 .room;
+      },
+      ap badPlace (c .before .before .kept-in .ensures) ∙ p .3,
+    )
 
 same-length : tie.Need-same-length
 same-length c = search needs
@@ -34,10 +51,16 @@ same-length-2 : tie.Need-same-length-2
 same-length-2 c = search needs
 
 returns : tie.Need-returns
-returns c = λ t size turn.
-    let a = c .before .before .before .before .before .before .before .before .before .before .before .before .before .before .args in
-    let p = c .before .before .before .before .before .before .before .before .before .before .before .before .before .before .pre in
-    keeps-at (a .i) (a .h) (a .lent .now) (a .payload .now) (p .0) (p .1 .all) (p .2) (c .before .before .before .before .before .before .before .before .before .offset-of .ensures) (c .before .before .before .before .before .before .before .before .put .ensures) t (a .p) (a .d) (c .before .before .before .before .before .kept-in .ensures) (c .before .before .settle .ensures t size turn)
+returns c =
+    let A = c .before .before .before .before .before .before .before .before .before .before .before .before .before .before .args in
+    let P = c .before .before .before .before .before .before .before .before .before .before .before .before .before .before .pre in
+    let Offset-of = c .before .before .before .before .before .before .before .before .before .offset-of in
+    let Put = c .before .before .before .before .before .before .before .before .put in
+    λ t size turn.
+    let a = A in
+    let p = P in
+    keeps-at (a .i) (a .h) (a .lent .now) (a .payload .now) (p .0) (p .1 .all) (p .2) (Offset-of .ensures) (Put .ensures) t (a .p) (a .d)
+    (c .before .before .before .before .before .kept-in .ensures) (c .before .before .settle .ensures t size turn)
 
 pub keep-spec : {M : Type 1} → statement M
 keep-spec =

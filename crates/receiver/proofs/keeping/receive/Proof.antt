@@ -17,8 +17,11 @@ same-length-2 : tie.Need-same-length-2
 same-length-2 c = search needs
 
 returns : tie.Need-returns
-returns c = let a = c .before .before .before .before .before .before .before .before .before .before .before .before .before .args in
-    step-changed (a .own) (a .table) (a .lent .now) (a .datagram .now) (a .out .now) _ _ _ (c .with-place .ensures) (c .before .before .before .before .before .before .before .change-by .ensures)
+returns c =
+    let A = c .before .before .before .before .before .before .before .before .before .before .before .before .before .args in
+    let Change-by = c .before .before .before .before .before .before .before .change-by in
+    let a = A in
+    step-changed (a .own) (a .table) (a .lent .now) (a .datagram .now) (a .out .now) _ _ _ (c .with-place .ensures) (Change-by .ensures)
 
 pub receive-spec : {M : Type 1} → statement M
 receive-spec =

@@ -45,42 +45,62 @@ same-length : tie.Need-same-length
 same-length c = search needs
 
 returns : tie.Need-returns
-returns c = λ t size turn.
-    let a = c .before .before .before .before .before .before .before .before .before .args in
+returns c =
+    let A = c .before .before .before .before .before .before .before .before .before .args in
+    let P = c .before .before .before .before .before .before .before .before .before .pre in
+    λ t size turn.
+    let a = A in
     let u = withPlace t (a .i) (a .p) in
-    let there = written-place t (a .i) (a .p) size (c .before .before .before .before .before .before .before .before .before .pre .0) in
-    settles-waiting u (a .i) (a .d) (a .lent .now) (a .out .now) (formed-at u (a .i) (a .lent .now) (a .out .now) (sym there) (c .enum-told .given .1) (c .before .before .before .before .form .ensures)) (changes t _ turn)
+    let there = written-place t (a .i) (a .p) size (P .0) in
+    settles-waiting u (a .i) (a .d) (a .lent .now) (a .out .now)
+    (formed-at u (a .i) (a .lent .now) (a .out .now) (sym there) (c .enum-told .given .1) (c .before .before .before .before .form .ensures))
+    (changes t _ turn)
 
 same-length-2 : tie.Need-same-length-2
 same-length-2 c = search needs
 
 returns-2 : tie.Need-returns-2
-returns-2 c = λ t size turn.
-    let a = c .before .before .before .before .before .before .before .before .before .before .before .args in
+returns-2 c =
+    let A = c .before .before .before .before .before .before .before .before .before .before .before .args in
+    let P = c .before .before .before .before .before .before .before .before .before .before .before .pre in
+    let Form = c .before .before .before .before .before .before .form in
+    λ t size turn.
+    let a = A in
     let u = withPlace t (a .i) (a .p) in
-    let there = written-place t (a .i) (a .p) size (c .before .before .before .before .before .before .before .before .before .before .before .pre .0) in
-    settles-delivered u (a .i) (a .d) (a .lent .now) (a .out .now) (formed-at u (a .i) (a .lent .now) (a .out .now) (sym there) (c .before .before .length .given .1) (c .before .before .before .before .before .before .form .ensures)) (changes t _ turn ∙ closes t (a .i) _ (a .p) size (c .before .before .before .before .before .before .before .before .before .before .before .pre .0) (c .in-condition .ensures))
+    let there = written-place t (a .i) (a .p) size (P .0) in
+    settles-delivered u (a .i) (a .d) (a .lent .now) (a .out .now)
+    (formed-at u (a .i) (a .lent .now) (a .out .now) (sym there) (c .before .before .length .given .1) (Form .ensures)) (changes t _ turn
+    ∙ closes t (a .i) _ (a .p) size (P .0) (c .in-condition .ensures))
 
 same-length-3 : tie.Need-same-length-3
 same-length-3 c = search needs
 
 returns-3 : tie.Need-returns-3
-returns-3 c = λ t size turn.
-    let a = c .before .before .before .before .before .before .before .before .before .before .args in
+returns-3 c =
+    let A = c .before .before .before .before .before .before .before .before .before .before .args in
+    let P = c .before .before .before .before .before .before .before .before .before .before .pre in
+    λ t size turn.
+    let a = A in
     let u = withPlace t (a .i) (a .p) in
-    let there = written-place t (a .i) (a .p) size (c .before .before .before .before .before .before .before .before .before .before .pre .0) in
-    settles-damaged u (a .i) (a .d) (a .lent .now) (a .out .now) (formed-at u (a .i) (a .lent .now) (a .out .now) (sym there) (c .before .enum-told2 .given .1) (c .before .before .before .before .before .form .ensures)) (changes t _ turn ∙ closes t (a .i) _ (a .p) size (c .before .before .before .before .before .before .before .before .before .before .pre .0) (c .in-condition2 .ensures))
+    let there = written-place t (a .i) (a .p) size (P .0) in
+    settles-damaged u (a .i) (a .d) (a .lent .now) (a .out .now)
+    (formed-at u (a .i) (a .lent .now) (a .out .now) (sym there) (c .before .enum-told2 .given .1)
+    (c .before .before .before .before .before .form .ensures)) (changes t _ turn ∙ closes t (a .i) _ (a .p) size (P .0) (c .in-condition2 .ensures))
 
 same-length-4 : tie.Need-same-length-4
 same-length-4 c = search needs
 
 returns-4 : tie.Need-returns-4
-returns-4 c = λ t size turn.
-    let a = c .before .before .before .before .before .before .before .before .before .before .args in
-    let p = c .before .before .before .before .before .before .before .before .before .before .pre in
+returns-4 c =
+    let A = c .before .before .before .before .before .before .before .before .before .before .args in
+    let P = c .before .before .before .before .before .before .before .before .before .before .pre in
+    λ t size turn.
+    let a = A in
+    let p = P in
     let u = withPlace t (a .i) (a .p) in
     let there = written-place t (a .i) (a .p) size (p .0) in
-    absurd (never-refused u (a .i) (a .lent .now) (a .out .now) (p .0) (p .1) (ap badPlace there ∙ p .2) (formed-at u (a .i) (a .lent .now) (a .out .now) (sym there) (c .before .n .given .1) (c .before .before .before .before .before .form .ensures)))
+    absurd (never-refused u (a .i) (a .lent .now) (a .out .now) (p .0) (p .1) (ap badPlace there ∙ p .2)
+    (formed-at u (a .i) (a .lent .now) (a .out .now) (sym there) (c .before .n .given .1) (c .before .before .before .before .before .form .ensures)))
 
 pub settle-spec : {M : Type 1} → statement M
 settle-spec =

@@ -25,7 +25,9 @@ seen-at-requires-4 : tie.Need-seen-at-requires-4
 seen-at-requires-4 c κs = fine-table _ _ _ (sym (c .before .before .before .before .room-fault .ensures) ∙ c .before .before .before .if1 .left)
 
 returns-2 : tie.Need-returns-2
-returns-2 c = query-shown _ _ _ (c .before .before .before .before .before .room-fault .ensures) (c .before .before .before .before .if1 .left) _ (c .before .before .before .seen-at .ensures) (c .before .before .seen-at2 .ensures) (c .before .seen-at3 .ensures) (c .seen-at4 .ensures)
+returns-2 c =
+    query-shown _ _ _ (c .before .before .before .before .before .room-fault .ensures) (c .before .before .before .before .if1 .left) _
+    (c .before .before .before .seen-at .ensures) (c .before .before .seen-at2 .ensures) (c .before .seen-at3 .ensures) (c .seen-at4 .ensures)
 
 pub query-spec : {M : Type 1} → statement M
 query-spec =

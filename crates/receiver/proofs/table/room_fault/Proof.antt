@@ -15,10 +15,14 @@ bad-room-requires : tie.Need-bad-room-requires
 bad-room-requires c κs = search needs
 
 returns-2 : tie.Need-returns-2
-returns-2 c = due-1 _ _ _ (told (c .before .before .before .bad-table .ensures) (c .before .before .if1 .left)) (told (c .before .bad-room .ensures) (c .if2 .taken))
+returns-2 c =
+    due-1 _ _ _ (told (c .before .before .before .bad-table .ensures) (c .before .before .if1 .left))
+    (told (c .before .bad-room .ensures) (c .if2 .taken))
 
 returns-3 : tie.Need-returns-3
-returns-3 c = due-none _ _ _ (told (c .before .before .before .bad-table .ensures) (c .before .before .if1 .left)) (told (c .before .bad-room .ensures) (c .if2 .left))
+returns-3 c =
+    due-none _ _ _ (told (c .before .before .before .bad-table .ensures) (c .before .before .if1 .left))
+    (told (c .before .bad-room .ensures) (c .if2 .left))
 
 pub room-fault-spec : {M : Type 1} → statement M
 room-fault-spec =

@@ -13,7 +13,9 @@ returns-3 : tie.Need-returns-3
 returns-3 c = shows-delivered _ (c .before .before .before .before .if1 .left) (c .if3 .taken)
 
 returns-4 : tie.Need-returns-4
-returns-4 c = shows-spoiled _ (c .before .before .before .before .before .before .pre) (c .before .before .before .before .if1 .left) (c .before .before .if2 .left) (c .if3 .left)
+returns-4 c =
+    let P = c .before .before .before .before .before .before .pre in
+    shows-spoiled _ (P) (c .before .before .before .before .if1 .left) (c .before .before .if2 .left) (c .if3 .left)
 
 pub seen-spec : {M : Type 1} → statement M
 seen-spec = tie.close (tie.spec returns returns-2 returns-3 returns-4)

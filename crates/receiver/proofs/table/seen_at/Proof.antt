@@ -12,7 +12,9 @@ place-at-requires : tie.Need-place-at-requires
 place-at-requires c κs = search needs
 
 seen-requires : tie.Need-seen-requires
-seen-requires c κs = ap badPlace (c .place-at .ensures) ∙ any-fine (c .before .args .t) (c .before .pre) (as-long (c .before .args .t .places) _ (c .before .good .0 .1 .1 .0 .1 .0 .1)) (c .before .args .i)
+seen-requires c κs =
+    let A = c .before .args in
+    ap badPlace (c .place-at .ensures) ∙ any-fine (A .t) (c .before .pre) (as-long (A .t .places) _ (c .before .good .0 .1 .1 .0 .1 .0 .1)) (A .i)
 
 returns : tie.Need-returns
 returns c = c .seen .ensures ∙ ap shownOf (c .before .place-at .ensures)

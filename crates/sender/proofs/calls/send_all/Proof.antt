@@ -23,8 +23,9 @@ payload-length-requires c κs =
 
 add-if1 : tie.Need-add-if1
 add-if1 c =
+    let P = c .before .before .before .before .before .pre in
     let a = c .before .before .before .before .before .args in
-    omega (arith, figures.h-most (a .g) (a .packet .now) (a .p) (c .before .before .before .before .before .pre), figures.s-most (a .g) (a .packet .now) (a .p) (c .before .before .before .before .before .pre))
+    omega (arith, figures.h-most (a .g) (a .packet .now) (a .p) (P), figures.s-most (a .g) (a .packet .now) (a .p) (P))
 
 mul-if1 : tie.Need-mul-if1
 mul-if1 c =
@@ -33,20 +34,31 @@ mul-if1 c =
 
 add-if1-2 : tie.Need-add-if1-2
 add-if1-2 c =
-    let a = c .before .before .before .before .before .before .args in
-    omega (arith, figures.h-most (a .g) (a .packet .now) (a .p) (c .before .before .before .before .before .before .pre), c .before .before .payload-length .ensures .1)
+    let A = c .before .before .before .before .before .before .args in
+    let P = c .before .before .before .before .before .before .pre in
+    let a = A in
+    omega (arith, figures.h-most (a .g) (a .packet .now) (a .p) (P), c .before .before .payload-length .ensures .1)
 
 add-if1-3 : tie.Need-add-if1-3
 add-if1-3 c =
-    let a = c .before .before .before .before .before .before .args in
-    omega (arith, figures.starts-most (a .g) (a .packet .now) (a .p) (c .before .before .before .before .before .before .pre) (a .p .f - 1) (omega arith), figures.h-most (a .g) (a .packet .now) (a .p) (c .before .before .before .before .before .before .pre), c .before .before .payload-length .ensures .1)
+    let A = c .before .before .before .before .before .before .args in
+    let P = c .before .before .before .before .before .before .pre in
+    let a = A in
+    omega (
+      arith,
+      figures.starts-most (a .g) (a .packet .now) (a .p) (P) (a .p .f - 1) (omega arith),
+      figures.h-most (a .g) (a .packet .now) (a .p) (P),
+      c .before .before .payload-length .ensures .1,
+    )
 
 returns : tie.Need-returns
 unfolding allNumber
 returns c =
-    let a = c .before .before .before .before .before .before .before .args in
-    let size = figures.whole-is (a .g) (a .packet .now) (a .p) (c .before .before .before .before .before .before .before .pre) _ (c .before .before .before .payload-length .ensures .0) (a .number) in
-    cases.all-1 (a .g) (a .number) (a .packet .now) (a .out .now) (c .before .before .before .before .before .before .before .pre .passed) (omega (arith, size, c .if1 .taken))
+    let A = c .before .before .before .before .before .before .before .args in
+    let P = c .before .before .before .before .before .before .before .pre in
+    let a = A in
+    let size = figures.whole-is (a .g) (a .packet .now) (a .p) (P) _ (c .before .before .before .payload-length .ensures .0) (a .number) in
+    cases.all-1 (a .g) (a .number) (a .packet .now) (a .out .now) (P .passed) (omega (arith, size, c .if1 .taken))
 
 slice-aggregate-lay-block : tie.Need-slice-aggregate-lay-block
 slice-aggregate-lay-block c = search needs
@@ -56,19 +68,29 @@ lay-block-requires c κs = search needs
 
 array-share-prefix-block : tie.Need-array-share-prefix-block
 array-share-prefix-block c =
-    let a = c .before .before .before .before .before .before .before .before .before .before .args in
-    omega (arith, figures.total-most (a .g) (a .packet .now) (a .p) (c .before .before .before .before .before .before .before .before .before .before .pre))
+    let A = c .before .before .before .before .before .before .before .before .before .before .args in
+    let P = c .before .before .before .before .before .before .before .before .before .before .pre in
+    let a = A in
+    omega (arith, figures.total-most (a .g) (a .packet .now) (a .p) (P))
 
 slice-aggregate-put-fragments : tie.Need-slice-aggregate-put-fragments
 slice-aggregate-put-fragments c =
-    let a = c .before .before .before .before .before .before .before .before .before .before .before .args in
-    sym (length-take-le _ _ (omega (arith, figures.total-most (a .g) (a .packet .now) (a .p) (c .before .before .before .before .before .before .before .before .before .before .before .pre))))
+    let A = c .before .before .before .before .before .before .before .before .before .before .before .args in
+    let P = c .before .before .before .before .before .before .before .before .before .before .before .pre in
+    let a = A in
+    sym (length-take-le _ _ (omega (arith, figures.total-most (a .g) (a .packet .now) (a .p) (P))))
 
 put-fragments-requires : tie.Need-put-fragments-requires
 put-fragments-requires c κs =
-    let a = c .before .before .before .before .before .before .before .before .before .before .before .before .args in
-    let size = figures.whole-is (a .g) (a .packet .now) (a .p) (c .before .before .before .before .before .before .before .before .before .before .before .before .pre) _ (c .before .before .before .before .before .before .before .before .payload-length .ensures .0) (a .number) in
-    (c .before .before .before .before .before .before .before .before .before .before .before .before .pre, figures.handed (a .g) (a .packet .now) (a .p) (c .before .before .before .before .before .before .before .before .before .before .before .before .pre) _ (c .before .before .before .lay-block .ensures), omega (arith, size, c .before .before .before .before .before .if1 .left))
+    let A = c .before .before .before .before .before .before .before .before .before .before .before .before .args in
+    let P = c .before .before .before .before .before .before .before .before .before .before .before .before .pre in
+    let Payload-length = c .before .before .before .before .before .before .before .before .payload-length in
+    let a = A in
+    let size = figures.whole-is (a .g) (a .packet .now) (a .p) (P) _ (Payload-length .ensures .0) (a .number) in (
+      P,
+      figures.handed (a .g) (a .packet .now) (a .p) (P) _ (c .before .before .before .lay-block .ensures),
+      omega (arith, size, c .before .before .before .before .before .if1 .left),
+    )
 
 same-length : tie.Need-same-length
 same-length c = search needs
@@ -76,10 +98,15 @@ same-length c = search needs
 returns-2 : tie.Need-returns-2
 unfolding allNumber
 returns-2 c =
-    let a = c .before .before .before .before .before .before .before .before .before .before .before .before .before .before .before .args in
-    let size = figures.whole-is (a .g) (a .packet .now) (a .p) (c .before .before .before .before .before .before .before .before .before .before .before .before .before .before .before .pre) _ (c .before .before .before .before .before .before .before .before .before .before .before .payload-length .ensures .0) (a .number) in
-    let values = figures.split-is (a .g) (a .packet .now) (a .p) (c .before .before .before .before .before .before .before .before .before .before .before .before .before .before .before .pre) _ (c .before .before .before .before .before .before .before .before .before .before .before .payload-length .ensures .0) in
-    cases.all-done (a .g) (a .number) (a .packet .now) (a .out .now) (c .before .before .before .before .before .before .before .before .before .before .before .before .before .before .before .pre .passed) _ _ values (omega (arith, size, c .before .before .before .before .before .before .before .before .if1 .left)) (c .before .before .put-fragments .ensures)
+    let A = c .before .before .before .before .before .before .before .before .before .before .before .before .before .before .before .args in
+    let P = c .before .before .before .before .before .before .before .before .before .before .before .before .before .before .before .pre in
+    let Payload-length = c .before .before .before .before .before .before .before .before .before .before .before .payload-length in
+    let If1 = c .before .before .before .before .before .before .before .before .if1 in
+    let a = A in
+    let size = figures.whole-is (a .g) (a .packet .now) (a .p) (P) _ (Payload-length .ensures .0) (a .number) in
+    let values = figures.split-is (a .g) (a .packet .now) (a .p) (P) _ (Payload-length .ensures .0) in
+    cases.all-done (a .g) (a .number) (a .packet .now) (a .out .now) (P .passed) _ _ values (omega (arith, size, If1 .left))
+    (c .before .before .put-fragments .ensures)
 
 pub send-all-spec : {M : Type 1} → statement M
 send-all-spec =

@@ -7,8 +7,9 @@ use Rattle.sender.proofs.parts.header_of.Tie as tie
 
 cast-t7 : tie.Need-cast-t7
 cast-t7 c =
+    let P = c .before .pre in
     let a = c .before .args in
-    omega (arith, c .before .pre .1, figures.is-f (a .g) (a .packet .now) (a .p) (c .before .pre .0), figures.f-most (a .g) (a .packet .now) (a .p) (c .before .pre .0))
+    omega (arith, P .1, figures.is-f (a .g) (a .packet .now) (a .p) (P .0), figures.f-most (a .g) (a .packet .now) (a .p) (P .0))
 
 cast-t8 : tie.Need-cast-t8
 cast-t8 c =
@@ -36,7 +37,8 @@ cast-t12 c = search needs
 returns : tie.Need-returns
 returns c =
     let a = c .before .before .before .before .before .args in
-    figures.headed (a .g) (a .packet .now) (a .p) (c .before .before .before .before .before .pre .0) (a .number) (a .i) _ (c .payload-length .ensures .0)
+    figures.headed (a .g) (a .packet .now) (a .p) (c .before .before .before .before .before .pre .0) (a .number) (a .i) _
+    (c .payload-length .ensures .0)
 
 pub header-of-spec : {M : Type 1} → statement M
 header-of-spec =

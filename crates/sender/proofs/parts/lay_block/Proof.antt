@@ -15,8 +15,10 @@ same-length c = search needs
 
 returns : tie.Need-returns
 returns c =
-    let a = c .before .before .before .before .before .before .before .args in
-    λ (fec : a .g .fec ≡ true). block-laid (a .g) (a .packet .now) (a .p) (c .before .before .before .before .before .before .before .pre .0) fec (a .block .now) _ _ (c .before .before .before .before .before .before .before .pre .1) (c .before .before .encode .ensures)
+    let A = c .before .before .before .before .before .before .before .args in
+    let P = c .before .before .before .before .before .before .before .pre in
+    let a = A in
+    λ (fec : a .g .fec ≡ true). block-laid (a .g) (a .packet .now) (a .p) (P .0) fec (a .block .now) _ _ (P .1) (c .before .before .encode .ensures)
 
 returns-2 : tie.Need-returns-2
 returns-2 c = λ (fec : c .before .before .before .args .g .fec ≡ true). clash fec (c .if1 .left)

@@ -12,8 +12,11 @@ write-header-requires c κs = search needs
 
 sub-put-payload : tie.Need-sub-put-payload
 sub-put-payload c =
-    let a = c .before .before .before .before .before .before .before .before .args in
-    behind-header (a .g) (a .packet .now) (a .p) (c .before .before .before .before .before .before .before .before .pre .0) (a .out .now) _ _ _ (a .number) (a .i) (c .before .before .before .before .header-of .ensures) (c .before .before .before .before .before .before .before .before .pre .3) (c .before .before .write-header .ensures)
+    let A = c .before .before .before .before .before .before .before .before .args in
+    let P = c .before .before .before .before .before .before .before .before .pre in
+    let a = A in
+    behind-header (a .g) (a .packet .now) (a .p) (P .0) (a .out .now) _ _ _ (a .number) (a .i)
+    (c .before .before .before .before .header-of .ensures) (P .3) (c .before .before .write-header .ensures)
 
 part-put-payload-start : tie.Need-part-put-payload-start
 part-put-payload-start c = sub-put-payload c
@@ -23,16 +26,28 @@ part-put-payload-end c = search needs
 
 put-payload-requires : tie.Need-put-payload-requires
 put-payload-requires c κs =
-    let a = c .before .before .before .before .before .before .before .before .before .args in
-    (c .before .before .before .before .before .before .before .before .before .pre .0, c .before .before .before .before .before .before .before .before .before .pre .1, c .before .before .before .before .before .before .before .before .before .pre .2, room-behind (a .g) (a .packet .now) (a .p) (c .before .before .before .before .before .before .before .before .before .pre .0) (a .out .now) _ _ _ (a .number) (a .i) (c .before .before .before .before .before .header-of .ensures) (c .before .before .before .before .before .before .before .before .before .pre .3) (c .before .before .before .write-header .ensures))
+    let A = c .before .before .before .before .before .before .before .before .before .args in
+    let P = c .before .before .before .before .before .before .before .before .before .pre in
+    let a = A in (
+      P .0,
+      P .1,
+      P .2,
+      room-behind (a .g) (a .packet .now) (a .p) (P .0) (a .out .now) _ _ _ (a .number) (a .i)
+          (c .before .before .before .before .before .header-of .ensures) (P .3) (c .before .before .before .write-header .ensures),
+    )
 
 same-length : tie.Need-same-length
 same-length c = search needs
 
 returns : tie.Need-returns
 returns c =
-    let a = c .before .before .before .before .before .before .before .before .before .before .before .before .args in
-    fragment-laid (a .g) (a .packet .now) (a .p) (c .before .before .before .before .before .before .before .before .before .before .before .before .pre .0) (a .out .now) _ _ _ (a .number) (a .i) (c .before .before .before .before .before .before .before .before .header-of .ensures) (c .before .before .before .before .before .before .before .before .before .before .before .before .pre .3) (c .before .before .before .before .before .before .write-header .ensures) _ (c .before .before .put-payload .ensures)
+    let A = c .before .before .before .before .before .before .before .before .before .before .before .before .args in
+    let P = c .before .before .before .before .before .before .before .before .before .before .before .before .pre in
+    let Header-of = c .before .before .before .before .before .before .before .before .header-of in
+    let Write-header = c .before .before .before .before .before .before .write-header in
+    let a = A in
+    fragment-laid (a .g) (a .packet .now) (a .p) (P .0) (a .out .now) _ _ _ (a .number) (a .i) (Header-of .ensures) (P .3)
+    (Write-header .ensures) _ (c .before .before .put-payload .ensures)
 
 pub put-fragment-spec : {M : Type 1} → statement M
 put-fragment-spec =

@@ -19,8 +19,9 @@ abbrev μ-loop : tie.MeasureT-loop
 
 add-step : tie.Need-add-step Inv-loop μ-loop
 add-step c =
+    let P = c .before .before .before .before .pre in
     let a = c .before .before .before .before .args in
-    omega (arith, figures.h-most (a .g) (a .packet .now) (a .p) (c .before .before .before .before .pre .0), figures.s-most (a .g) (a .packet .now) (a .p) (c .before .before .before .before .pre .0))
+    omega (arith, figures.h-most (a .g) (a .packet .now) (a .p) (P .0), figures.s-most (a .g) (a .packet .now) (a .p) (P .0))
 
 loop-holds : tie.Need-loop-holds Inv-loop μ-loop
 loop-holds c =
@@ -29,9 +30,13 @@ loop-holds c =
 
 sub-put-fragment : tie.Need-sub-put-fragment Inv-loop μ-loop
 sub-put-fragment c =
-    let a = c .before .before .before .before .before .before .args in
-    let inv = c .before .loop .inv in
-    run.run-start (a .g) (a .packet .now) (a .p) (c .before .before .before .before .before .before .pre .0) (a .number) (a .out .now) (c .before .before .before .before .before .before .pre .2) (c .before .loop .i) (c .before .loop .at) (c .before .loop .out) (c .loop-test .taken) (inv .1) (inv .2)
+    let A = c .before .before .before .before .before .before .args in
+    let P = c .before .before .before .before .before .before .pre in
+    let L = c .before .loop in
+    let a = A in
+    let inv = L .inv in
+    run.run-start (a .g) (a .packet .now) (a .p) (P .0) (a .number) (a .out .now) (P .2) (L .i) (L .at) (L .out) (c .loop-test .taken) (inv .1)
+    (inv .2)
 
 part-put-fragment-start : tie.Need-part-put-fragment-start Inv-loop μ-loop
 part-put-fragment-start c = sub-put-fragment c
@@ -41,44 +46,72 @@ part-put-fragment-end c = search needs
 
 put-fragment-requires : tie.Need-put-fragment-requires Inv-loop μ-loop
 put-fragment-requires c κs =
-    let a = c .before .before .before .before .before .before .before .args in
-    let inv = c .before .before .loop .inv in
-    let room = run.run-room (a .g) (a .packet .now) (a .p) (c .before .before .before .before .before .before .before .pre .0) (a .number) (a .out .now) (c .before .before .before .before .before .before .before .pre .2) (c .before .before .loop .i) (c .before .before .loop .at) (c .before .before .loop .out) (c .before .loop-test .taken) (inv .1) (inv .2) in
-    (c .before .before .before .before .before .before .before .pre .0, c .before .before .before .before .before .before .before .pre .1, omega (arith, c .before .loop-test .taken, figures.is-f (a .g) (a .packet .now) (a .p) (c .before .before .before .before .before .before .before .pre .0)), room)
+    let A = c .before .before .before .before .before .before .before .args in
+    let P = c .before .before .before .before .before .before .before .pre in
+    let L = c .before .before .loop in
+    let Loop-test = c .before .loop-test in
+    let a = A in
+    let inv = L .inv in
+    let room = run.run-room (a .g) (a .packet .now) (a .p) (P .0) (a .number) (a .out .now) (P .2) (L .i) (L .at) (L .out) (Loop-test .taken)
+    (inv .1) (inv .2) in
+    (P .0, P .1, omega (arith, Loop-test .taken, figures.is-f (a .g) (a .packet .now) (a .p) (P .0)), room)
 
 add-at : tie.Need-add-at Inv-loop μ-loop
 add-at c =
-    let a = c .before .before .before .before .before .before .before .before .before .before .args in
-    let d = c .before .before .before .before .before .before .before .before .before .before .pre .0 in
-    let inv = c .before .before .before .before .before .loop .inv in
-    omega (arith, inv .1, figures.starts-most (a .g) (a .packet .now) (a .p) d (c .before .before .before .before .before .loop .i) (inv .0), figures.h-most (a .g) (a .packet .now) (a .p) d, figures.s-most (a .g) (a .packet .now) (a .p) d)
+    let A = c .before .before .before .before .before .before .before .before .before .before .args in
+    let P = c .before .before .before .before .before .before .before .before .before .before .pre in
+    let L = c .before .before .before .before .before .loop in
+    let a = A in
+    let d = P .0 in
+    let inv = L .inv in
+    omega (
+      arith,
+      inv .1,
+      figures.starts-most (a .g) (a .packet .now) (a .p) d (L .i) (inv .0),
+      figures.h-most (a .g) (a .packet .now) (a .p) d,
+      figures.s-most (a .g) (a .packet .now) (a .p) d,
+    )
 
 add-i : tie.Need-add-i Inv-loop μ-loop
 add-i c =
-    let a = c .before .before .before .before .before .before .before .before .before .before .args in
-    omega (arith, c .before .before .before .before .loop-test .taken, figures.f-most (a .g) (a .packet .now) (a .p) (c .before .before .before .before .before .before .before .before .before .before .pre .0))
+    let A = c .before .before .before .before .before .before .before .before .before .before .args in
+    let P = c .before .before .before .before .before .before .before .before .before .before .pre in
+    let a = A in
+    omega (arith, c .before .before .before .before .loop-test .taken, figures.f-most (a .g) (a .packet .now) (a .p) (P .0))
 
 loop-less : tie.Need-loop-less Inv-loop μ-loop
 loop-less c = omega (arith, c .before .before .before .before .loop-test .taken)
 
 loop-again : tie.Need-loop-again Inv-loop μ-loop
 loop-again c =
-    let a = c .before .before .before .before .before .before .before .before .before .before .args in
-    let inv = c .before .before .before .before .before .loop .inv in
-    let more = run.run-more (a .g) (a .packet .now) (a .p) (c .before .before .before .before .before .before .before .before .before .before .pre .0) (a .number) (a .out .now) (c .before .before .before .before .before .before .before .before .before .before .pre .2) (c .before .before .before .before .before .loop .i) (c .before .before .before .before .before .loop .at) (c .before .before .before .before .before .loop .out) (c .before .before .before .before .loop-test .taken) (inv .1) (inv .2) _ (c .before .before .put-fragment .ensures) in
-    (omega (arith, c .before .before .before .before .loop-test .taken), omega (arith, inv .1), more)
+    let A = c .before .before .before .before .before .before .before .before .before .before .args in
+    let P = c .before .before .before .before .before .before .before .before .before .before .pre in
+    let L = c .before .before .before .before .before .loop in
+    let Loop-test = c .before .before .before .before .loop-test in
+    let a = A in
+    let inv = L .inv in
+    let more = run.run-more (a .g) (a .packet .now) (a .p) (P .0) (a .number) (a .out .now) (P .2) (L .i) (L .at) (L .out) (Loop-test .taken)
+    (inv .1) (inv .2) _ (c .before .before .put-fragment .ensures) in
+    (omega (arith, Loop-test .taken), omega (arith, inv .1), more)
 
 same-length : tie.Need-same-length Inv-loop μ-loop
 same-length c =
-    let a = c .before .before .before .before .before .before .args in
-    let inv = c .before .loop .inv in
-    run.whole-length (a .g) (a .packet .now) (a .p) (c .before .before .before .before .before .before .pre .0) (a .number) (a .out .now) (c .before .before .before .before .before .before .pre .2) (c .before .loop .out) (run.run-whole (a .g) (a .packet .now) (a .p) (c .before .before .before .before .before .before .pre .0) (a .number) (a .out .now) (c .before .loop .i) (c .before .loop .out) (inv .0) (c .loop-test .left) (inv .2))
+    let A = c .before .before .before .before .before .before .args in
+    let P = c .before .before .before .before .before .before .pre in
+    let L = c .before .loop in
+    let a = A in
+    let inv = L .inv in
+    run.whole-length (a .g) (a .packet .now) (a .p) (P .0) (a .number) (a .out .now) (P .2) (L .out)
+    (run.run-whole (a .g) (a .packet .now) (a .p) (P .0) (a .number) (a .out .now) (L .i) (L .out) (inv .0) (c .loop-test .left) (inv .2))
 
 returns : tie.Need-returns Inv-loop μ-loop
 returns c =
-    let a = c .before .before .before .before .before .before .args in
-    let inv = c .before .loop .inv in
-    run.run-whole (a .g) (a .packet .now) (a .p) (c .before .before .before .before .before .before .pre .0) (a .number) (a .out .now) (c .before .loop .i) (c .before .loop .out) (inv .0) (c .loop-test .left) (inv .2)
+    let A = c .before .before .before .before .before .before .args in
+    let P = c .before .before .before .before .before .before .pre in
+    let L = c .before .loop in
+    let a = A in
+    let inv = L .inv in
+    run.run-whole (a .g) (a .packet .now) (a .p) (P .0) (a .number) (a .out .now) (L .i) (L .out) (inv .0) (c .loop-test .left) (inv .2)
 
 pub put-fragments-spec : {M : Type 1} → statement M
 put-fragments-spec =

@@ -14,22 +14,28 @@ same-length c = search needs
 
 returns : tie.Need-returns
 returns c =
-    let a = c .before .before .before .before .before .before .before .before .args in
+    let A = c .before .before .before .before .before .before .before .before .args in
+    let P = c .before .before .before .before .before .before .before .before .pre in
+    let a = A in
     let fec = c .before .before .before .before .if1 .taken in
-    interleaved (a .g) (a .packet .now) (a .p) (c .before .before .before .before .before .before .before .before .pre .0) fec (a .block .now) (a .out .now) _ _ (a .i) (c .before .before .before .before .before .before .before .before .pre .1 fec) (c .before .before .before .before .before .before .before .before .pre .2) (c .before .before .before .before .before .before .before .before .pre .3) (c .before .before .interleave .ensures)
+    interleaved (a .g) (a .packet .now) (a .p) (P .0) fec (a .block .now) (a .out .now) _ _ (a .i) (P .1 fec) (P .2) (P .3)
+    (c .before .before .interleave .ensures)
 
 mul-from : tie.Need-mul-from
 mul-from c =
+    let P = c .before .before .before .before .before .pre in
     let a = c .before .before .before .before .before .args in
-    omega (arith, start-within (a .g) (a .packet .now) (a .p) (c .before .before .before .before .before .pre .0) (a .i) (c .before .before .before .before .before .pre .2))
+    omega (arith, start-within (a .g) (a .packet .now) (a .p) (P .0) (a .i) (P .2))
 
 payload-length-requires : tie.Need-payload-length-requires
 payload-length-requires c κs = search needs
 
 add-end : tie.Need-add-end
 add-end c =
-    let a = c .before .before .before .before .before .before .args in
-    omega (arith, start-within (a .g) (a .packet .now) (a .p) (c .before .before .before .before .before .before .pre .0) (a .i) (c .before .before .before .before .before .before .pre .2), c .payload-length .ensures .1)
+    let A = c .before .before .before .before .before .before .args in
+    let P = c .before .before .before .before .before .before .pre in
+    let a = A in
+    omega (arith, start-within (a .g) (a .packet .now) (a .p) (P .0) (a .i) (P .2), c .payload-length .ensures .1)
 
 sub-put : tie.Need-sub-put
 sub-put c = search needs
@@ -39,8 +45,10 @@ part-put-start c = search needs
 
 part-put-end : tie.Need-part-put-end
 part-put-end c =
-    let a = c .before .before .before .before .before .before .before .args in
-    ends-plain (a .g) (a .packet .now) (a .p) (c .before .before .before .before .before .before .before .pre .0) (a .i) (c .before .before .before .if1 .left) _ (c .before .before .before .before .before .before .before .pre .2) (c .before .payload-length .ensures .0)
+    let A = c .before .before .before .before .before .before .before .args in
+    let P = c .before .before .before .before .before .before .before .pre in
+    let a = A in
+    ends-plain (a .g) (a .packet .now) (a .p) (P .0) (a .i) (c .before .before .before .if1 .left) _ (P .2) (c .before .payload-length .ensures .0)
 
 put-requires : tie.Need-put-requires
 put-requires c κs = search needs
@@ -50,8 +58,12 @@ same-length-2 c = search needs
 
 returns-2 : tie.Need-returns-2
 returns-2 c =
-    let a = c .before .before .before .before .before .before .before .before .before .before .before .args in
-    copied (a .g) (a .packet .now) (a .p) (c .before .before .before .before .before .before .before .before .before .before .before .pre .0) (a .out .now) _ _ (a .i) _ (c .before .before .before .before .before .before .before .if1 .left) (c .before .before .before .before .before .payload-length .ensures .0) (c .before .before .before .before .before .before .before .before .before .before .before .pre .3) (c .before .before .put .ensures)
+    let A = c .before .before .before .before .before .before .before .before .before .before .before .args in
+    let P = c .before .before .before .before .before .before .before .before .before .before .before .pre in
+    let If1 = c .before .before .before .before .before .before .before .if1 in
+    let a = A in
+    copied (a .g) (a .packet .now) (a .p) (P .0) (a .out .now) _ _ (a .i) _ (If1 .left)
+    (c .before .before .before .before .before .payload-length .ensures .0) (P .3) (c .before .before .put .ensures)
 
 pub put-payload-spec : {M : Type 1} → statement M
 put-payload-spec =

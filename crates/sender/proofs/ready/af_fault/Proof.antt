@@ -18,10 +18,13 @@ enum-told c = search needs
 returns : tie.Need-returns
 returns c =
     let told = c .before .checked .given in
-    af-refused (c .before .before .before .before .before .args .packet .now) (told .0 .0) (sym (ap numberOf (told .1)) ∙ c .before .before .before .check .ensures)
+    af-refused (c .before .before .before .before .before .args .packet .now) (told .0 .0) (sym (ap numberOf (told .1))
+    ∙ c .before .before .before .check .ensures)
 
 returns-2 : tie.Need-returns-2
-returns-2 c = af-granted (c .before .before .before .before .args .packet .now) _ (sym (ap numberOf (c .enum-told .given .1)) ∙ c .before .before .check .ensures)
+returns-2 c =
+    af-granted (c .before .before .before .before .args .packet .now) _ (sym (ap numberOf (c .enum-told .given .1))
+    ∙ c .before .before .check .ensures)
 
 pub af-fault-spec : {M : Type 1} → statement M
 af-fault-spec = tie.close (tie.spec check-requires enum-known-checked enum-told returns returns-2)

@@ -27,7 +27,8 @@ read4-requires : tie.Need-read4-requires Inv-loop μ-loop
 read4-requires c κs = search needs
 
 returns : tie.Need-returns Inv-loop μ-loop
-returns c = sym (c .before .before .before .loop .inv ∙ left-here _ _ _ _ (c .before .before .loop-test .taken) (c .before .read4 .ensures) (c .if1 .taken))
+returns c =
+    sym (c .before .before .before .loop .inv ∙ left-here _ _ _ _ (c .before .before .loop-test .taken) (c .before .read4 .ensures) (c .if1 .taken))
 
 add-j : tie.Need-add-j Inv-loop μ-loop
 add-j c = search needs
@@ -36,7 +37,8 @@ loop-less : tie.Need-loop-less Inv-loop μ-loop
 loop-less c = search needs
 
 loop-again : tie.Need-loop-again Inv-loop μ-loop
-loop-again c = c .before .before .before .loop .inv ∙ left-next _ _ _ _ (c .before .before .loop-test .taken) (c .before .read4 .ensures) (c .if1 .left)
+loop-again c =
+    c .before .before .before .loop .inv ∙ left-next _ _ _ _ (c .before .before .loop-test .taken) (c .before .read4 .ensures) (c .if1 .left)
 
 returns-2 : tie.Need-returns-2 Inv-loop μ-loop
 returns-2 c = sym (c .before .loop .inv ∙ left-none _ _ _ (c .loop-test .left))

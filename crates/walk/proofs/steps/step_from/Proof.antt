@@ -58,7 +58,8 @@ returns c =
     let l = k .before .before .before .before in
     let a = l .before .before .before .before .args in
     sym (ap (λ (d : ℕ). stepFrom (now (a .s)) (namesOf (now (a .names))) (a .from) d (a .t5)) (sym (l .before .lesser .ensures)) ∙ l .loop .inv .1
-    ∙ step-item (now (a .s)) (namesOf (now (a .names))) (l .loop .at) (a .t5) (l .loop .d) _ _ _ (k .before .before .before .lesser2 .ensures) e (c .goes-on .ensures))
+    ∙ step-item (now (a .s)) (namesOf (now (a .names))) (l .loop .at) (a .t5) (l .loop .d) _ _ _ (k .before .before .before .lesser2 .ensures) e
+    (c .goes-on .ensures))
 
 enum-known-step-2 : tie.Need-enum-known-step-2 Inv-loop μ-loop
 enum-known-step-2 c = search needs
@@ -76,7 +77,8 @@ returns-2 c =
     let a = l .before .before .before .before .args in
     c .stays .ensures
     ∙ sym (ap (λ (d : ℕ). stepFrom (now (a .s)) (namesOf (now (a .names))) (a .from) d (a .t5)) (sym (l .before .lesser .ensures)) ∙ l .loop .inv .1
-    ∙ step-end (now (a .s)) (namesOf (now (a .names))) (l .loop .at) (a .t5) (l .loop .d) _ _ (k .before .before .before .lesser2 .ensures) e (omega (arith, at-end .if1 .taken)))
+    ∙ step-end (now (a .s)) (namesOf (now (a .names))) (l .loop .at) (a .t5) (l .loop .d) _ _ (k .before .before .before .lesser2 .ensures) e
+    (omega (arith, at-end .if1 .taken)))
 
 sub-d : tie.Need-sub-d Inv-loop μ-loop
 sub-d c = search needs
@@ -90,8 +92,11 @@ loop-again c =
     let k = c .before .before in
     let e = sym (k .before .before .step-in .ensures) ∙ k .step2 .given .1 in
     let l = k .before .before .before .before in
-    let a = l .before .before .before .before .args in
-    (omega arith, l .loop .inv .1 ∙ step-up (now (a .s)) (namesOf (now (a .names))) (l .loop .at) (a .t5) (l .loop .d) _ _ (k .before .before .before .lesser2 .ensures) e (c .if1 .left))
+    let a = l .before .before .before .before .args in (
+      omega arith,
+      l .loop .inv .1 ∙ step-up (now (a .s)) (namesOf (now (a .names))) (l .loop .at) (a .t5) (l .loop .d) _ _
+          (k .before .before .before .lesser2 .ensures) e (c .if1 .left),
+    )
 
 enum-known-step-3 : tie.Need-enum-known-step-3 Inv-loop μ-loop
 enum-known-step-3 c = search needs

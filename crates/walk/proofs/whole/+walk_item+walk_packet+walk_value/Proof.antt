@@ -17,7 +17,8 @@ use Rattle.item_rules.proofs.Steps.{item-fits}
 use Rattle.item_rules.proofs.Runs.{item-begins, falls as falls-short}
 use Rattle.item_rules.proofs.Seen.{seen-none}
 use Rattle.walk_rules.specs.Names.{deepest, namesOf}
-use Rattle.walk_rules.proofs.Refusals.{own-first, not-whole, too-deep, no-fault, container-whole, no-container, own, contents, no-contents, one-deeper, WalkSeen, walk-ends, walk-refused, walk-turn, walk-stops}
+use Rattle.walk_rules.proofs.Refusals.{own-first, not-whole, too-deep, no-fault, container-whole, no-container, own, contents, no-contents}
+use Rattle.walk_rules.proofs.Refusals.{one-deeper, WalkSeen, walk-ends, walk-refused, walk-turn, walk-stops}
 use borrow.Fn.Kinds.{In}
 use borrow.Fn.PlainCycle.{Measures, is, falls, and}
 use Rattle.walk.proofs.whole.walk_item.Reads as walk-item
@@ -114,7 +115,8 @@ walk-item-returns-2 t c =
     let k = c .before .before .before in
     let a = k .before .before .before .before .before .args in
     let b = stood (a .s .now) (a .from) (a .end) (a .mark) (a .i) in
-    own _ _ _ b _ _ _ (not-whole _ _ b _ _ (k .before .before .fault-of .ensures) (k .before .if1 .left) (sym (k .is-container .ensures) ∙ c .before .before .if2 .taken) (λ z. omega (arith, z, c .if3 .taken))) (eqb-false 35 0 refl)
+    own _ _ _ b _ _ _ (not-whole _ _ b _ _ (k .before .before .fault-of .ensures) (k .before .if1 .left) (sym (k .is-container .ensures)
+    ∙ c .before .before .if2 .taken) (λ z. omega (arith, z, c .if3 .taken))) (eqb-false 35 0 refl)
 
 -- behind the test of 35, whichever way it came: no container that is not whole bytes
 whole-by : (t : ℕ) (c : walk-item-lts.Joined2 (item-calls t) (walk-item-at t) walk-item.Post)
@@ -130,7 +132,8 @@ walk-item-returns-3 t c =
     let k = c .before .before in
     let a = k .before .before .before .before .before .args in
     let b = stood (a .s .now) (a .from) (a .end) (a .mark) (a .i) in
-    own _ _ _ b _ _ _ (too-deep _ _ b _ _ (k .before .before .fault-of .ensures) (k .before .if1 .left) (whole-by t (c .before)) (omega (arith, c .if4 .taken))) (eqb-false 32 0 refl)
+    own _ _ _ b _ _ _ (too-deep _ _ b _ _ (k .before .before .fault-of .ensures) (k .before .if1 .left) (whole-by t (c .before))
+    (omega (arith, c .if4 .taken))) (eqb-false 32 0 refl)
 
 walk-item-walk-value-requires : (t : ℕ) → walk-item-lts.Need-walk-value-requires (item-calls t) (walk-item-at t) walk-item.Post
 walk-item-walk-value-requires t c κs =
@@ -142,42 +145,53 @@ walk-item-returns-4 t c =
     let k = c .before .before .before .before in
     let a = k .before .before .before .before .before .args in
     let b = stood (a .s .now) (a .from) (a .end) (a .mark) (a .i) in
-    let z = no-fault _ (a .depth) b _ _ (k .before .before .fault-of .ensures) (k .before .if1 .left) (whole-by t (c .before .before .before)) (omega (arith, c .before .before .if4 .left)) in
-    contents _ _ _ b _ _ z (sym (k .is-container .ensures) ∙ c .before .if5 .taken) (omega (arith, c .before .before .if4 .left)) (c .walk-value .ensures)
+    let z = no-fault _ (a .depth) b _ _ (k .before .before .fault-of .ensures) (k .before .if1 .left) (whole-by t (c .before .before .before))
+    (omega (arith, c .before .before .if4 .left)) in
+    contents _ _ _ b _ _ z (sym (k .is-container .ensures) ∙ c .before .if5 .taken) (omega (arith, c .before .before .if4 .left))
+    (c .walk-value .ensures)
 
 walk-item-returns-5 : (t : ℕ) → walk-item-lts.Need-returns-5 (item-calls t) (walk-item-at t) walk-item.Post
 walk-item-returns-5 t c =
     let k = c .before .before .before in
     let a = k .before .before .before .before .before .args in
     let b = stood (a .s .now) (a .from) (a .end) (a .mark) (a .i) in
-    let z = no-fault _ (a .depth) b _ _ (k .before .before .fault-of .ensures) (k .before .if1 .left) (whole-by t (c .before .before)) (omega (arith, c .before .if4 .left)) in
+    let z = no-fault _ (a .depth) b _ _ (k .before .before .fault-of .ensures) (k .before .if1 .left) (whole-by t (c .before .before))
+    (omega (arith, c .before .if4 .left)) in
     no-contents _ _ _ b _ z (sym (k .is-container .ensures) ∙ c .if5 .left) (omega (arith, c .before .if4 .left))
 
 abbrev walk-packet-Inv-loop : walk-packet-lts.InvT-loop
-walk-packet-Inv-loop s names from end depth marks₀ at₀ marks at = (from ≤ at) × WalkSeen (deepest + 1 - depth) s (namesOf names) depth from end marks at
+walk-packet-Inv-loop s names from end depth marks₀ at₀ marks at = (from ≤ at)
+    × WalkSeen (deepest + 1 - depth) s (namesOf names) depth from end marks at
 
 abbrev walk-packet-μ-loop : walk-packet-lts.MeasureT-loop
 walk-packet-μ-loop s names from end depth marks₀ at₀ marks at = end - at
 
-walk-packet-no-marks-requires : (t : ℕ) → walk-packet-lts.Need-no-marks-requires (packet-calls t) (walk-packet-at t) walk-packet.Post walk-packet-Inv-loop walk-packet-μ-loop
+walk-packet-no-marks-requires : (t : ℕ) → walk-packet-lts.Need-no-marks-requires (packet-calls t)
+    (walk-packet-at t) walk-packet.Post walk-packet-Inv-loop walk-packet-μ-loop
 walk-packet-no-marks-requires t c κs = search needs
 
-walk-packet-loop-holds : (t : ℕ) → walk-packet-lts.Need-loop-holds (packet-calls t) (walk-packet-at t) walk-packet.Post walk-packet-Inv-loop walk-packet-μ-loop
+walk-packet-loop-holds : (t : ℕ) → walk-packet-lts.Need-loop-holds (packet-calls t)
+    (walk-packet-at t) walk-packet.Post walk-packet-Inv-loop walk-packet-μ-loop
 walk-packet-loop-holds t c = (omega arith, seen-none _ _ _ _ _ (ap length (c .no-marks .ensures) ∙ length-replicate slots false))
 
-walk-packet-step-in-requires : (t : ℕ) → walk-packet-lts.Need-step-in-requires (packet-calls t) (walk-packet-at t) walk-packet.Post walk-packet-Inv-loop walk-packet-μ-loop
+walk-packet-step-in-requires : (t : ℕ) → walk-packet-lts.Need-step-in-requires (packet-calls t)
+    (walk-packet-at t) walk-packet.Post walk-packet-Inv-loop walk-packet-μ-loop
 walk-packet-step-in-requires t c κs = search needs
 
-walk-packet-enum-known-step : (t : ℕ) → walk-packet-lts.Need-enum-known-step (packet-calls t) (walk-packet-at t) walk-packet.Post walk-packet-Inv-loop walk-packet-μ-loop
+walk-packet-enum-known-step : (t : ℕ) → walk-packet-lts.Need-enum-known-step (packet-calls t)
+    (walk-packet-at t) walk-packet.Post walk-packet-Inv-loop walk-packet-μ-loop
 walk-packet-enum-known-step t c = search needs
 
-walk-packet-slot-requires : (t : ℕ) → walk-packet-lts.Need-slot-requires (packet-calls t) (walk-packet-at t) walk-packet.Post walk-packet-Inv-loop walk-packet-μ-loop
+walk-packet-slot-requires : (t : ℕ) → walk-packet-lts.Need-slot-requires (packet-calls t)
+    (walk-packet-at t) walk-packet.Post walk-packet-Inv-loop walk-packet-μ-loop
 walk-packet-slot-requires t c κs = search needs
 
-walk-packet-array-read-walk-item : (t : ℕ) → walk-packet-lts.Need-array-read-walk-item (packet-calls t) (walk-packet-at t) walk-packet.Post walk-packet-Inv-loop walk-packet-μ-loop
+walk-packet-array-read-walk-item : (t : ℕ) → walk-packet-lts.Need-array-read-walk-item (packet-calls t)
+    (walk-packet-at t) walk-packet.Post walk-packet-Inv-loop walk-packet-μ-loop
 walk-packet-array-read-walk-item t c = omega (arith, c .slot .ensures .1, c .before .before .before .before .before .loop .inv .1 .long)
 
-walk-packet-walk-item-requires : (t : ℕ) → walk-packet-lts.Need-walk-item-requires (packet-calls t) (walk-packet-at t) walk-packet.Post walk-packet-Inv-loop walk-packet-μ-loop
+walk-packet-walk-item-requires : (t : ℕ) → walk-packet-lts.Need-walk-item-requires (packet-calls t)
+    (walk-packet-at t) walk-packet.Post walk-packet-Inv-loop walk-packet-μ-loop
 walk-packet-walk-item-requires t c κs =
     let k = c .before .before in
     let e = sym (k .before .before .step-in .ensures) ∙ k .step .given .1 in
@@ -187,44 +201,61 @@ walk-packet-walk-item-requires t c κs =
     let q = k .before .before .before .before .before .before .before .pre .0 in
     (omega arith, (omega arith, omega arith))
 
-walk-packet-returns : (t : ℕ) → walk-packet-lts.Need-returns (packet-calls t) (walk-packet-at t) walk-packet.Post walk-packet-Inv-loop walk-packet-μ-loop
+walk-packet-returns : (t : ℕ) → walk-packet-lts.Need-returns (packet-calls t)
+    (walk-packet-at t) walk-packet.Post walk-packet-Inv-loop walk-packet-μ-loop
 walk-packet-returns t c =
     let k = c .before .before .before .before in
     walk-stops _ _ _ _ _ _ _ _ (k .before .before .before .loop .inv .1) _ (sym (k .before .before .step-in .ensures) ∙ k .step .given .1) _ _
     (c .before .before .slot .ensures .0) (c .before .walk-item .ensures) (c .if1 .taken)
 
-walk-packet-array-write-marks : (t : ℕ) → walk-packet-lts.Need-array-write-marks (packet-calls t) (walk-packet-at t) walk-packet.Post walk-packet-Inv-loop walk-packet-μ-loop
-walk-packet-array-write-marks t c = omega (arith, c .before .before .slot .ensures .1, c .before .before .before .before .before .before .before .loop .inv .1 .long)
+walk-packet-array-write-marks : (t : ℕ) → walk-packet-lts.Need-array-write-marks (packet-calls t)
+    (walk-packet-at t) walk-packet.Post walk-packet-Inv-loop walk-packet-μ-loop
+walk-packet-array-write-marks t c = omega (
+  arith,
+  c .before .before .slot .ensures .1,
+  c .before .before .before .before .before .before .before .loop .inv .1 .long,
+)
 
-walk-packet-add-at : (t : ℕ) → walk-packet-lts.Need-add-at (packet-calls t) (walk-packet-at t) walk-packet.Post walk-packet-Inv-loop walk-packet-μ-loop
+walk-packet-add-at : (t : ℕ) → walk-packet-lts.Need-add-at (packet-calls t)
+    (walk-packet-at t) walk-packet.Post walk-packet-Inv-loop walk-packet-μ-loop
 walk-packet-add-at t c =
     let k = c .before .before .before .before .before in
     let e = sym (k .before .before .step-in .ensures) ∙ k .step .given .1 in
     omega (arith, item-fits _ _ _ _ e, item-begins _ _ _ _ e)
 
-walk-packet-loop-less : (t : ℕ) → walk-packet-lts.Need-loop-less (packet-calls t) (walk-packet-at t) walk-packet.Post walk-packet-Inv-loop walk-packet-μ-loop
+walk-packet-loop-less : (t : ℕ) → walk-packet-lts.Need-loop-less (packet-calls t)
+    (walk-packet-at t) walk-packet.Post walk-packet-Inv-loop walk-packet-μ-loop
 walk-packet-loop-less t c =
     let k = c .before .before .before .before .before in
     omega (arith, falls-short _ _ _ _ (sym (k .before .before .step-in .ensures) ∙ k .step .given .1))
 
-walk-packet-loop-again : (t : ℕ) → walk-packet-lts.Need-loop-again (packet-calls t) (walk-packet-at t) walk-packet.Post walk-packet-Inv-loop walk-packet-μ-loop
+walk-packet-loop-again : (t : ℕ) → walk-packet-lts.Need-loop-again (packet-calls t)
+    (walk-packet-at t) walk-packet.Post walk-packet-Inv-loop walk-packet-μ-loop
 walk-packet-loop-again t c =
     let k = c .before .before .before .before .before in
     let e = sym (k .before .before .step-in .ensures) ∙ k .step .given .1 in
     let v = k .before .before .before .loop .inv in
-    let b = item-begins _ _ _ _ e in
-    (omega (arith, v .0), walk-turn _ _ _ _ _ _ _ _ (v .1) _ e _ _ (c .before .before .before .slot .ensures .0) (c .before .before .walk-item .ensures) (c .before .if1 .left))
+    let b = item-begins _ _ _ _ e in (
+      omega (arith, v .0),
+      walk-turn _ _ _ _ _ _ _ _ (v .1) _ e _ _ (c .before .before .before .slot .ensures .0)
+          (c .before .before .walk-item .ensures) (c .before .if1 .left),
+    )
 
-walk-packet-enum-told : (t : ℕ) → walk-packet-lts.Need-enum-told (packet-calls t) (walk-packet-at t) walk-packet.Post walk-packet-Inv-loop walk-packet-μ-loop
+walk-packet-enum-told : (t : ℕ) → walk-packet-lts.Need-enum-told (packet-calls t)
+    (walk-packet-at t) walk-packet.Post walk-packet-Inv-loop walk-packet-μ-loop
 walk-packet-enum-told t c = search needs
 
-walk-packet-returns-2 : (t : ℕ) → walk-packet-lts.Need-returns-2 (packet-calls t) (walk-packet-at t) walk-packet.Post walk-packet-Inv-loop walk-packet-μ-loop
-walk-packet-returns-2 t c = walk-ends _ _ _ _ _ _ _ _ (c .before .before .before .loop .inv .1) _ (sym (c .before .before .step-in .ensures) ∙ c .enum-told .given .1)
+walk-packet-returns-2 : (t : ℕ) → walk-packet-lts.Need-returns-2 (packet-calls t)
+    (walk-packet-at t) walk-packet.Post walk-packet-Inv-loop walk-packet-μ-loop
+walk-packet-returns-2 t c = walk-ends _ _ _ _ _ _ _ _ (c .before .before .before .loop .inv .1) _ (sym (c .before .before .step-in .ensures)
+    ∙ c .enum-told .given .1)
 
-walk-packet-enum-known-step-2 : (t : ℕ) → walk-packet-lts.Need-enum-known-step-2 (packet-calls t) (walk-packet-at t) walk-packet.Post walk-packet-Inv-loop walk-packet-μ-loop
+walk-packet-enum-known-step-2 : (t : ℕ) → walk-packet-lts.Need-enum-known-step-2 (packet-calls t)
+    (walk-packet-at t) walk-packet.Post walk-packet-Inv-loop walk-packet-μ-loop
 walk-packet-enum-known-step-2 t c = search needs
 
-walk-packet-returns-3 : (t : ℕ) → walk-packet-lts.Need-returns-3 (packet-calls t) (walk-packet-at t) walk-packet.Post walk-packet-Inv-loop walk-packet-μ-loop
+walk-packet-returns-3 : (t : ℕ) → walk-packet-lts.Need-returns-3 (packet-calls t)
+    (walk-packet-at t) walk-packet.Post walk-packet-Inv-loop walk-packet-μ-loop
 walk-packet-returns-3 t c =
     let k = c .before in
     walk-refused _ _ _ _ _ _ _ _ (k .before .before .before .loop .inv .1) _ (sym (k .before .before .step-in .ensures) ∙ k .step2 .given .1)

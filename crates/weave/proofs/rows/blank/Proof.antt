@@ -19,8 +19,13 @@ abbrev μ-loop : tie.MeasureT-loop
 μ-loop out₀ from to t₀ out t = to - t
 
 loop-holds : tie.Need-loop-holds Inv-loop μ-loop
-loop-holds c = let a = c .args in
-    (omega arith, omega arith, tables.filled-none rule 0 (a .out .now) (a .from) ∙ ap (λ (x : ℕ). splice (a .out .now) (a .from) (table rule 0 x)) (omega arith))
+loop-holds c =
+    let a = c .args in (
+      omega arith,
+      omega arith,
+      tables.filled-none rule 0 (a .out .now) (a .from)
+          ∙ ap (λ (x : ℕ). splice (a .out .now) (a .from) (table rule 0 x)) (omega arith),
+    )
 
 slice-write-out : tie.Need-slice-write-out Inv-loop μ-loop
 slice-write-out c = omega (arith, tables.filled-length _ 0 _ _ _ (c .before .loop .inv .2) (omega arith))
@@ -32,10 +37,16 @@ loop-less : tie.Need-loop-less Inv-loop μ-loop
 loop-less c = omega arith
 
 loop-again : tie.Need-loop-again Inv-loop μ-loop
-loop-again c = let a = c .before .before .args in
-    let n : ℕ = c .before .loop .t - a .from in
-    let e : n + 1 ≡ c .before .loop .t + 1 - a .from = omega arith in
-    (omega arith, omega arith, tables.filled-more rule 0 (a .out .now) (a .from) n (c .before .loop .inv .2) (omega arith) refl (omega arith) ∙ ap (λ (x : ℕ). splice (a .out .now) (a .from) (table rule 0 x)) e)
+loop-again c =
+    let L = c .before .loop in
+    let a = c .before .before .args in
+    let n : ℕ = L .t - a .from in
+    let e : n + 1 ≡ L .t + 1 - a .from = omega arith in (
+      omega arith,
+      omega arith,
+      tables.filled-more rule 0 (a .out .now) (a .from) n (L .inv .2) (omega arith) refl (omega arith)
+          ∙ ap (λ (x : ℕ). splice (a .out .now) (a .from) (table rule 0 x)) e,
+    )
 
 same-length : tie.Need-same-length Inv-loop μ-loop
 same-length c = tables.filled-length _ 0 _ _ _ (c .before .loop .inv .2) (omega arith)

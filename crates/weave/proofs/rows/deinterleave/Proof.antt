@@ -14,8 +14,10 @@ use Rattle.weave.proofs.rows.deinterleave.Tie as tie
 counted : (c : tie.Else1) → badCount (c .before .before .before .before .args .f) ≡ false
 counted c = told (c .before .bad-count .ensures) (c .if1 .left)
 
-placed : (c : tie.Else2) → tooMuch (c .before .before .before .before .before .before .args .f) (c .before .before .before .before .before .before .args .s) ≡ false
-placed c = told (c .before .too-much .ensures) (c .if2 .left)
+placed : (c : tie.Else2) → tooMuch (c .before .before .before .before .before .before .args .f)
+    (c .before .before .before .before .before .before .args .s) ≡ false
+placed c =
+    told (c .before .too-much .ensures) (c .if2 .left)
 
 bad-count-requires : tie.Need-bad-count-requires
 bad-count-requires c κs = search needs
@@ -49,8 +51,10 @@ returns-3 c =
 returns-4 : tie.Need-returns-4
 unfolding numberOf
 returns-4 c =
-    let a = c .before .before .before .before .before .before .before .before .args in
-    cases.cells-room (a .held .now) (a .out .now) (a .f) (a .s) (counted (c .before .before .before .before)) (placed (c .before .before)) (c .before .if3 .left) (c .if4 .taken)
+    let A = c .before .before .before .before .before .before .before .before .args in
+    let a = A in
+    cases.cells-room (a .held .now) (a .out .now) (a .f) (a .s) (counted (c .before .before .before .before)) (placed (c .before .before))
+    (c .before .if3 .left) (c .if4 .taken)
 
 lay-requires : tie.Need-lay-requires
 lay-requires c κs =
@@ -63,8 +67,11 @@ same-length c = search needs
 returns-5 : tie.Need-returns-5
 unfolding numberOf
 returns-5 c =
-    let a = c .before .before .before .before .before .before .before .before .before .before .before .before .args in
-    cases.cells-done (a .held .now) (a .out .now) (a .f) (a .s) (counted (c .before .before .before .before .before .before .before .before)) (placed (c .before .before .before .before .before .before)) (c .before .before .before .before .before .if3 .left) _ (c .before .before .before .before .if4 .left) (c .before .before .lay .ensures)
+    let A = c .before .before .before .before .before .before .before .before .before .before .before .before .args in
+    let Before = c .before .before .before .before .before .before .before .before in
+    let a = A in
+    cases.cells-done (a .held .now) (a .out .now) (a .f) (a .s) (counted (Before)) (placed (c .before .before .before .before .before .before))
+    (c .before .before .before .before .before .if3 .left) _ (c .before .before .before .before .if4 .left) (c .before .before .lay .ensures)
 
 pub deinterleave-spec : {M : Type 1} → statement M
 deinterleave-spec =

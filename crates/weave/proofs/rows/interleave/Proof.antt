@@ -14,8 +14,10 @@ use Rattle.weave.proofs.rows.interleave.Tie as tie
 counted : (c : tie.Else1) → badCount (c .before .before .before .before .args .f) ≡ false
 counted c = told (c .before .bad-count .ensures) (c .if1 .left)
 
-placed : (c : tie.Else2) → tooMuch (c .before .before .before .before .before .before .args .f) (c .before .before .before .before .before .before .args .s) ≡ false
-placed c = told (c .before .too-much .ensures) (c .if2 .left)
+placed : (c : tie.Else2) → tooMuch (c .before .before .before .before .before .before .args .f)
+    (c .before .before .before .before .before .before .args .s) ≡ false
+placed c =
+    told (c .before .too-much .ensures) (c .if2 .left)
 
 bad-count-requires : tie.Need-bad-count-requires
 bad-count-requires c κs = search needs
@@ -32,8 +34,10 @@ too-much-requires c κs = counted c
 returns-2 : tie.Need-returns-2
 unfolding numberOf
 returns-2 c =
-    let a = c .before .before .before .before .before .before .args in
-    cases.weave-8 (a .block .now) (a .out .now) (a .f) (a .s) (a .i) (counted (c .before .before)) (told (c .before .too-much .ensures) (c .if2 .taken))
+    let A = c .before .before .before .before .before .before .args in
+    let a = A in
+    cases.weave-8 (a .block .now) (a .out .now) (a .f) (a .s) (a .i) (counted (c .before .before))
+    (told (c .before .too-much .ensures) (c .if2 .taken))
 
 returns-3 : tie.Need-returns-3
 unfolding numberOf
@@ -44,16 +48,22 @@ returns-3 c =
 returns-4 : tie.Need-returns-4
 unfolding numberOf
 returns-4 c =
-    let a = c .before .before .before .before .before .before .before .before .args in
-    cases.weave-1 (a .block .now) (a .out .now) (a .f) (a .s) (a .i) (counted (c .before .before .before .before)) (placed (c .before .before)) (c .before .if3 .left) (c .if4 .taken)
+    let A = c .before .before .before .before .before .before .before .before .args in
+    let a = A in
+    cases.weave-1 (a .block .now) (a .out .now) (a .f) (a .s) (a .i) (counted (c .before .before .before .before)) (placed (c .before .before))
+    (c .before .if3 .left) (c .if4 .taken)
 
 rows-within-requires : tie.Need-rows-within-requires
 rows-within-requires c κs = search needs
 
 pick-requires : tie.Need-pick-requires
 pick-requires c κs =
-    let d = c .before .before .before in
-    (cases.f-most (d .before .before .before .before .before .before .before .args .f) (counted (d .before .before .before)), omega (arith, c .before .rows-within .ensures .0, c .before .before .if4 .left), c .before .rows-within .ensures .1)
+    let Rows-within = c .before .rows-within in
+    let d = c .before .before .before in (
+      cases.f-most (d .before .before .before .before .before .before .before .args .f) (counted (d .before .before .before)),
+      omega (arith, Rows-within .ensures .0, c .before .before .if4 .left),
+      Rows-within .ensures .1,
+    )
 
 blank-requires : tie.Need-blank-requires
 blank-requires c κs = search needs
@@ -64,11 +74,15 @@ same-length c = search needs
 returns-5 : tie.Need-returns-5
 unfolding numberOf
 returns-5 c =
-    let d = c .before .before .before .before .before .before .before .before in
+    let Before = c .before .before .before .before .before .before .before .before in
+    let Pick = c .before .before .before .before .before .before .pick in
+    let d = Before in
     let a = d .before .before .before .before .before .before .before .before .before .args in
     let rows = d .rows-within in
-    cases.weave-done (a .block .now) (a .out .now) (a .f) (a .s) (a .i) (counted (d .before .before .before .before .before)) (placed (d .before .before .before)) (d .before .before .if3 .left) _ (d .before .if4 .left)
-    (cases.both-written (a .block .now) (a .f) (a .s) (a .i) (rows .result) (rows .ensures .0) (rows .ensures .2) (a .out .now) _ _ (c .before .before .before .before .before .before .pick .ensures) (c .before .before .blank .ensures))
+    cases.weave-done (a .block .now) (a .out .now) (a .f) (a .s) (a .i) (counted (d .before .before .before .before .before))
+    (placed (d .before .before .before)) (d .before .before .if3 .left) _ (d .before .if4 .left)
+    (cases.both-written (a .block .now) (a .f) (a .s) (a .i) (rows .result) (rows .ensures .0) (rows .ensures .2) (a .out .now) _ _
+    (Pick .ensures) (c .before .before .blank .ensures))
 
 pub interleave-spec : {M : Type 1} → statement M
 interleave-spec =

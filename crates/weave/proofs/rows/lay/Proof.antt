@@ -29,12 +29,24 @@ abbrev μ-loop : tie.MeasureT-loop
 μ-loop held f s out₀ o₀ out o = s - o
 
 loop-holds : tie.Need-loop-holds Inv-loop μ-loop
-loop-holds c = let a = c .before .before .args in
-    (omega arith, tables.filled-none (cellOf (a .held .now) (a .f) (a .s)) 0 (a .out .now) 0 ∙ ap (λ (x : ℕ). splice (a .out .now) 0 (table (cellOf (a .held .now) (a .f) (a .s)) 0 x)) (sym (zero-mul (a .f))))
+loop-holds c =
+    let a = c .before .before .args in (
+      omega arith,
+      tables.filled-none (cellOf (a .held .now) (a .f) (a .s)) 0 (a .out .now) 0
+          ∙ ap (λ (x : ℕ). splice (a .out .now) 0 (table (cellOf (a .held .now) (a .f) (a .s)) 0 x)) (sym (zero-mul (a .f))),
+    )
 
 lay-row-requires : tie.Need-lay-row-requires Inv-loop μ-loop
-lay-row-requires c κs = let a = c .before .before .before .before .before .args in
-    (c .before .loop-test .taken, c .before .before .before .before .before .pre .0, c .before .before .before .before .before .pre .1, omega (arith, c .before .before .before .before .before .pre .2, tables.filled-length _ 0 _ 0 _ (c .before .before .loop .inv .1) (omega (arith, far (a .f) (a .s) (c .before .before .loop .o) (c .before .before .loop .inv .0), c .before .before .before .before .before .pre .2))))
+lay-row-requires c κs =
+    let P = c .before .before .before .before .before .pre in
+    let L = c .before .before .loop in
+    let a = c .before .before .before .before .before .args in (
+      c .before .loop-test .taken,
+      P .0,
+      P .1,
+      omega
+          (arith, P .2, tables.filled-length _ 0 _ 0 _ (L .inv .1) (omega (arith, far (a .f) (a .s) (L .o) (L .inv .0), P .2))),
+    )
 
 add-o : tie.Need-add-o Inv-loop μ-loop
 add-o c = omega arith
@@ -43,11 +55,17 @@ loop-less : tie.Need-loop-less Inv-loop μ-loop
 loop-less c = omega arith
 
 loop-again : tie.Need-loop-again Inv-loop μ-loop
-loop-again c = let a = c .before .before .before .before .before .before .before .before .args in
-    (omega arith, rows-more (a .held .now) (a .out .now) (c .before .before .before .before .before .loop .out) _ (a .f) (a .s) (c .before .before .before .before .before .loop .o) (c .before .before .before .before .before .loop .inv .1) (c .before .before .lay-row .ensures))
+loop-again c =
+    let A = c .before .before .before .before .before .before .before .before .args in
+    let L = c .before .before .before .before .before .loop in
+    let a = A in
+    (omega arith, rows-more (a .held .now) (a .out .now) (L .out) _ (a .f) (a .s) (L .o) (L .inv .1) (c .before .before .lay-row .ensures))
 
 same-length : tie.Need-same-length Inv-loop μ-loop
-same-length c = let a = c .before .before .before .before .args in tables.filled-length _ 0 _ 0 _ (c .before .loop .inv .1) (omega (arith, far (a .f) (a .s) (c .before .loop .o) (c .before .loop .inv .0), c .before .before .before .before .pre .2))
+same-length c =
+    let L = c .before .loop in
+    let a = c .before .before .before .before .args in tables.filled-length _ 0 _ 0 _ (L .inv .1)
+    (omega (arith, far (a .f) (a .s) (L .o) (L .inv .0), c .before .before .before .before .pre .2))
 
 returns : tie.Need-returns Inv-loop μ-loop
 unfolding cellsOf

@@ -17,8 +17,12 @@ use Rattle.weave.proofs.rows.lay_row.Tie as tie
 inside : (f s o r : ℕ) → r < f → o < s → (o * f + r < f * s) × (r * s + o < f * s) × ((r + 1) * s ≤ f * s) × (o * f + f ≤ f * s)
 inside f s o r low less =
     let next : (o + 1) * f ≤ s * f = mul-le-mul-right f (omega arith) in
-    let after : (r + 1) * s ≤ f * s = mul-le-mul-right s (omega arith) in
-    (omega (arith, digits-lt {q = o} {m = s} {r = r} {c = f} less low), omega (arith, digits-lt {q = r} {m = f} {r = o} {c = s} low less), after, omega (arith, next))
+    let after : (r + 1) * s ≤ f * s = mul-le-mul-right s (omega arith) in (
+      omega (arith, digits-lt {q = o} {m = s} {r = r} {c = f} less low),
+      omega (arith, digits-lt {q = r} {m = f} {r = o} {c = s} low less),
+      after,
+      omega (arith, next),
+    )
 
 abbrev Inv-loop : tie.InvT-loop
 Inv-loop held f s o out₀ at p₀ r₀ out p r = (r ≤ f) × (p ≡ r * s + o) × (out ≡ splice out₀ (o * f) (table (cellOf held f s) (o * f) r))
@@ -32,13 +36,19 @@ mul-at c = let a = c .args in
     omega (arith, far)
 
 loop-holds : tie.Need-loop-holds Inv-loop μ-loop
-loop-holds c = let a = c .args in (omega arith, omega (arith, zero-mul (a .s)), tables.filled-none (cellOf (a .held .now) (a .f) (a .s)) _ (a .out .now) _)
+loop-holds c =
+    let a = c .args in (omega arith, omega (arith, zero-mul (a .s)), tables.filled-none (cellOf (a .held .now) (a .f) (a .s)) _ (a .out .now) _)
 
 shared-slice-read-out : tie.Need-shared-slice-read-out Inv-loop μ-loop
-shared-slice-read-out c = let a = c .before .before .before .args in omega (arith, inside (a .f) (a .s) (a .o) (c .before .before .loop .r) (c .before .loop-test .taken) (c .before .before .before .pre .0), c .before .before .loop .inv .1)
+shared-slice-read-out c =
+    let L = c .before .before .loop in
+    let a = c .before .before .before .args in omega
+    (arith, inside (a .f) (a .s) (a .o) (L .r) (c .before .loop-test .taken) (c .before .before .before .pre .0), L .inv .1)
 
 add-out : tie.Need-add-out Inv-loop μ-loop
-add-out c = let a = c .before .before .before .args in omega (arith, inside (a .f) (a .s) (a .o) (c .before .before .loop .r) (c .before .loop-test .taken) (c .before .before .before .pre .0))
+add-out c =
+    let a = c .before .before .before .args in omega
+    (arith, inside (a .f) (a .s) (a .o) (c .before .before .loop .r) (c .before .loop-test .taken) (c .before .before .before .pre .0))
 
 slice-write-out : tie.Need-slice-write-out Inv-loop μ-loop
 slice-write-out c = let a = c .before .before .before .args in
@@ -46,7 +56,10 @@ slice-write-out c = let a = c .before .before .before .args in
     omega (arith, in-row, tables.filled-length _ _ _ _ _ (c .before .before .loop .inv .2) (omega (arith, in-row)))
 
 add-p : tie.Need-add-p Inv-loop μ-loop
-add-p c = let a = c .before .before .before .args in omega (arith, inside (a .f) (a .s) (a .o) (c .before .before .loop .r) (c .before .loop-test .taken) (c .before .before .before .pre .0), c .before .before .loop .inv .1)
+add-p c =
+    let L = c .before .before .loop in
+    let a = c .before .before .before .args in omega
+    (arith, inside (a .f) (a .s) (a .o) (L .r) (c .before .loop-test .taken) (c .before .before .before .pre .0), L .inv .1)
 
 add-r : tie.Need-add-r Inv-loop μ-loop
 add-r c = omega arith
@@ -55,11 +68,18 @@ loop-less : tie.Need-loop-less Inv-loop μ-loop
 loop-less c = omega arith
 
 loop-again : tie.Need-loop-again Inv-loop μ-loop
-loop-again c = let a = c .before .before .before .args in
-    let i = c .before .before .loop .inv in
-    let in-row = inside (a .f) (a .s) (a .o) (c .before .before .loop .r) (c .before .loop-test .taken) (c .before .before .before .pre .0) in
-    let v = ap (λ (x : ℕ). getD (a .held .now) x 0) (i .1) ∙ sym (cell-at (a .held .now) (a .f) (a .s) (a .o) (c .before .before .loop .r) (c .before .loop-test .taken)) in
-    (omega arith, omega (arith, i .1), tables.filled-more (cellOf (a .held .now) (a .f) (a .s)) _ (a .out .now) (a .o * a .f) (c .before .before .loop .r) (i .2) refl v (omega (arith, in-row)))
+loop-again c =
+    let L = c .before .before .loop in
+    let Loop-test = c .before .loop-test in
+    let a = c .before .before .before .args in
+    let i = L .inv in
+    let in-row = inside (a .f) (a .s) (a .o) (L .r) (Loop-test .taken) (c .before .before .before .pre .0) in
+    let v = ap (λ (x : ℕ). getD (a .held .now) x 0) (i .1) ∙ sym (cell-at (a .held .now) (a .f) (a .s) (a .o) (L .r) (Loop-test .taken)) in (
+      omega arith,
+      omega (arith, i .1),
+      tables.filled-more (cellOf (a .held .now) (a .f) (a .s)) _ (a .out .now) (a .o * a .f) (L .r)
+          (i .2) refl v (omega (arith, in-row)),
+    )
 
 same-length : tie.Need-same-length Inv-loop μ-loop
 same-length c = let a = c .before .before .args in

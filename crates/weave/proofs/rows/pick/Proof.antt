@@ -23,10 +23,13 @@ abbrev μ-loop : tie.MeasureT-loop
 μ-loop block f i rows out₀ q₀ t₀ out q t = rows - t
 
 loop-holds : tie.Need-loop-holds Inv-loop μ-loop
-loop-holds c = let a = c .args in (omega arith, omega (arith, mul-zero (a .f)), tables.filled-none (rule (a .block .now) (a .f) (a .i)) 0 (a .out .now) 0)
+loop-holds c =
+    let a = c .args in (omega arith, omega (arith, mul-zero (a .f)), tables.filled-none (rule (a .block .now) (a .f) (a .i)) 0 (a .out .now) 0)
 
 shared-slice-read-out : tie.Need-shared-slice-read-out Inv-loop μ-loop
-shared-slice-read-out c = omega (arith, c .before .before .before .pre .2 (c .before .before .loop .t) (c .before .loop-test .taken), c .before .before .loop .inv .1)
+shared-slice-read-out c =
+    let L = c .before .before .loop in
+    omega (arith, c .before .before .before .pre .2 (L .t) (c .before .loop-test .taken), L .inv .1)
 
 slice-write-out : tie.Need-slice-write-out Inv-loop μ-loop
 slice-write-out c = omega (arith, tables.filled-length _ 0 _ 0 _ (c .before .before .loop .inv .2) (omega arith))
@@ -41,11 +44,17 @@ loop-less : tie.Need-loop-less Inv-loop μ-loop
 loop-less c = omega arith
 
 loop-again : tie.Need-loop-again Inv-loop μ-loop
-loop-again c = let a = c .before .before .before .args in
-    let i = c .before .before .loop .inv in
-    let q-is : c .before .before .loop .q ≡ a .i + a .f * (0 + c .before .before .loop .t) = omega (arith, i .1) in
-    let v = ap (λ (x : ℕ). getD (a .block .now) x 0) q-is in
-    (omega arith, omega (arith, i .1), tables.filled-more (rule (a .block .now) (a .f) (a .i)) 0 (a .out .now) 0 (c .before .before .loop .t) (i .2) (omega arith) v (omega arith))
+loop-again c =
+    let L = c .before .before .loop in
+    let a = c .before .before .before .args in
+    let i = L .inv in
+    let q-is : L .q ≡ a .i + a .f * (0 + L .t) = omega (arith, i .1) in
+    let v = ap (λ (x : ℕ). getD (a .block .now) x 0) q-is in (
+      omega arith,
+      omega (arith, i .1),
+      tables.filled-more (rule (a .block .now) (a .f) (a .i)) 0 (a .out .now) 0 (L .t) (i .2) (omega arith) v
+          (omega arith),
+    )
 
 same-length : tie.Need-same-length Inv-loop μ-loop
 same-length c = tables.filled-length _ 0 _ 0 _ (c .before .loop .inv .2) (omega arith)

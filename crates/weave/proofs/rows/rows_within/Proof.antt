@@ -23,12 +23,19 @@ add-rows : tie.Need-add-rows
 add-rows c = let a = c .before .args in omega (arith, div-le-self (a .len - a .i - 1) (a .f))
 
 returns-2 : tie.Need-returns-2
-returns-2 c = let a = c .before .before .args in
-    (omega arith, row-inside (a .len) (a .f) (a .i) (c .before .before .pre) (c .before .if1 .left), λ (t : ℕ) h l. row-outside (a .len) (a .f) (a .i) (c .before .before .pre) (c .before .if1 .left) t h)
+returns-2 c =
+    let P = c .before .before .pre in
+    let If1 = c .before .if1 in
+    let a = c .before .before .args in
+    (omega arith, row-inside (a .len) (a .f) (a .i) (P) (If1 .left), λ (t : ℕ) h l. row-outside (a .len) (a .f) (a .i) (P) (If1 .left) t h)
 
 returns-3 : tie.Need-returns-3
-returns-3 c = let a = c .before .before .args in
-    (omega arith, λ (t : ℕ) (h : t < a .s). row-inside (a .len) (a .f) (a .i) (c .before .before .pre) (c .before .if1 .left) t (omega arith), λ (t : ℕ) (h : a .s ≤ t) (l : t < a .s). absurd (omega arith))
+returns-3 c =
+    let a = c .before .before .args in (
+      omega arith,
+      λ (t : ℕ) (h : t < a .s). row-inside (a .len) (a .f) (a .i) (c .before .before .pre) (c .before .if1 .left) t (omega arith),
+      λ (t : ℕ) (h : a .s ≤ t) (l : t < a .s). absurd (omega arith),
+    )
 
 pub rows-within-spec : {M : Type 1} → statement M
 rows-within-spec =

@@ -19,8 +19,10 @@ counted c = told (c .before .bad-count .ensures) (c .if1 .left)
 placed : (c : tie.Else2) → tooMuch (c .before .before .before .before .args .f) (c .before .before .before .before .args .s) ≡ false
 placed c = told (c .before .too-much .ensures) (c .if2 .left)
 
-sound : (c : tie.Else3) → badChunk (c .before .before .before .before .before .before .args .f) (c .before .before .before .before .before .before .args .s) (c .before .before .before .before .before .before .args .k) ≡ false
-sound c = told (c .before .bad-chunk .ensures) (c .if3 .left)
+sound : (c : tie.Else3) → badChunk (c .before .before .before .before .before .before .args .f)
+    (c .before .before .before .before .before .before .args .s) (c .before .before .before .before .before .before .args .k) ≡ false
+sound c =
+    told (c .before .bad-chunk .ensures) (c .if3 .left)
 
 bad-count-requires : tie.Need-bad-count-requires
 bad-count-requires c κs = search needs
@@ -45,8 +47,10 @@ bad-chunk-requires c κs =
 
 returns-3 : tie.Need-returns-3
 returns-3 c =
-    let a = c .before .before .before .before .before .before .args in
-    cases.held-chunk (a .kept) (a .f) (a .s) (a .k) (counted (c .before .before .before .before)) (placed (c .before .before)) (told (c .before .bad-chunk .ensures) (c .if3 .taken))
+    let A = c .before .before .before .before .before .before .args in
+    let a = A in
+    cases.held-chunk (a .kept) (a .f) (a .s) (a .k) (counted (c .before .before .before .before)) (placed (c .before .before))
+    (told (c .before .bad-chunk .ensures) (c .if3 .taken))
 
 add-n : tie.Need-add-n
 add-n c =
@@ -63,18 +67,27 @@ div-suffices c = search needs
 
 suffices-requires : tie.Need-suffices-requires
 suffices-requires c κs =
-    let a = c .before .before .before .before .before .before .args in
-    (cases.f-some (a .f) (counted (c .before .before .before .before)), cases.f-most (a .f) (counted (c .before .before .before .before)), omega (arith, cases.fits-place (a .f) (a .s) (placed (c .before .before)), div-mul-le-self (a .f * a .s) (a .k + parity)))
+    let A = c .before .before .before .before .before .before .args in
+    let Before = c .before .before .before .before in
+    let a = A in (
+      cases.f-some (a .f) (counted (Before)),
+      cases.f-most (a .f) (counted (Before)),
+      omega (arith, cases.fits-place (a .f) (a .s) (placed (c .before .before)), div-mul-le-self (a .f * a .s) (a .k + parity)),
+    )
 
 returns-4 : tie.Need-returns-4
 returns-4 c =
-    let a = c .before .before .before .before .before .before .before .before .args in
-    cases.held-enough (a .kept) (a .f) (a .s) (a .k) (counted (c .before .before .before .before .before .before)) (placed (c .before .before .before .before)) (sound (c .before .before)) _ (c .before .suffices .ensures) (c .if4 .taken)
+    let A = c .before .before .before .before .before .before .before .before .args in
+    let a = A in
+    cases.held-enough (a .kept) (a .f) (a .s) (a .k) (counted (c .before .before .before .before .before .before))
+    (placed (c .before .before .before .before)) (sound (c .before .before)) _ (c .before .suffices .ensures) (c .if4 .taken)
 
 returns-5 : tie.Need-returns-5
 returns-5 c =
-    let a = c .before .before .before .before .before .before .before .before .args in
-    cases.held-not (a .kept) (a .f) (a .s) (a .k) (counted (c .before .before .before .before .before .before)) (placed (c .before .before .before .before)) (sound (c .before .before)) _ (c .before .suffices .ensures) (c .if4 .left)
+    let A = c .before .before .before .before .before .before .before .before .args in
+    let a = A in
+    cases.held-not (a .kept) (a .f) (a .s) (a .k) (counted (c .before .before .before .before .before .before))
+    (placed (c .before .before .before .before)) (sound (c .before .before)) _ (c .before .suffices .ensures) (c .if4 .left)
 
 pub enough-spec : {M : Type 1} → statement M
 enough-spec =

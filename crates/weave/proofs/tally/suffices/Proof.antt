@@ -12,38 +12,48 @@ use Rattle.weave.proofs.tally.suffices.Statement.{statement}
 use Rattle.weave.proofs.tally.suffices.Tie as tie
 
 abbrev Inv-loop : tie.InvT-loop
-Inv-loop f n c sums w before₀ q₀ j₀ before q j = (j ≤ c) × (q ≡ j * n) × (before ≡ reading sums f (j * n)) × ((i : ℕ) → i < j → reading sums f (i * n + n) ≤ parity + reading sums f (i * n))
+Inv-loop f n c sums w before₀ q₀ j₀ before q j = (j ≤ c) × (q ≡ j * n) × (before ≡ reading sums f (j * n))
+    × ((i : ℕ) → i < j → reading sums f (i * n + n) ≤ parity + reading sums f (i * n))
 
 abbrev μ-loop : tie.MeasureT-loop
 μ-loop f n c sums w before₀ q₀ j₀ before q j = c - j
 
 -- the sums are those of the lost fragments
-known : (c : tie.In-loop Inv-loop μ-loop) → Sums (notKept (c .before .before .before .args .kept)) (c .before .before .sums-of .result) (c .before .before .before .args .f)
-known c = record { at = c .before .before .sums-of .ensures }
+known : (c : tie.In-loop Inv-loop μ-loop) → Sums (notKept (c .before .before .before .args .kept)) (c .before .before .sums-of .result)
+    (c .before .before .before .args .f)
+known c =
+    record { at = c .before .before .sums-of .ensures }
 
 -- the next chunk ends n cells on, within the place
 next : (c : tie.In-loop Inv-loop μ-loop)
-    → (c .before .loop .q + c .before .before .before .args .n ≡ c .before .loop .j * c .before .before .before .args .n + c .before .before .before .args .n)
+    → (c .before .loop .q + c .before .before .before .args .n ≡ c .before .loop .j * c .before .before .before .args .n
+    + c .before .before .before .args .n)
     × (c .before .loop .q + c .before .before .before .args .n ≤ place)
 next c =
+    let L = c .before .loop in
     let a = c .before .before .before .args in
-    let far : (c .before .loop .j + 1) * a .n ≤ a .c * a .n = mul-le-mul-right (a .n) (omega arith) in
-    (omega (arith, c .before .loop .inv .1), omega (arith, far, c .before .loop .inv .1))
+    let far : (L .j + 1) * a .n ≤ a .c * a .n = mul-le-mul-right (a .n) (omega arith) in
+    (omega (arith, L .inv .1), omega (arith, far, L .inv .1))
 
 -- what is read there is what was read before and what the chunk misses
 step : (c : tie.In-loop Inv-loop μ-loop)
     → reading (c .before .before .sums-of .result) (c .before .before .before .args .f) (c .before .loop .q + c .before .before .before .args .n)
-    ≡ c .before .loop .before + missing (notKept (c .before .before .before .args .kept)) (c .before .before .before .args .f) (c .before .before .before .args .n) (c .before .loop .j)
+    ≡ c .before .loop .before + missing (notKept (c .before .before .before .args .kept)) (c .before .before .before .args .f)
+    (c .before .before .before .args .n) (c .before .loop .j)
 step c =
+    let Sums-of = c .before .before .sums-of in
+    let L = c .before .loop in
     let a = c .before .before .before .args in
-    let e = ap (reading (c .before .before .sums-of .result) (a .f)) (next c .0) in
-    omega (arith, e, misses (notKept (a .kept)) (a .f) (a .n) (omega arith) (c .before .before .sums-of .result) (known c) (c .before .loop .j), c .before .loop .inv .2)
+    let e = ap (reading (Sums-of .result) (a .f)) (next c .0) in
+    omega (arith, e, misses (notKept (a .kept)) (a .f) (a .n) (omega arith) (Sums-of .result) (known c) (L .j), L .inv .2)
 
 -- and no more than the cells passed
 small : (c : tie.In-loop Inv-loop μ-loop)
     → reading (c .before .before .sums-of .result) (c .before .before .before .args .f) (c .before .loop .q + c .before .before .before .args .n)
     ≤ c .before .loop .q + c .before .before .before .args .n
-small c = let a = c .before .before .before .args in reading-le (notKept (a .kept)) (a .f) (a .n) (omega arith) (c .before .before .sums-of .result) (known c) _
+small c =
+    let a = c .before .before .before .args in reading-le (notKept (a .kept)) (a .f) (a .n) (omega arith) (c .before .before .sums-of .result)
+    (known c) _
 
 sums-of-requires : tie.Need-sums-of-requires Inv-loop μ-loop
 sums-of-requires c κs = omega arith
@@ -55,10 +65,16 @@ array-read-w : tie.Need-array-read-w Inv-loop μ-loop
 array-read-w c = omega arith
 
 loop-holds : tie.Need-loop-holds Inv-loop μ-loop
-loop-holds c = let a = c .before .args in
+loop-holds c =
+    let Sums-of = c .sums-of in
+    let a = c .before .args in
     let z : 0 * a .n ≡ 0 = zero-mul (a .n) in
-    let sums : Sums (notKept (a .kept)) (c .sums-of .result) (a .f) = record { at = c .sums-of .ensures } in
-    (omega arith, sym z, omega (arith, z, reading-le (notKept (a .kept)) (a .f) (a .n) (omega arith) (c .sums-of .result) sums (0 * a .n)), λ i (h : i < 0). absurd (not-suc-le-zero h))
+    let sums : Sums (notKept (a .kept)) (Sums-of .result) (a .f) = record { at = Sums-of .ensures } in (
+      omega arith,
+      sym z,
+      omega (arith, z, reading-le (notKept (a .kept)) (a .f) (a .n) (omega arith) (Sums-of .result) sums (0 * a .n)),
+      λ i (h : i < 0). absurd (not-suc-le-zero h),
+    )
 
 add-q : tie.Need-add-q Inv-loop μ-loop
 add-q c = omega (arith, next c)
@@ -85,10 +101,12 @@ sub-if1 : tie.Need-sub-if1 Inv-loop μ-loop
 sub-if1 c = omega (arith, step c)
 
 returns : tie.Need-returns Inv-loop μ-loop
-returns c = let d = c .before in
+returns c =
+    let d = c .before in
     let a = d .before .before .before .args in
     let e = ap (reading (d .before .before .sums-of .result) (a .f)) (next d .0) in
-    suffice-fails (notKept (a .kept)) (a .f) (a .n) (omega arith) (d .before .before .sums-of .result) (known d) (a .c) (d .before .loop .j) (d .loop-test .taken) (omega (arith, e, d .before .loop .inv .2, c .if1 .taken))
+    suffice-fails (notKept (a .kept)) (a .f) (a .n) (omega arith) (d .before .before .sums-of .result) (known d) (a .c) (d .before .loop .j)
+    (d .loop-test .taken) (omega (arith, e, d .before .loop .inv .2, c .if1 .taken))
 
 add-j : tie.Need-add-j Inv-loop μ-loop
 add-j c = omega arith
@@ -106,11 +124,14 @@ loop-again c = let d = c .before in
     (omega arith, on, ap (reading sums (a .f)) on, below-more _ _ (i .3) (omega (arith, e, i .2, c .if1 .left)))
 
 returns-2 : tie.Need-returns-2 Inv-loop μ-loop
-returns-2 c = let a = c .before .before .before .args in
-    let i = c .before .loop .inv in
-    let all : c .before .loop .j ≡ a .c = omega (arith, i .0) in
-    let sums : Sums (notKept (a .kept)) (c .before .before .sums-of .result) (a .f) = record { at = c .before .before .sums-of .ensures } in
-    suffice-read (notKept (a .kept)) (a .f) (a .n) (omega arith) (c .before .before .sums-of .result) sums (a .c) (λ j (h : j < a .c). i .3 j (omega arith))
+returns-2 c =
+    let Sums-of = c .before .before .sums-of in
+    let L = c .before .loop in
+    let a = c .before .before .before .args in
+    let i = L .inv in
+    let all : L .j ≡ a .c = omega (arith, i .0) in
+    let sums : Sums (notKept (a .kept)) (Sums-of .result) (a .f) = record { at = Sums-of .ensures } in
+    suffice-read (notKept (a .kept)) (a .f) (a .n) (omega arith) (Sums-of .result) sums (a .c) (λ j (h : j < a .c). i .3 j (omega arith))
 
 pub suffices-spec : {M : Type 1} → statement M
 suffices-spec =

@@ -1,4 +1,4 @@
--- What every writer of an answer promises of the buffer that it was lent. Assumes nothing.
+-- What every writer of an answer promises of the buffer that it was lent.
 use Prim.Native.Nat.{ℕ, _≤_}
 use mathlib.Core.Path.{_≡_}
 use mathlib.Core.List.{List}
