@@ -1,7 +1,7 @@
 // The code's block calls for C.
 use crate::written_number;
 use base::MOST_F;
-use code::Filled;
+use code_decoder::Filled;
 ghost use mathlib.Core.Path.{_≡_};
 ghost use Rattle.code_rules.specs.Calls.{encodeCall};
 ghost use Rattle.card_rules.specs.Told.{CardWritten};
@@ -44,7 +44,7 @@ fn kept_of(bytes: &[u8]) -> [bool; MOST_F]
 pub extern "C" fn bailhammer_encode(packet: &[u8], k: usize, c: usize, out: &mut [u8]) -> usize
     ensures { λ r. ⌜ CardWritten (encodeCall (now (packet .entry)) k c (now (out .entry))) (now (out .exit)) r ⌝ }
 {
-    let w = code::encode(packet, k, c, out);
+    let w = code_encoder::encode(packet, k, c, out);
     written_number(w)
 }
 
@@ -60,6 +60,6 @@ pub extern "C" fn bailhammer_fill(
 ) -> usize
     ensures { λ r. ⌜ CardFilled (now (kept .entry)) f s k (now (block .entry)) (now (block .exit)) r ⌝ }
 {
-    let a = code::fill(kept_of(kept), f, s, k, block);
+    let a = code_decoder::fill(kept_of(kept), f, s, k, block);
     filled_number(a)
 }

@@ -9,7 +9,7 @@ use Rattle.base_rules.proofs.Every.{below, at}
 use Rattle.field_rules.specs.Field.{_⊕_, times2, mulBits, _⊗_}
 use Rattle.field_rules.proofs.Sums.{bit, bit-ind, add-0-r, add-self}
 use Rattle.field_rules.proofs.Products.{times2-add}
-use Rattle.code_rules.specs.Kernel.{Chain}
+use Rattle.code_rules.specs.inner.Kernel.{Chain, dotted}
 
 twice-test : T (below 256 (λ x. eqb (times2 x) (cond (ltb x 128) (x + x) ((x - 128 + (x - 128)) ⊕ 29))))
 unfolding times2 _⊕_
@@ -46,9 +46,9 @@ bits-0 : (k b : ℕ) → mulBits 0 k b ≡ 0
 unfolding mulBits
 bits-0 k b = refl
 
-pub dot-is : (a k0 k1 k2 k3 k4 k5 k6 k7 : ℕ) → k0 < 256 → Chain k0 k1 k2 k3 k4 k5 k6 k7
-    → a / 1 % 2 * k0 ⊕ (a / 2 % 2 * k1 ⊕ (a / 4 % 2 * k2 ⊕ (a / 8 % 2 * k3 ⊕ (a / 16 % 2 * k4 ⊕ (a / 32 % 2 * k5 ⊕ (a / 64 % 2 * k6 ⊕ a / 128 % 2 * k7)))))) ≡ k0 ⊗ a
-unfolding _⊗_
+-- the bits of a choose among the doubles of k0: that is the product
+pub dot-is : (a k0 k1 k2 k3 k4 k5 k6 k7 : ℕ) → k0 < 256 → Chain k0 k1 k2 k3 k4 k5 k6 k7 → dotted a k0 k1 k2 k3 k4 k5 k6 k7 ≡ k0 ⊗ a
+unfolding _⊗_ dotted
 dot-is a k0 k1 k2 k3 k4 k5 k6 k7 h c =
     sym (ap₂ (λ k b. mulBits 8 k b) (mod-eq-of-lt h) (omega arith)
     ∙ bits-next 7 k0 k1 a 1 (c .c1) ∙ ap (λ y. a / 1 % 2 * k0 ⊕ y)
@@ -58,7 +58,8 @@ dot-is a k0 k1 k2 k3 k4 k5 k6 k7 h c =
     (ap (mulBits 4 k4) h16 ∙ bits-next 3 k4 k5 a 16 (c .c5) ∙ ap (λ y. a / 16 % 2 * k4 ⊕ y)
     (ap (mulBits 3 k5) h32 ∙ bits-next 2 k5 k6 a 32 (c .c6) ∙ ap (λ y. a / 32 % 2 * k5 ⊕ y)
     (ap (mulBits 2 k6) h64 ∙ bits-next 1 k6 k7 a 64 (c .c7) ∙ ap (λ y. a / 64 % 2 * k6 ⊕ y)
-    (ap (mulBits 1 k7) h128 ∙ bits-s 0 k7 (a / 128) ∙ ap (λ y. a / 128 % 2 * k7 ⊕ y) (bits-0 (times2 k7) (a / 128 / 2)) ∙ add-0-r (a / 128 % 2 * k7)))))))))
+    (ap (mulBits 1 k7) h128 ∙ bits-s 0 k7 (a / 128) ∙ ap (λ y. a / 128 % 2 * k7 ⊕ y) (bits-0 (times2 k7) (a / 128 / 2))
+    ∙ add-0-r (a / 128 % 2 * k7)))))))))
   where
     h2 : a / 1 / 2 ≡ a / 2
     h2 = omega arith

@@ -7,7 +7,8 @@ use native.Mathlib.Nat.{zero-mul, suc-mul, add-comm}
 use native.Mathlib.Omega.{arith}
 use borrow.Author.Tests.{ltb-false, lt-ltb, le-ltb}
 use lib.Dec.{ltb, eqb, lit<, eqb→eq}
-use lib.ListN.{length, take, drop, replicate, length-replicate, length-drop, take-append-drop, replicate-append-replicate, drop-of-length-le, length-append}
+use lib.ListN.{length, take, drop, replicate, length-replicate, length-drop, length-append}
+use lib.ListN.{take-append-drop, replicate-append-replicate, drop-of-length-le}
 use lib.Seq.{take-at, drop-at, take-append-add, drop-drop}
 use Rattle.base_rules.specs.Answer.{granted, refused, answered, Outcome, outcome, settled}
 use Rattle.base_rules.specs.Bounds.{badK, place, parity}
@@ -15,6 +16,7 @@ use Rattle.base_rules.specs.Bytes.{splice}
 use Rattle.base_rules.specs.Tests.{first}
 use Rattle.base_rules.specs.Written.{numberOf, putFault, putOf}
 use Rattle.base_rules.specs.declared.Written.{Written}
+use Rattle.base_rules.proofs.ChunkSize.{k-most}
 use Rattle.base_rules.proofs.Answers.{grants, refuses, writes, leaves, put-is}
 use Rattle.base_rules.proofs.Firsts.{due, skip, none-due}
 use Rattle.base_rules.proofs.Logic.{or-left, or-right}
@@ -22,18 +24,18 @@ use Rattle.base_rules.proofs.Splice.{splice-next}
 use Rattle.cut_rules.specs.Block.{padded, wordOf, blockOf}
 use Rattle.cut_rules.proofs.Blocks.{length-block, length-padded}
 use Rattle.codeword.proofs.Encoder.{length-parity}
-use Rattle.code_rules.specs.Block.{part, Encoded}
-use Rattle.code_rules.specs.Fill.{Fills, filledOf}
+use Rattle.codeword.specs.Erasure.{marks, count}
+use Rattle.code_rules.specs.inner.Block.{part, Encoded, Ready, BlockTried}
+use Rattle.code_rules.specs.Fill.{Agrees}
 use Rattle.codeword.specs.Code.{parityOf, encode}
 use Rattle.code_rules.specs.Calls.{parityFault, parityCall, overPlace, misfits, encodeFault, encodeCall, badPair, chunkFault, ChunkFilled}
 use Rattle.code_rules.specs.Calls as calls
-use Rattle.code_rules.specs.declared.Answer.{Answer}
-use Rattle.code_rules.specs.declared.Answer.the-variants as answers
-use Rattle.code_rules.specs.declared.Filled.{Filled}
 use Rattle.code_rules.specs.declared.Filled.the-variants.{Done, Nothing, NotEnough, Refused}
+use Rattle.code_rules.proofs.PartLaws.{part-whole}
 
 -- ---- what the tests tell
 
+-- c chunks fit a place
 pub within-place : (k c : ℕ) → overPlace k c ≡ false → c * (k + 48) ≤ place
 unfolding overPlace
 within-place k c fine = ltb-false place (c * (k + parity)) fine
@@ -43,6 +45,7 @@ pub many-chunks : (k c : ℕ) → place < c → true ≡ overPlace k c
 unfolding overPlace
 many-chunks k c h = sym (lt-ltb place (c * (k + parity)) (omega arith))
 
+-- a packet fits its chunks
 pub fits-chunks : (l k c : ℕ) → misfits l k c ≡ false → l ≤ c * k
 unfolding misfits
 fits-chunks l k c fine = ltb-false (c * k) l (or-left (ltb (c * k) l) _ fine)
@@ -50,11 +53,14 @@ fits-chunks l k c fine = ltb-false (c * k) l (or-left (ltb (c * k) l) _ fine)
 -- ---- the parity of a chunk
 
 module _ (chunk out : List ℕ) where
+  -- no size of a chunk
   pub parity-size : badK (length chunk) ≡ true → outcome (refused 8) out ≡ parityCall chunk out
   unfolding parityCall parityFault
   parity-size e = leaves 8 _ _ _ _ (lit< tt) (due 8 _ e)
 
-  pub parity-put : {y : Outcome} (p : List ℕ) → badK (length chunk) ≡ false → length p ≡ 48 → p ≡ parityOf chunk → y ≡ putOf out 0 p → y ≡ parityCall chunk out
+  -- the parity put at the front
+  pub parity-put : {y : Outcome} (p : List ℕ) → badK (length chunk) ≡ false → length p ≡ 48 → p ≡ parityOf chunk → y ≡ putOf out 0 p
+      → y ≡ parityCall chunk out
   unfolding parityCall parityFault putOf putFault
   parity-put p fine long e q =
       q
@@ -95,7 +101,9 @@ pad-put packet w r h e =
     let same : w ≡ splice zeros 0 packet = put-is zeros packet w 0 (numberOf r) fits e in
     same ∙ zeros-behind packet 12288 h
 
-pub pad-take : (packet : List ℕ) (n m : ℕ) → length packet ≤ n → n ≤ m → take n (padded packet (m - length packet)) ≡ padded packet (n - length packet)
+-- fewer zeros behind a packet
+pub pad-take : (packet : List ℕ) (n m : ℕ) → length packet ≤ n → n ≤ m
+    → take n (padded packet (m - length packet)) ≡ padded packet (n - length packet)
 unfolding padded
 pad-take packet n m h q =
     let l : ℕ = length packet in
@@ -104,7 +112,8 @@ pad-take packet n m h q =
     ap₂ (λ (a b : ℕ). take a (packet ++ replicate b 0)) e w
     ∙ take-append-add packet (replicate (n - l + (m - n)) 0) (n - l)
     ∙ ap (λ (x : List ℕ). packet ++ x)
-    (ap (take (n - l)) (sym (replicate-append-replicate (n - l) (m - n) 0)) ∙ take-at (replicate (n - l) 0) (replicate (m - n) 0) (n - l) (length-replicate {A = ℕ} (n - l) 0))
+    (ap (take (n - l)) (sym (replicate-append-replicate (n - l) (m - n) 0))
+    ∙ take-at (replicate (n - l) 0) (replicate (m - n) 0) (n - l) (length-replicate {A = ℕ} (n - l) 0))
 
 module _ (k c : ℕ) (src out : List ℕ) where
   head : suc c * k ≤ length src → length out ≡ suc c * (k + 48) → Encoded k (suc c) src out → take (k + 48) out ≡ wordOf parityOf (take k src)
@@ -128,11 +137,16 @@ block-is k zero src [] hs e d = refl
 block-is k zero src (x ∷ out) hs e d = absurd (omega arith)
 block-is k (suc c) src out hs e d =
     sym (take-append-drop (k + 48) out)
-    ∙ ap₂ (λ (a b : List ℕ). a ++ b) (head k c src out hs e d) (block-is k c (drop k src) (drop (k + 48) out) (omega (arith, length-drop k src)) (omega (arith, length-drop (k + 48) out)) (behind k c src out d))
+    ∙ ap₂ (λ (a b : List ℕ). a ++ b) (head k c src out hs e d)
+    (block-is k c (drop k src) (drop (k + 48) out) (omega (arith, length-drop k src)) (omega (arith, length-drop (k + 48) out))
+    (behind k c src out d))
 
-pub length-whole : (packet : List ℕ) (k c : ℕ) → length packet ≤ c * k → length (blockOf parityOf (padded packet (c * k - length packet)) k c) ≡ c * (k + 48)
+-- the length of a packet's block
+pub length-whole : (packet : List ℕ) (k c : ℕ) → length packet ≤ c * k
+    → length (blockOf parityOf (padded packet (c * k - length packet)) k c) ≡ c * (k + 48)
 length-whole packet k c h =
-    length-block parityOf k (λ xs e. length-parity xs) (padded packet (c * k - length packet)) c (omega (arith, length-padded packet (c * k - length packet)))
+    length-block parityOf k (λ xs e. length-parity xs) (padded packet (c * k - length packet)) c
+    (omega (arith, length-padded packet (c * k - length packet)))
 
 -- the block written in a part that was lent from the start
 pub block-lent : (out new block : List ℕ) (n : ℕ) → length block ≡ n → new ≡ block → new ++ drop n out ≡ splice out 0 block
@@ -143,25 +157,32 @@ block-lent out new block n size e =
     ap (λ (x : ℕ). new ++ drop x out) z ∙ ap (λ (l : List ℕ). l ++ drop (0 + length l) out) e
 
 module _ (packet out : List ℕ) (k c : ℕ) where
+  -- no size of a chunk
   pub encode-size : badK k ≡ true → outcome (refused 8) out ≡ encodeCall packet k c out
   unfolding encodeCall encodeFault
   encode-size e = leaves 8 _ _ _ _ (lit< tt) (due 8 _ e)
 
   module _ (sized : badK k ≡ false) where
+    -- more than a place holds
     pub encode-place : overPlace k c ≡ true → outcome (refused 8) out ≡ encodeCall packet k c out
     unfolding encodeCall encodeFault
     encode-place e = leaves 8 _ _ _ _ (lit< tt) (skip 8 _ sized (due 8 _ e))
 
     module _ (placed : overPlace k c ≡ false) where
+      -- the packet does not fit its chunks
       pub encode-fit : misfits (length packet) k c ≡ true → outcome (refused 8) out ≡ encodeCall packet k c out
       unfolding encodeCall encodeFault
       encode-fit e = leaves 8 _ _ _ _ (lit< tt) (skip 8 _ sized (skip 8 _ placed (due 8 _ e)))
 
       module _ (fits : misfits (length packet) k c ≡ false) where
+        -- too little room
         pub encode-room : length out < c * (k + 48) → outcome (refused 1) out ≡ encodeCall packet k c out
         unfolding encodeCall encodeFault
-        encode-room h = leaves 1 _ _ _ _ (lit< tt) (skip 8 _ sized (skip 8 _ placed (skip 8 _ fits (due 1 _ (lt-ltb (length out) (c * (k + parity)) h)))))
+        encode-room h =
+            leaves 1 _ _ _ _ (lit< tt)
+            (skip 8 _ sized (skip 8 _ placed (skip 8 _ fits (due 1 _ (lt-ltb (length out) (c * (k + parity)) h)))))
 
+        -- the block stands at the front
         pub encode-done : (y : List ℕ) → c * (k + 48) ≤ length out → y ≡ splice out 0 (blockOf parityOf (padded packet (c * k - length packet)) k c)
             → outcome (granted []) y ≡ encodeCall packet k c out
         unfolding encodeCall encodeFault
@@ -170,11 +191,13 @@ module _ (packet out : List ℕ) (k c : ℕ) where
 
 -- ---- what the number of an answer tells
 
+-- a granted answer has no fault, and the values
 pub granted-by : (fault : ℕ) (v w : List ℕ) → granted v ≡ answered fault w → (0 ≡ fault) × (v ≡ w)
 unfolding answered
 granted-by zero v w e = (refl, cc)
 granted-by (suc n) v w e = let z : _≡_ {A = ℕ} 0 1 = cc in absurd (omega arith)
 
+-- a refused one has its fault
 pub refused-by : (n fault : ℕ) (w : List ℕ) → refused n ≡ answered fault w → (n ≡ fault) × (0 < n)
 unfolding answered
 refused-by n zero w e = let z : _≡_ {A = ℕ} 0 1 = cc in absurd (omega arith)
@@ -183,11 +206,13 @@ refused-by n (suc m) w e = let q : n ≡ suc m = cc in (q, omega arith)
 -- ---- the missing bytes of a chunk
 
 module _ (k : ℕ) (mask c : List ℕ) where
+  -- the sizes cannot be
   pub chunk-refused : badPair k (length mask) (length c) ≡ true → ChunkFilled k mask c c (Refused 8)
   unfolding calls.numberOf chunkFault
   chunk-refused e = record { number = refuses 8 _ _ (lit< tt) (due 8 _ e); left = refl }
 
   module _ (fine : badPair k (length mask) (length c) ≡ false) where
+    -- the sizes can be: that of the chunk,
     pub pair-size : badK k ≡ false
     unfolding badPair
     pair-size = or-left (badK k) _ fine
@@ -203,21 +228,53 @@ module _ (k : ℕ) (mask c : List ℕ) where
         truth true e = tt
         truth false e = let z : _≡_ {A = ℕ} 0 1 = cc in absurd (omega arith)
 
+    -- and of the mask
     pub pair-mask : length mask ≡ k + 48
     pair-mask = equal (length mask) (k + parity) (or-left (not (eqb (length mask) (k + parity))) _ lengths)
 
-    pub pair-chunk : length c ≡ k + 48
+    pair-chunk : length c ≡ k + 48
     pair-chunk = equal (length c) (k + parity) (or-right (not (eqb (length mask) (k + parity))) _ lengths)
 
     none : 0 ≡ chunkFault k (length mask) (length c)
     unfolding chunkFault
     none = skip 8 _ fine none-due
 
-    told-by : (after : List ℕ) (a : Answer) → Fills k mask c after a → ChunkFilled k mask c after (filledOf a)
+    -- more than 48 bytes are missing
+    pub chunk-short : 48 < count (marks mask) → ChunkFilled k mask c c NotEnough
     unfolding calls.numberOf
-    told-by after answers.Found f = record { number = grants _ _ none; left = f }
-    told-by after answers.Nothing f = record { number = grants _ _ none; left = f }
-    told-by after answers.NotEnough f = record { number = grants _ _ none; left = f }
+    chunk-short h = record { number = grants _ _ none; left = (h, refl) }
 
-    pub chunk-told : (after : List ℕ) (a : Answer) (r : Filled) → Fills k mask c after a → r ≡ filledOf a → ChunkFilled k mask c after r
-    chunk-told after a r f e = subst (ChunkFilled k mask c after) (sym e) (told-by after a f)
+    module _ (few : count (marks mask) ≤ 48) where
+      -- a block of this chunk alone
+      pub chunk-ready : Ready k mask 1 c
+      chunk-ready =
+          record {
+            short = k-most k pair-size;
+            some = omega arith;
+            masks = omega (arith, pair-mask);
+            chunks = omega (arith, pair-chunk);
+            few = λ j h.
+                let z : j ≡ 0 = omega arith in
+                subst (λ (m : List ℕ). count (marks m) ≤ 48) (sym (ap (λ (i : ℕ). part (k + 48) i mask) z ∙ part-whole (k + 48) mask pair-mask)) few;
+          }
+
+      -- the block is filled in, and so is the chunk
+      pub chunk-done : (after : List ℕ) → length after ≡ length c → BlockTried k mask 1 c after true → ChunkFilled k mask c after Done
+      unfolding calls.numberOf
+      chunk-done after e m =
+          let whole : Agrees k (part (k + 48) 0 mask) (part (k + 48) 0 c) (part (k + 48) 0 after) = m 0 (omega arith) in
+          let full = part-whole (k + 48) after (e ∙ pair-chunk) in
+          record {
+            number = grants _ _ none;
+            left = (few, rw (part-whole (k + 48) mask pair-mask, part-whole (k + 48) c pair-chunk, full) at whole);
+          }
+
+      -- the block has no filling, and so has not the chunk
+      pub chunk-nothing : (after : List ℕ) → BlockTried k mask 1 c after false → ChunkFilled k mask c after Nothing
+      unfolding calls.numberOf
+      chunk-nothing after m =
+          let z : m .at ≡ 0 = omega (arith, m .below) in
+          record {
+            number = grants _ _ none;
+            left = (few, λ w g. m .none w (rw (z, part-whole (k + 48) mask pair-mask, part-whole (k + 48) c pair-chunk) g), m .zeros);
+          }

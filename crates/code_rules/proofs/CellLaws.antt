@@ -1,9 +1,9 @@
--- The cells of a block and its chunks: which are missing, and what a filling of all chunks is. Assumes nothing.
+-- The cells of a block and its chunks: which are missing, and what the call that fills them in answers. Assumes nothing.
 use mathlib.Core.Path.{_≡_, refl, sym, ap, ap₂, _∙_, subst}
-use mathlib.Core.Bool.{Bool, true, false, not, cond}
+use mathlib.Core.Bool.{Bool, true, false, not}
 use mathlib.Core.List.{List, [], _∷_, _++_}
 use Prim.Native.Nat.{ℕ, zero, suc, _+_, _*_, _/_, _%_, _≤_, _<_}
-use native.Mathlib.Nat.{add-mod, add-mod-right, mod-eq-of-lt, mod-lt, div-add-mod', div-lt-iff-lt-mul, zero-add, suc-inj, suc-ne-zero}
+use native.Mathlib.Nat.{add-mod, add-mod-right, mod-eq-of-lt, zero-add, suc-inj, suc-ne-zero}
 use native.Mathlib.Decide.{decLt}
 use native.Mathlib.Omega.{arith}
 use borrow.Author.Tests.{lt-ltb, le-ltb}
@@ -26,24 +26,24 @@ use Rattle.cut_rules.specs.Sizes.{receivedC}
 use Rattle.cut_rules.proofs.Sufficing.{suffice-no}
 use Rattle.weave_rules.specs.Calls.{badCount, tooMuch, badChunk, notKept, enoughFault, enoughOf}
 use Rattle.codeword.specs.Erasure.{marks, erase, count}
-use Rattle.codeword.proofs.Erasure.{length-erase}
 use Rattle.code_rules.specs.Fill.{Agrees}
-use Rattle.code_rules.specs.Block.{part, Status, Filling, SomeLeft, Ready, Unmended, Mended}
+use Rattle.code_rules.specs.inner.Block.{part, Ready, BlockTried}
 use Rattle.code_rules.specs.Calls.{numberOf, lostCells, fillFault, BlockFilled}
-use Rattle.code_rules.specs.Inner.{Standing, Holds}
+use Rattle.code_rules.specs.inner.Standing.{Standing, Holds}
 use Rattle.code_rules.specs.declared.Filled.the-variants.{Done, Nothing, NotEnough, Refused}
 use Rattle.code_rules.proofs.CallCases.{granted-by, refused-by}
-use Rattle.code_rules.proofs.FillLaws.{erase-twice}
-use Rattle.code_rules.proofs.MaskLaws.{erase-at, length-marks}
+use Rattle.code_rules.proofs.MaskLaws.{length-marks}
 use Rattle.code_rules.proofs.PartLaws.{room, length-part, part-at}
 
 -- ---- a row: one cell of each fragment
 
 module _ (q f : ℕ) (here : q % f ≡ 0) where
+  -- the fragment of the cell i of a row
   pub in-row : (i : ℕ) → i < f → (q + i) % f ≡ i
   in-row i below =
       add-mod q i f ∙ ap₂ (λ (x y : ℕ). (x + y) % f) here (mod-eq-of-lt below) ∙ ap (λ (x : ℕ). x % f) (zero-add i) ∙ mod-eq-of-lt below
 
+  -- the next row starts with fragment 0
   pub next-row : (q + f) % f ≡ 0
   next-row = add-mod-right q f ∙ here
 
@@ -55,6 +55,7 @@ one-lost true ms n e = ap suc e ∙ omega arith
 one-lost false ms n e = e ∙ omega arith
 
 module _ (kept : List Bool) (f : ℕ) where
+  -- as many masks as cells
   pub length-lost : (a n : ℕ) → length (lostCells kept f a n) ≡ n
   unfolding lostCells
   length-lost a n = length-table (λ q. bit (gone (notKept kept) f q)) a n
@@ -73,6 +74,7 @@ module _ (kept : List Bool) (f : ℕ) where
   count-lost a zero = refl
   count-lost a (suc n) = one-lost (gone (notKept kept) f a) (marks (lostCells kept f (suc a) n)) _ (count-lost (suc a) n)
 
+  -- the masks of one chunk
   pub part-lost : (n c j : ℕ) → j < c → part n j (lostCells kept f 0 (c * n)) ≡ lostCells kept f (j * n) n
   unfolding lostCells
   part-lost n c j h =
@@ -87,6 +89,7 @@ module _ (kept : List Bool) (f : ℕ) where
   unfolding missing
   as-missing n j = count-lost (j * n) n
 
+  -- no chunk misses more than 48, where the fragments kept suffice
   pub few-lost : (n c : ℕ) → suffice (notKept kept) f n c ≡ true → (j : ℕ) → j < c → count (marks (part n j (lostCells kept f 0 (c * n)))) ≤ 48
   few-lost n c e j l =
       subst (λ (x : ℕ). x ≤ 48) (sym (ap (λ m. count (marks m)) (part-lost n c j l) ∙ taken)) (go (decLt parity (missing (notKept kept) f n j)))
@@ -98,105 +101,24 @@ module _ (kept : List Bool) (f : ℕ) where
       go (yes h) = clash e (suffice-no (notKept kept) f n c j l h)
       go (no h) = omega arith
 
--- ---- a filling of all chunks
-
-keeps-by : (k : ℕ) (m a b : List ℕ) (x : ℕ) → Status k m a b x → erase (marks m) b ≡ erase (marks m) a
-unfolding Status
-keeps-by k m a b zero s = s .1 .keeps
-keeps-by k m a b (suc zero) s = ap (erase (marks m)) (s .2) ∙ erase-twice (marks m) a
-keeps-by k m a b (suc (suc zero)) s = ap (erase (marks m)) (s .1)
-keeps-by k m a b (suc (suc (suc x))) s = ap (erase (marks m)) s
-
-found-by : (k : ℕ) (m a b : List ℕ) (x : ℕ) → x ≡ 0 → Status k m a b x → Agrees k m a b
-unfolding Status
-found-by k m a b zero e s = s .1
-found-by k m a b (suc x) e s = absurd (suc-ne-zero x e)
-
-none-by : (k : ℕ) (m a b : List ℕ) (x : ℕ) → x < 3 → (x ≡ 0 → ⊥) → count (marks m) ≤ 48 → Status k m a b x → (w : List ℕ) → Agrees k m a w → ⊥
-unfolding Status
-none-by k m a b zero h n few s w g = n refl
-none-by k m a b (suc zero) h n few s w g = s .1 w g
-none-by k m a b (suc (suc zero)) h n few s w g = omega (arith, s .0)
-none-by k m a b (suc (suc (suc x))) h n few s w g = omega arith
-
-module _ (k : ℕ) (mask : List ℕ) (c : ℕ) (old new ans : List ℕ) (ready : Ready k mask c old) (size : length new ≡ length old)
-    (la : length ans ≡ c) (filled : Filling k mask old new ans) where
-  pub mended-all : ((j : ℕ) → j < length ans → getD ans j 0 ≡ 0) → (j : ℕ) → j < c → Agrees k (part (k + 48) j mask) (part (k + 48) j old) (part (k + 48) j new)
-  mended-all z j h =
-      let l : j < length ans = omega arith in
-      found-by k (part (k + 48) j mask) (part (k + 48) j old) (part (k + 48) j new) (getD ans j 0) (z j l) (filled .each j l)
-
-  module _ (i : ℕ) (within : i < c * (k + 48)) where
-    j : ℕ
-    j = i / (k + 48)
-
-    x : ℕ
-    x = i % (k + 48)
-
-    low : x < k + 48
-    unfolding x
-    low = mod-lt i (omega arith)
-
-    chunk : j < c
-    unfolding j
-    chunk =
-        let some : 0 < k + 48 = omega arith in
-        div-lt-iff-lt-mul some .1 within
-
-    place : j * (k + 48) + x ≡ i
-    unfolding j x
-    place = div-add-mod' i (k + 48)
-
-    spot : (l : List ℕ) → length l ≡ c * (k + 48) → getD (erase (marks mask) l) i 0 ≡ getD (erase (marks (part (k + 48) j mask)) (part (k + 48) j l)) x 0
-    spot l e =
-        let lp : length (part (k + 48) j l) ≡ k + 48 = length-part (k + 48) c j l e chunk in
-        let lm : length (part (k + 48) j mask) ≡ k + 48 = length-part (k + 48) c j mask (ready .masks) chunk in
-        erase-at mask l i (omega arith) (ready .masks ∙ sym e)
-        ∙ ap₂ (λ (m v : ℕ). cond (eqb m 0) v 0)
-        (sym (part-at (k + 48) j x mask low ∙ ap (λ (n : ℕ). getD mask n 0) place))
-        (sym (part-at (k + 48) j x l low ∙ ap (λ (n : ℕ). getD l n 0) place))
-        ∙ sym (erase-at (part (k + 48) j mask) (part (k + 48) j l) x (omega (arith, low)) (lm ∙ sym lp))
-
-    same-spot : getD (erase (marks mask) new) i 0 ≡ getD (erase (marks mask) old) i 0
-    same-spot =
-        spot new (size ∙ ready .chunks)
-        ∙ ap (λ (l : List ℕ). getD l x 0)
-        (keeps-by k (part (k + 48) j mask) (part (k + 48) j old) (part (k + 48) j new) (getD ans j 0) (filled .each j (omega (arith, chunk))))
-        ∙ sym (spot old (ready .chunks))
-
-  pub erased-same : erase (marks mask) new ≡ erase (marks mask) old
-  erased-same =
-      ext-getD 0 (erase (marks mask) new) (erase (marks mask) old) (length-erase (marks mask) new ∙ size ∙ sym (length-erase (marks mask) old))
-      (λ i h. same-spot i (omega (arith, length-erase (marks mask) new, ready .chunks)))
-
-  pub unmended : (last : List ℕ) → SomeLeft ans → last ≡ erase (marks mask) new → Unmended k mask c old last
-  unmended last some e =
-      let l : some .at < c = omega (arith, some .below) in
-      record {
-        at = some .at;
-        below = l;
-        none = none-by k (part (k + 48) (some .at) mask) (part (k + 48) (some .at) old) (part (k + 48) (some .at) new) (getD ans (some .at) 0)
-            (filled .all (some .at) (some .below)) (some .left) (ready .few (some .at) l) (filled .each (some .at) (some .below));
-        zeros = e ∙ erased-same;
-      }
-
 -- ---- the masks of the lost cells
 
-module _ (kept : List Bool) (f k c : ℕ) (mask : List ℕ) (n : ℕ) (em : mask ≡ lostCells kept f 0 (c * (k + 48))) (en : n ≡ c) where
-  pub ready-by : (block : List ℕ) → Holds kept f k c block → Ready k mask n block
+module _ (kept : List Bool) (f k c : ℕ) (mask : List ℕ) (em : mask ≡ lostCells kept f 0 (c * (k + 48))) where
+  -- no chunk misses more than 48 bytes
+  pub ready-by : (block : List ℕ) → Holds kept f k c block → Ready k mask c block
   ready-by block h =
-      subst (λ (x : ℕ). Ready k mask x block) (sym en)
-      (subst (λ (m : List ℕ). Ready k m c block) (sym em)
+      subst (λ (m : List ℕ). Ready k m c block) (sym em)
       record {
         short = h .short;
         some = omega (arith, h .within);
         masks = length-lost kept f 0 (c * (k + 48));
         chunks = h .chunks;
         few = few-lost kept f (k + 48) c (h .enough);
-      })
+      }
 
-  pub mended-by : (old new : List ℕ) (r : Bool) → Mended k mask n old new r → Mended k (lostCells kept f 0 (c * (k + 48))) c old new r
-  mended-by old new r m = subst (λ (x : ℕ). Mended k (lostCells kept f 0 (c * (k + 48))) x old new r) en (subst (λ (l : List ℕ). Mended k l n old new r) em m)
+  -- what is filled in by the masks is filled in by the cells
+  pub tried-by : (old new : List ℕ) (r : Bool) → BlockTried k mask c old new r → BlockTried k (lostCells kept f 0 (c * (k + 48))) c old new r
+  tried-by old new r m = subst (λ (l : List ℕ). BlockTried k l c old new r) em m
 
 -- ---- the call
 
@@ -218,21 +140,26 @@ module _ (kept : List Bool) (f s k : ℕ) (block : List ℕ) (enough : Bool) (st
   c : ℕ
   c = f * s / (k + 48)
 
+  -- too little room
   pub fill-room : length block < f * s / (k + 48) * (k + 48) → BlockFilled kept f s k block block (Refused 1)
   unfolding numberOf fillFault receivedC
   fill-room h =
       record {
         number =
             refuses 1 _ _ (lit< tt)
-            (skip 7 _ (st .counted) (skip 8 _ (st .placed) (skip 8 _ (st .sound) (due 1 _ (lt-ltb (length block) (f * s / (k + parity) * (k + parity)) h)))));
+            (skip 7 _ (st .counted) (skip 8 _ (st .placed) (skip 8 _ (st .sound)
+            (due 1 _ (lt-ltb (length block) (f * s / (k + parity) * (k + parity)) h)))));
         left = refl;
       }
 
   module _ (whole : f * s / (k + 48) * (k + 48) ≤ length block) where
     no-fault : 0 ≡ fillFault f s k (length block)
     unfolding fillFault receivedC
-    no-fault = skip 7 _ (st .counted) (skip 8 _ (st .placed) (skip 8 _ (st .sound) (skip 1 _ (le-ltb (length block) (f * s / (k + parity) * (k + parity)) whole) none-due)))
+    no-fault =
+        skip 7 _ (st .counted) (skip 8 _ (st .placed) (skip 8 _ (st .sound)
+        (skip 1 _ (le-ltb (length block) (f * s / (k + parity) * (k + parity)) whole) none-due)))
 
+    -- too few fragments are kept
     pub fill-not-enough : enough ≡ false → BlockFilled kept f s k block block NotEnough
     unfolding numberOf receivedC
     fill-not-enough e = record { number = grants _ _ no-fault; left = (st .told ∙ e, refl) }
@@ -247,8 +174,16 @@ module _ (kept : List Bool) (f s k : ℕ) (block : List ℕ) (enough : Bool) (st
     unfolding all front
     length-front = length-take-le (f * s / (k + 48) * (k + 48)) block whole
 
-    module _ (new after : List ℕ) (size : length new ≡ f * s / (k + 48) * (k + 48)) (is : after ≡ new ++ drop (f * s / (k + 48) * (k + 48)) block) (yes-enough : enough ≡ true) where
-      pub fill-done : Mended k (lostCells kept f 0 (f * s / (k + 48) * (k + 48))) (f * s / (k + 48)) (take (f * s / (k + 48) * (k + 48)) block) new true
+    front-is : (j : ℕ) → j < c → part (k + 48) j front ≡ chunkOf block (k + 48) j
+    unfolding all front c
+    front-is j h =
+        part-front (k + 48) c j front (drop all block) length-front h ∙ ap (λ (l : List ℕ). chunkOf l (k + 48) j) (take-append-drop all block)
+
+    module _ (new after : List ℕ) (size : length new ≡ f * s / (k + 48) * (k + 48))
+        (is : after ≡ new ++ drop (f * s / (k + 48) * (k + 48)) block) (yes-enough : enough ≡ true) where
+      -- all chunks are filled in
+      pub fill-done : BlockTried k (lostCells kept f 0 (f * s / (k + 48) * (k + 48))) (f * s / (k + 48))
+          (take (f * s / (k + 48) * (k + 48)) block) new true
           → BlockFilled kept f s k block after Done
       unfolding numberOf receivedC all front c
       fill-done m = record {
@@ -260,7 +195,7 @@ module _ (kept : List Bool) (f s k : ℕ) (block : List ℕ) (enough : Bool) (st
             each = λ j h.
                 subst (λ (x : List ℕ). Agrees k x (chunkOf block (k + 48) j) (chunkOf after (k + 48) j)) (part-lost kept f (k + 48) c j h)
                 (subst (λ (x : List ℕ). Agrees k (part (k + 48) j (lostCells kept f 0 all)) x (chunkOf after (k + 48) j))
-                (part-front (k + 48) c j front (drop all block) length-front h ∙ ap (λ (l : List ℕ). chunkOf l (k + 48) j) (take-append-drop all block))
+                (front-is j h)
                 (subst (λ (x : List ℕ). Agrees k (part (k + 48) j (lostCells kept f 0 all)) (part (k + 48) j front) x)
                 (part-front (k + 48) c j new (drop all block) size h ∙ ap (λ (l : List ℕ). chunkOf l (k + 48) j) (sym is))
                 (m j h)));
@@ -269,7 +204,9 @@ module _ (kept : List Bool) (f s k : ℕ) (block : List ℕ) (enough : Bool) (st
         );
       }
 
-      pub fill-nothing : Mended k (lostCells kept f 0 (f * s / (k + 48) * (k + 48))) (f * s / (k + 48)) (take (f * s / (k + 48) * (k + 48)) block) new false
+      -- one chunk has no filling
+      pub fill-nothing : BlockTried k (lostCells kept f 0 (f * s / (k + 48) * (k + 48))) (f * s / (k + 48))
+          (take (f * s / (k + 48) * (k + 48)) block) new false
           → BlockFilled kept f s k block after Nothing
       unfolding numberOf receivedC all front c
       fill-nothing m = record {
@@ -283,11 +220,12 @@ module _ (kept : List Bool) (f s k : ℕ) (block : List ℕ) (enough : Bool) (st
                 m .none w
                 (subst (λ (x : List ℕ). Agrees k x (part (k + 48) (m .at) front) w) (sym (part-lost kept f (k + 48) c (m .at) (m .below)))
                 (subst (λ (x : List ℕ). Agrees k (lostCells kept f (m .at * (k + 48)) (k + 48)) x w)
-                (sym (part-front (k + 48) c (m .at) front (drop all block) length-front (m .below) ∙ ap (λ (l : List ℕ). chunkOf l (k + 48) (m .at)) (take-append-drop all block)))
+                (sym (front-is (m .at) (m .below)))
                 g));
             zeros =
                 is ∙ ap (λ (l : List ℕ). l ++ drop all block) (m .zeros)
-                ∙ sym (erase-front (marks (lostCells kept f 0 all)) front (drop all block) (length-marks (lostCells kept f 0 all) ∙ length-lost kept f 0 all ∙ sym length-front))
+                ∙ sym (erase-front (marks (lostCells kept f 0 all)) front (drop all block)
+                (length-marks (lostCells kept f 0 all) ∙ length-lost kept f 0 all ∙ sym length-front))
                 ∙ ap (erase (marks (lostCells kept f 0 all))) (take-append-drop all block);
           },
         );
@@ -309,23 +247,30 @@ module _ (kept : List Bool) (f s k : ℕ) where
   unfolding enoughFault
   sound-by e =
       let r = clear-rest (badCount f) 7 ((tooMuch f s, 8) ∷ (badChunk f s k, 8) ∷ []) (λ z. omega arith) e in
-      let q = clear-rest (tooMuch f s) 8 ((badChunk f s k, 8) ∷ []) (λ z. omega arith) r in
-      (clear (badCount f) 7 ((tooMuch f s, 8) ∷ (badChunk f s k, 8) ∷ []) (λ z. omega arith) e, clear (tooMuch f s) 8 ((badChunk f s k, 8) ∷ []) (λ z. omega arith) r, clear (badChunk f s k) 8 [] (λ z. omega arith) q)
+      let q = clear-rest (tooMuch f s) 8 ((badChunk f s k, 8) ∷ []) (λ z. omega arith) r in (
+        clear (badCount f) 7 ((tooMuch f s, 8) ∷ (badChunk f s k, 8) ∷ []) (λ z. omega arith) e,
+        clear (tooMuch f s) 8 ((badChunk f s k, 8) ∷ []) (λ z. omega arith) r,
+        clear (badChunk f s k) 8 [] (λ z. omega arith) q,
+      )
 
+  -- the figures are sound
   pub standing : (b : Bool) → granted (bit b ∷ []) ≡ enoughOf kept f s k → Standing kept f s k b
   unfolding enoughOf receivedC
   standing b e =
-      let g = granted-by (enoughFault f s k) (bit b ∷ []) (bit (suffice (notKept kept) f (k + parity) (f * s / (k + parity))) ∷ []) e in
+      let so : Bool = suffice (notKept kept) f (k + parity) (f * s / (k + parity)) in
+      let g = granted-by (enoughFault f s k) (bit b ∷ []) (bit so ∷ []) e in
       let t = sound-by (sym (g .0)) in
-      record { counted = t .0; placed = t .1; sound = t .2; told = bit-one (suffice (notKept kept) f (k + parity) (f * s / (k + parity))) b (sym (ap (λ (l : List ℕ). getD l 0 0) (g .1))) }
+      record { counted = t .0; placed = t .1; sound = t .2; told = bit-one so b (sym (ap (λ (l : List ℕ). getD l 0 0) (g .1))) }
 
   same-fault : (n len : ℕ) → n ≡ enoughFault f s k → 0 < n → enoughFault f s k ≡ fillFault f s k len
   unfolding enoughFault fillFault
   same-fault n len e h = go (badCount f) (tooMuch f s) (badChunk f s k) (ltb len (receivedC f s k * (k + parity))) e
     where
-      go : (a b d x : Bool) → n ≡ first ((a, 7) ∷ (b, 8) ∷ (d, 8) ∷ []) → first ((a, 7) ∷ (b, 8) ∷ (d, 8) ∷ []) ≡ first ((a, 7) ∷ (b, 8) ∷ (d, 8) ∷ (x, 1) ∷ [])
+      go : (a b d x : Bool) → n ≡ first ((a, 7) ∷ (b, 8) ∷ (d, 8) ∷ [])
+          → first ((a, 7) ∷ (b, 8) ∷ (d, 8) ∷ []) ≡ first ((a, 7) ∷ (b, 8) ∷ (d, 8) ∷ (x, 1) ∷ [])
       go a b d x q = firsts-same n a b d x h q
 
+  -- the figures cannot be
   pub fill-refused : (n : ℕ) (block : List ℕ) → refused n ≡ enoughOf kept f s k → BlockFilled kept f s k block block (Refused n)
   unfolding enoughOf numberOf
   fill-refused n block e =

@@ -10,10 +10,10 @@ use lib.ListN.{length, take, drop, getD, set, replicate, length-append, length-r
 use lib.Seq.{ext-getD, getD-set-same, getD-set-other, take-all, length-take-le}
 use Rattle.field_rules.specs.Field.{_⊕_, _⊗_, times2, alpha}
 use Rattle.field_rules.proofs.Sums.{add-0-l, add-0-r, add-self, add-swap}
-use Rattle.field_rules.proofs.Products.{mul-0-l}
+use Rattle.field_rules.proofs.Products.{mul-0-l, mul-comm}
 use Rattle.field_rules.proofs.Powers.{alpha-lt}
 use Rattle.codeword.specs.Code.{horner, value, step, run, parityOf, full}
-use Rattle.code_rules.specs.Words.{table}
+use Rattle.code_rules.specs.inner.Words.{table}
 use Rattle.base_rules.specs.Bytes.{Bytes}
 use Rattle.base_rules.specs.Table as tables
 use Rattle.base_rules.proofs.Tables as table-laws
@@ -21,10 +21,11 @@ use Rattle.codeword.specs.Erasure.{syndromes}
 use Rattle.codeword.proofs.Poly.{raise, raise-add, raise-0, value-cons, value-nil, value-append, value-zeros}
 use Rattle.codeword.proofs.Encoder.{length-parity, length-step, step-at, padded-at, value-run, generator-root}
 use Rattle.codeword.proofs.Vandermonde.{getD-table}
-use Rattle.code_rules.specs.Kernel.{laid, sumOf, remainder, Doubles, Multiples, Chain, lane, rootsList}
+use Rattle.code_rules.specs.inner.Kernel.{laid, sumOf, remainder, Doubles, Multiples, Chain, lane, laneBy, dotted, rowAt, rootsList}
 use mir.Val.{Fits}
 use mir.Syntax.{w8}
 use Rattle.code_rules.proofs.LoopLaws.{Upto, horner-take}
+use Rattle.code_rules.proofs.BitLaws.{dot-is}
 use Rattle.code_rules.proofs.RowLaws.{past-end, zeros-at}
 
 -- ---- tables
@@ -65,7 +66,8 @@ laid-past d j h =
 step-zeros : step (replicate 48 0) 0 ≡ replicate 48 0
 step-zeros =
     ext-getD 0 (step (replicate 48 0) 0) (replicate 48 0) (length-step (replicate 48 0) 0 l ∙ sym l)
-    (λ i h. step-at (replicate 48 0) 0 i l ∙ ap₂ (λ a b. a ⊕ (b ⊕ 0) ⊗ getD Rattle.codeword.specs.Code.generator i 0) (zeros-at 48 (i + 1)) (zeros-at 48 0)
+    (λ i h. step-at (replicate 48 0) 0 i l ∙ ap₂ (λ a b. a ⊕ (b ⊕ 0) ⊗ getD Rattle.codeword.specs.Code.generator i 0) (zeros-at 48 (i + 1))
+    (zeros-at 48 0)
     ∙ add-0-l _ ∙ ap (λ a. a ⊗ getD Rattle.codeword.specs.Code.generator i 0) (add-self 0) ∙ mul-0-l _ ∙ sym (zeros-at 48 i))
   where
     l : length {A = ℕ} (replicate 48 0) ≡ 48
@@ -99,7 +101,8 @@ value-sumOf x (c ∷ a) [] e = absurd (suc-ne-zero (length a) e)
 value-sumOf x (c ∷ a) (d ∷ b) e =
     value-cons x (c ⊕ d) (sumOf a b)
     ∙ ap₂ _⊕_
-    (ap (λ n. raise x n (c ⊕ d)) (length-sumOf a b (suc-inj e)) ∙ raise-add x (length a) c d ∙ ap (λ n. raise x (length a) c ⊕ raise x n d) (suc-inj e))
+    (ap (λ n. raise x n (c ⊕ d)) (length-sumOf a b (suc-inj e)) ∙ raise-add x (length a) c d
+    ∙ ap (λ n. raise x (length a) c ⊕ raise x n d) (suc-inj e))
     (value-sumOf x a b (suc-inj e))
     ∙ add-swap (raise x (length a) c) (raise x (length b) d) (value x a) (value x b)
     ∙ sym (ap₂ _⊕_ (value-cons x c a) (value-cons x d b))
@@ -114,9 +117,11 @@ module _ (k : ℕ) (c : List ℕ) (h : k ≤ 207) (e : length c ≡ k + 48) wher
   unfolding remainder full parityOf value
   remainder-value j l =
       value-sumOf (alpha (suc j)) (parityOf (take k c)) (drop k c) (length-parity (take k c) ∙ sym drop-size)
-      ∙ ap (λ n. value (alpha (suc j)) (run (replicate 48 0) (take k c ++ replicate (207 - n) 0)) ⊕ value (alpha (suc j)) (drop k c)) (length-take-le k c (omega arith))
+      ∙ ap (λ n. value (alpha (suc j)) (run (replicate 48 0) (take k c ++ replicate (207 - n) 0)) ⊕ value (alpha (suc j)) (drop k c))
+      (length-take-le k c (omega arith))
       ∙ ap (λ y. y ⊕ value (alpha (suc j)) (drop k c))
-      (value-run (alpha (suc j)) (alpha-lt (suc j)) (generator-root j l) (replicate 48 0) (take k c ++ replicate (207 - k) 0) 0 (length-replicate {A = ℕ} 48 0)
+      (value-run (alpha (suc j)) (alpha-lt (suc j)) (generator-root j l) (replicate 48 0) (take k c ++ replicate (207 - k) 0) 0
+      (length-replicate {A = ℕ} 48 0)
       (value-zeros (alpha (suc j)) 48 ∙ sym (raise-0 (alpha (suc j)) 48)))
       ∙ sym (ap (value (alpha (suc j))) (sym (append-assoc (take k c) (replicate (207 - k) 0) (drop k c)))
       ∙ value-append (alpha (suc j)) (take k c ++ replicate (207 - k) 0) (drop k c)
@@ -129,8 +134,9 @@ module _ (k : ℕ) (c : List ℕ) (h : k ≤ 207) (e : length c ≡ k + 48) wher
 
 -- ---- lanes
 
-pub chain-at : (k : List ℕ) (m : ℕ) → Doubles k → m < 48
-    → Chain (getD k m 0) (getD k (m + 48) 0) (getD k (m + 96) 0) (getD k (m + 144) 0) (getD k (m + 192) 0) (getD k (m + 240) 0) (getD k (m + 288) 0) (getD k (m + 336) 0)
+chain-at : (k : List ℕ) (m : ℕ) → Doubles k → m < 48
+    → Chain (getD k m 0) (getD k (m + 48) 0) (getD k (m + 96) 0) (getD k (m + 144) 0) (getD k (m + 192) 0) (getD k (m + 240) 0)
+    (getD k (m + 288) 0) (getD k (m + 336) 0)
 unfolding Doubles
 chain-at k m d h =
     record {
@@ -159,6 +165,24 @@ pub length-lane : (xs s r : List ℕ) → length (lane xs s r) ≡ 48
 unfolding lane
 length-lane xs s r = length-table 48 (λ i. getD s i 0 ⊗ getD xs i 0 ⊕ getD r i 0)
 
+-- what any eight rows of 48 give in a lane
+pub laneBy-at : (k s r : List ℕ) (i : ℕ) → i < 48
+    → getD (laneBy k s r) i 0
+    ≡ dotted (getD s i 0) (getD k i 0) (rowAt k 1 i) (rowAt k 2 i) (rowAt k 3 i) (rowAt k 4 i) (rowAt k 5 i) (rowAt k 6 i) (rowAt k 7 i) ⊕ getD r i 0
+unfolding laneBy
+laneBy-at k s r i h = getD-table 48 _ i h
+
+pub length-laneBy : (k s r : List ℕ) → length (laneBy k s r) ≡ 48
+unfolding laneBy
+length-laneBy k s r = length-table 48 _
+
+-- rows that are each twice the one before give the products
+pub lane-by : (k s r : List ℕ) → Doubles k → ((i : ℕ) → i < 48 → getD k i 0 < 256) → laneBy k s r ≡ lane k s r
+unfolding laneBy lane
+lane-by k s r d b =
+    table-ext 48 _ _
+    (λ i h. ap (λ y. y ⊕ getD r i 0) (dot-is (getD s i 0) _ _ _ _ _ _ _ _ (b i h) (chain-at k i d h) ∙ mul-comm (getD k i 0) (getD s i 0)))
+
 pub lane-table : (xs s r : List ℕ) (f : ℕ → ℕ) → ((i : ℕ) → i < 48 → getD s i 0 ⊗ getD xs i 0 ⊕ getD r i 0 ≡ f i) → lane xs s r ≡ table 48 f
 unfolding lane
 lane-table xs s r f h = table-ext 48 _ f h
@@ -182,10 +206,6 @@ roots-at j h = getD-table 48 (λ j. alpha (suc j)) j h
 pub length-roots : length rootsList ≡ 48
 unfolding rootsList
 length-roots = length-table 48 (λ j. alpha (suc j))
-
-pub syndromes-all : (r : List ℕ) (m : ℕ) → length r ≤ m → table 48 (λ i. horner (getD rootsList i 0) 0 (take m r)) ≡ syndromes r
-unfolding syndromes value
-syndromes-all r m h = table-ext 48 _ _ (λ i b. ap₂ (λ x l. horner x 0 l) (roots-at i b) (take-all m r h))
 
 -- ---- the rows of multiples
 

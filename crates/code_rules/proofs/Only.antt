@@ -1,14 +1,12 @@
 -- No second pair of answer and bytes fits the promise of `fill_chunk`, and none that of `fill` (R4 with R3). Assumes nothing.
-use mathlib.Core.Path.{_≡_, refl, sym, ap, ap₂, _∙_, subst}
+use mathlib.Core.Path.{_≡_, refl, sym, ap, _∙_, subst}
 use mathlib.Core.Bool.{Bool, true, false}
-use mathlib.Core.List.{List, [], _∷_, _++_}
-use Prim.Native.Nat.{ℕ, zero, suc, _+_, _*_, _≤_, _<_}
-use native.Mathlib.Nat.{zero-mul, suc-mul, add-comm}
+use mathlib.Core.List.{List, [], _∷_}
+use Prim.Native.Nat.{ℕ, _+_, _*_, _≤_, _<_}
 use native.Mathlib.Omega.{arith}
 use Rattle.base_rules.proofs.Logic.{clash}
 use lib.Dec.{ltb}
-use lib.ListN.{length, take, drop, take-append-drop}
-use lib.Seq.{drop-drop}
+use lib.ListN.{length, drop}
 use Rattle.base_rules.specs.Answer.{granted, refused, answered}
 use Rattle.base_rules.specs.Bounds.{parity}
 use Rattle.base_rules.proofs.ChunkSize.{k-most}
@@ -19,11 +17,13 @@ use Rattle.cut_rules.specs.Sizes.{receivedC}
 use Rattle.weave_rules.specs.Calls.{badCount, tooMuch, badChunk, notKept}
 use Rattle.weave_rules.proofs.CallCases.{chunk-some}
 use Rattle.codeword.specs.Erasure.{marks, count}
+use Rattle.code_rules.specs.inner.Block.{part}
 use Rattle.code_rules.specs.Fill.{Agrees}
 use Rattle.code_rules.specs.Calls.{numberOf, valuesOf, badPair, chunkFault, ChunkFilled, lostCells, fillFault, BlockFilled}
 use Rattle.code_rules.specs.declared.Filled.{Filled}
 use Rattle.code_rules.specs.declared.Filled.the-variants.{Done, Nothing, NotEnough, Refused}
 use Rattle.code_rules.proofs.CallCases.{granted-by, refused-by, pair-size, pair-mask}
+use Rattle.code_rules.proofs.PartLaws.{by-parts}
 use Rattle.code_rules.proofs.FillLaws.{one-filling}
 use Rattle.code_rules.proofs.CellLaws.{length-lost, part-lost, few-lost}
 
@@ -86,25 +86,14 @@ module _ (k : ℕ) (mask c v w : List ℕ) where
   one-chunk-filled (Refused n) Done a b = absurd (not-both _ _ _ _ _ (b .number) (a .number))
   one-chunk-filled (Refused n) Nothing a b = absurd (not-both _ _ _ _ _ (b .number) (a .number))
   one-chunk-filled (Refused n) NotEnough a b = absurd (not-both _ _ _ _ _ (b .number) (a .number))
-  one-chunk-filled (Refused n) (Refused m) a b = (one-filled (Refused n) (Refused m) (one-number _ _ _ _ _ (a .number) (b .number)), a .left ∙ sym (b .left))
+  one-chunk-filled (Refused n) (Refused m) a b =
+      (one-filled (Refused n) (Refused m) (one-number _ _ _ _ _ (a .number) (b .number)), a .left ∙ sym (b .left))
 
 -- ---- lists that have the same chunks, and the same behind them
 
-later : (n j : ℕ) (l : List ℕ) → drop (j * n) (drop n l) ≡ drop (suc j * n) l
-later n j l = drop-drop (j * n) n l ∙ ap (λ (x : ℕ). drop x l) (add-comm n (j * n) ∙ sym (suc-mul j n))
-
 by-chunks : (n c : ℕ) (v w : List ℕ) → ((j : ℕ) → j < c → chunkOf v n j ≡ chunkOf w n j) → drop (c * n) v ≡ drop (c * n) w → v ≡ w
-unfolding chunkOf
-by-chunks n zero v w h e = ap (λ (x : ℕ). drop x v) (sym (zero-mul n)) ∙ e ∙ ap (λ (x : ℕ). drop x w) (zero-mul n)
-by-chunks n (suc c) v w h e =
-    sym (take-append-drop n v)
-    ∙ ap₂ (λ (a b : List ℕ). a ++ b) first
-    (by-chunks n c (drop n v) (drop n w) (λ j l. ap (take n) (later n j v) ∙ h (suc j) (omega arith) ∙ ap (take n) (sym (later n j w))) (later n c v ∙ e ∙ sym (later n c w)))
-    ∙ take-append-drop n w
-  where
-    first : take n v ≡ take n w
-    first =
-        ap (λ (x : ℕ). take n (drop x v)) (sym (zero-mul n)) ∙ h 0 (omega arith) ∙ ap (λ (x : ℕ). take n (drop x w)) (zero-mul n)
+unfolding chunkOf part
+by-chunks n c v w h e = by-parts n c v w h e
 
 -- ---- a block
 
@@ -123,19 +112,26 @@ module _ (kept : List Bool) (f s k : ℕ) (block v w : List ℕ) where
       → Agrees k (lostCells kept f (j * (k + parity)) (k + parity)) (chunkOf block (k + parity) j) (chunkOf w (k + parity) j)
       → chunkOf v (k + parity) j ≡ chunkOf w (k + parity) j
   same-chunk fine enough j l a b =
-      one-filling k (lostCells kept f (j * (k + parity)) (k + parity)) (chunkOf block (k + parity) j) (chunkOf v (k + parity) j) (chunkOf w (k + parity) j)
+      one-filling k (lostCells kept f (j * (k + parity)) (k + parity)) (chunkOf block (k + parity) j)
+      (chunkOf v (k + parity) j) (chunkOf w (k + parity) j)
       (short fine) (length-lost kept f (j * (k + parity)) (k + parity))
-      (subst (λ (m : List ℕ). count (marks m) ≤ 48) (part-lost kept f (k + parity) (receivedC f s k) j l) (few-lost kept f (k + parity) (receivedC f s k) enough j l)) a b
+      (subst (λ (m : List ℕ). count (marks m) ≤ 48) (part-lost kept f (k + parity) (receivedC f s k) j l)
+      (few-lost kept f (k + parity) (receivedC f s k) enough j l)) a b
 
   pub one-block-filled : (r q : Filled) → BlockFilled kept f s k block v r → BlockFilled kept f s k block w q → (r ≡ q) × (v ≡ w)
   unfolding numberOf
   one-block-filled Done Done a b =
-      let fine : 0 ≡ fillFault f s k (length block) = granted-by _ _ _ (a .number) .0 in
-      (refl, by-chunks (k + parity) (receivedC f s k) v w (λ j l. same-chunk fine (a .left .0) j l (a .left .1 .each j l) (b .left .1 .each j l)) (a .left .1 .behind ∙ sym (b .left .1 .behind)))
-  one-block-filled Done Nothing a b = absurd (b .left .1 .none (chunkOf v (k + parity) (b .left .1 .at)) (a .left .1 .each (b .left .1 .at) (b .left .1 .below)))
+      let fine : 0 ≡ fillFault f s k (length block) = granted-by _ _ _ (a .number) .0 in (
+        refl,
+        by-chunks (k + parity) (receivedC f s k) v w
+            (λ j l. same-chunk fine (a .left .0) j l (a .left .1 .each j l) (b .left .1 .each j l)) (a .left .1 .behind ∙ sym (b .left .1 .behind)),
+      )
+  one-block-filled Done Nothing a b =
+      absurd (b .left .1 .none (chunkOf v (k + parity) (b .left .1 .at)) (a .left .1 .each (b .left .1 .at) (b .left .1 .below)))
   one-block-filled Done NotEnough a b = clash (a .left .0) (b .left .0)
   one-block-filled Done (Refused n) a b = absurd (not-both _ _ _ _ _ (a .number) (b .number))
-  one-block-filled Nothing Done a b = absurd (a .left .1 .none (chunkOf w (k + parity) (a .left .1 .at)) (b .left .1 .each (a .left .1 .at) (a .left .1 .below)))
+  one-block-filled Nothing Done a b =
+      absurd (a .left .1 .none (chunkOf w (k + parity) (a .left .1 .at)) (b .left .1 .each (a .left .1 .at) (a .left .1 .below)))
   one-block-filled Nothing Nothing a b = (refl, a .left .1 .zeros ∙ sym (b .left .1 .zeros))
   one-block-filled Nothing NotEnough a b = clash (a .left .0) (b .left .0)
   one-block-filled Nothing (Refused n) a b = absurd (not-both _ _ _ _ _ (a .number) (b .number))
@@ -146,4 +142,5 @@ module _ (kept : List Bool) (f s k : ℕ) (block v w : List ℕ) where
   one-block-filled (Refused n) Done a b = absurd (not-both _ _ _ _ _ (b .number) (a .number))
   one-block-filled (Refused n) Nothing a b = absurd (not-both _ _ _ _ _ (b .number) (a .number))
   one-block-filled (Refused n) NotEnough a b = absurd (not-both _ _ _ _ _ (b .number) (a .number))
-  one-block-filled (Refused n) (Refused m) a b = (one-filled (Refused n) (Refused m) (one-number _ _ _ _ _ (a .number) (b .number)), a .left ∙ sym (b .left))
+  one-block-filled (Refused n) (Refused m) a b =
+      (one-filled (Refused n) (Refused m) (one-number _ _ _ _ _ (a .number) (b .number)), a .left ∙ sym (b .left))

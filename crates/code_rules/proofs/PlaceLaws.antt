@@ -36,7 +36,8 @@ module _ (k : ℕ) (c : List ℕ) (h : k ≤ 207) (e : length c ≡ k + 48) wher
   unfolding full
   full-parity i l =
       ap₂ (λ w n. getD w n 0) (sym (append-assoc (take k c) (replicate (207 - k) 0) (drop k c))) back
-      ∙ past (take k c ++ replicate (207 - k) 0) (drop k c) 207 (i - 207) (length-append (take k c) (replicate (207 - k) 0) ∙ ap₂ _+_ long (length-replicate {A = ℕ} (207 - k) 0) ∙ sum)
+      ∙ past (take k c ++ replicate (207 - k) 0) (drop k c) 207 (i - 207) (length-append (take k c) (replicate (207 - k) 0)
+      ∙ ap₂ _+_ long (length-replicate {A = ℕ} (207 - k) 0) ∙ sum)
       ∙ getD-drop k c (i - 207) 0 ∙ ap (λ n. getD c n 0) turn
     where
       back : i ≡ 207 + (i - 207)

@@ -84,7 +84,8 @@ fillFault f s k room =
 -- clause 7.4.4: each of c chunks is one of the code that has the cells kept; what is behind them is as it was
 pub record BlockDone (kept : List Bool) (f k c : ℕ) (block after : List ℕ) : Type 0 where
   pub size : length after ≡ length block
-  pub each : (j : ℕ) → j < c → Agrees k (lostCells kept f (j * (k + parity)) (k + parity)) (chunkOf block (k + parity) j) (chunkOf after (k + parity) j)
+  pub each : (j : ℕ) → j < c → Agrees k (lostCells kept f (j * (k + parity)) (k + parity)) (chunkOf block (k + parity) j)
+      (chunkOf after (k + parity) j)
   pub behind : drop (c * (k + parity)) after ≡ drop (c * (k + parity)) block
 
 -- clause 7.4.4: no chunk of the code has the cells kept of one of c chunks; 0 for each missing cell of all of them, and all else as it was

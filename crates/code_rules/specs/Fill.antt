@@ -5,8 +5,6 @@ use Prim.Native.Nat.{ℕ, _≤_, _<_}
 use Rattle.base_rules.specs.Bounds.{parity}
 use Rattle.codeword.specs.Code.{Coded}
 use Rattle.codeword.specs.Erasure.{marks, erase, count}
-use Rattle.code_rules.specs.declared.Answer.{Answer}
-use Rattle.code_rules.specs.declared.Answer.the-variants as answers
 use Rattle.code_rules.specs.declared.Filled.{Filled}
 use Rattle.code_rules.specs.declared.Filled.the-variants.{Done, Nothing, NotEnough, Refused}
 
@@ -22,13 +20,3 @@ ChunkAfter k mask c after Done = (count (marks mask) ≤ parity) × Agrees k mas
 ChunkAfter k mask c after Nothing = (count (marks mask) ≤ parity) × ((w : List ℕ) → Agrees k mask c w → ⊥) × (after ≡ erase (marks mask) c)
 ChunkAfter k mask c after NotEnough = (parity < count (marks mask)) × (after ≡ c)
 ChunkAfter k mask c after (Refused n) = after ≡ c
-
--- the call's answer for a chunk's (clause 7.4.4)
-abbrev pub filledOf : Answer → Filled
-filledOf answers.Found = Done
-filledOf answers.Nothing = Nothing
-filledOf answers.NotEnough = NotEnough
-
--- the same for a chunk that is not refused (clause 7.4.4)
-abbrev pub Fills : ℕ → List ℕ → List ℕ → List ℕ → Answer → Type 0
-Fills k mask c after a = ChunkAfter k mask c after (filledOf a)

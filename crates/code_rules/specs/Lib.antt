@@ -1,9 +1,4 @@
 pub mod Fill
 pub mod Calls
 pub mod Claims
-pub mod Words
-pub mod Kernel
-pub mod Filling
-pub mod Sharing
-pub mod Block
-pub mod Inner
+pub mod inner

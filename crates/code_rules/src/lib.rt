@@ -8,10 +8,3 @@ pub enum Filled {
     NotEnough,
     Refused(u8),
 }
-
-// What became of one chunk: its missing bytes are found; no chunk of the code has the bytes that are there; more than 48 are missing.
-pub enum Answer {
-    Found,
-    Nothing,
-    NotEnough,
-}

@@ -33,7 +33,7 @@ fn answer_parity(line: &[u8], out: &mut [u8]) -> usize
         return 0;
     };
     let mut sum = [0u8; base::PARITY];
-    let written = code::parity(&data[..k], &mut sum);
+    let written = code_encoder::parity(&data[..k], &mut sum);
     write_parity(out, written, &sum)
 }
 
@@ -60,7 +60,7 @@ fn fill_and_write(out: &mut [u8], k: usize, positions: &[u8], chunk: &mut [u8]) 
     let n = chunk.len();
     let mut mask = [0u8; CHUNK];
     if mark_all(positions, &mut mask[..n]) {
-        let filled = code::fill_chunk(k, &mask[..n], chunk);
+        let filled = code_decoder::fill_chunk(k, &mask[..n], chunk);
         return write_filled(out, filled, chunk);
     }
     0
@@ -109,13 +109,13 @@ fn write_parity(out: &mut [u8], written: base::Written, sum: &[u8]) -> usize
 }
 
 // What became of the missing bytes. Sizes that do not fit each other are a malformed line.
-fn write_filled(out: &mut [u8], filled: code::Filled, chunk: &[u8]) -> usize
+fn write_filled(out: &mut [u8], filled: code_decoder::Filled, chunk: &[u8]) -> usize
     ensures { λ r. ⌜ Wrote (now (out .entry)) 0 r (now (out .exit)) ⌝ }
 {
     match filled {
-        code::Filled::Done => replies::bytes(out, b"filled ", chunk),
-        code::Filled::Nothing => replies::word(out, b"none"),
-        code::Filled::NotEnough => replies::word(out, b"notenough"),
-        code::Filled::Refused(_) => 0,
+        code_decoder::Filled::Done => replies::bytes(out, b"filled ", chunk),
+        code_decoder::Filled::Nothing => replies::word(out, b"none"),
+        code_decoder::Filled::NotEnough => replies::word(out, b"notenough"),
+        code_decoder::Filled::Refused(_) => 0,
     }
 }

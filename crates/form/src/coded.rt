@@ -2,7 +2,7 @@
 use crate::Proposed;
 use base::PARITY;
 use base::PLACE;
-use code::Filled;
+use code_decoder::Filled;
 use places::Place;
 use weave::Held;
 ghost use mathlib.Core.Path.{_≡_};
@@ -66,7 +66,7 @@ pub fn decode(p: Place, held: &[u8], buffer: &mut [u8]) -> Proposed
     let mut cells = [0u8; PLACE];
     weave::deinterleave(held, f, s, &mut cells);
     let kept = p.kept;
-    match code::fill(kept, f, s, k, &mut cells) {
+    match code_decoder::fill(kept, f, s, k, &mut cells) {
         Filled::Done => {
             let c = f * s / (k + PARITY);
             gather(&cells, k, c, buffer);

@@ -12,7 +12,7 @@ use Rattle.base_rules.proofs.ByteLaws.{bytes-append, bytes-take}
 use Rattle.cut_rules.specs.Block.{chunkOf, wordOf, blockOf}
 use Rattle.codeword.specs.Code.{Coded, parityOf, encode}
 use Rattle.codeword.proofs.Proved.{systematic}
-use Rattle.code_rules.specs.Block.{part}
+use Rattle.code_rules.specs.inner.Block.{part}
 use Rattle.code_rules.proofs.PartLaws.{room, part-at}
 use Rattle.form_rules.specs.inner.Proposals.{dataOf}
 

@@ -1,4 +1,5 @@
--- A fragment that came and stands in a place: it stands there after a call that leaves the place alone, and after one that keeps another fragment in it. Assumes nothing.
+-- A fragment that came and stands in a place: it stands there after a call that leaves the place alone, and after one that keeps
+-- another fragment in it. Assumes nothing.
 use mathlib.Core.Path.{_≡_, refl, sym, ap, ap₂, _∙_, subst}
 use mathlib.Core.Bool.{Bool, true, false, not, cond, _&&_}
 use mathlib.Core.List.{List, _∷_}

@@ -17,7 +17,7 @@ pub(crate) fn lay_block(g: Settings, packet: &[u8], p: Figures, block: &mut [u8]
     ensures { λ _. ⌜ Laid g (now (packet .entry)) (take (L g (length (now (packet .entry)))) (now (block .exit))) ⌝ }
 {
     if g.fec {
-        code::encode(packet, p.k, p.c, block);
+        code_encoder::encode(packet, p.k, p.c, block);
     }
 }
 

@@ -1,0 +1,80 @@
+-- `fill_chunk` meets its contract: a block of one chunk. Assumes nothing.
+use mathlib.Core.Path.{_≡_, subst}
+use Prim.Native.Nat.{_≤_, _<_}
+use native.Mathlib.Omega.{arith}
+use borrow.Author.Needs.{needs}
+use lib.ListN.{length}
+use Rattle.base_rules.proofs.Logic.{told}
+use Rattle.codeword.specs.Erasure.{marks, count}
+use Rattle.code_rules.specs.inner.Block.{BlockTried}
+use Rattle.code_rules.proofs.CallCases as cases
+use Rattle.code_decoder.proofs.calls.fill_chunk.Statement.{statement}
+use Rattle.code_decoder.proofs.calls.fill_chunk.Tie as tie
+
+bad-pair-requires : tie.Need-bad-pair-requires
+bad-pair-requires c κs = search needs
+
+returns : tie.Need-returns
+returns c =
+    let A = c .before .before .before .before .args in
+    cases.chunk-refused (A .k) (A .mask .now) (A .chunk .now) (told (c .before .bad-pair .ensures) (c .if1 .taken))
+
+missing-count-requires : tie.Need-missing-count-requires
+missing-count-requires c κs = search needs
+
+returns-2 : tie.Need-returns-2
+returns-2 c =
+    let A = c .before .before .before .before .before .before .args in
+    let fine = told (c .before .before .before .bad-pair .ensures) (c .before .before .if1 .left) in
+    let many : 48 < count (marks (A .mask .now)) = omega (arith, c .if2 .taken, c .before .missing-count .ensures) in
+    cases.chunk-short (A .k) (A .mask .now) (A .chunk .now) fine many
+
+fill-block-requires : tie.Need-fill-block-requires
+fill-block-requires c κs =
+    let A = c .before .before .before .before .before .before .before .args in
+    let fine = told (c .before .before .before .before .bad-pair .ensures) (c .before .before .before .if1 .left) in
+    let few : count (marks (A .mask .now)) ≤ 48 = omega (arith, c .before .if2 .left, c .before .before .missing-count .ensures) in
+    (cases.chunk-ready (A .k) (A .mask .now) (A .chunk .now) fine few, search needs)
+
+same-length : tie.Need-same-length
+same-length c = search needs
+
+returns-3 : tie.Need-returns-3
+returns-3 c =
+    let F = c .before .before .before .fill-block in
+    let E = c .before .before .before .before .before in
+    let A = E .before .before .before .before .before .before .args in
+    let fine = told (E .before .before .before .bad-pair .ensures) (E .before .before .if1 .left) in
+    let few : count (marks (A .mask .now)) ≤ 48 = omega (arith, E .if2 .left, E .before .missing-count .ensures) in
+    let new = F .last .1 .1 .1 .1 .0 in
+    let size : length new ≡ length (A .chunk .now) = search needs in
+    let tried = subst (BlockTried (A .k) (A .mask .now) 1 (A .chunk .now) new) (c .if3 .taken) (F .ensures) in
+    cases.chunk-done (A .k) (A .mask .now) (A .chunk .now) fine few new size tried
+
+same-length-2 : tie.Need-same-length-2
+same-length-2 c = search needs
+
+returns-4 : tie.Need-returns-4
+returns-4 c =
+    let F = c .before .before .before .fill-block in
+    let E = c .before .before .before .before .before in
+    let A = E .before .before .before .before .before .before .args in
+    let fine = told (E .before .before .before .bad-pair .ensures) (E .before .before .if1 .left) in
+    let few : count (marks (A .mask .now)) ≤ 48 = omega (arith, E .if2 .left, E .before .missing-count .ensures) in
+    let new = F .last .1 .1 .1 .1 .0 in
+    let tried = subst (BlockTried (A .k) (A .mask .now) 1 (A .chunk .now) new) (c .if3 .left) (F .ensures) in
+    cases.chunk-nothing (A .k) (A .mask .now) (A .chunk .now) fine few new tried
+
+pub fill-chunk-spec : {M : Type 1} → statement M
+fill-chunk-spec =
+    tie.close
+    (tie.spec
+    bad-pair-requires
+    returns
+    missing-count-requires
+    returns-2
+    fill-block-requires
+    same-length
+    returns-3
+    same-length-2
+    returns-4)
