@@ -23,24 +23,30 @@ use Rattle.af_rules.specs.declared.Checked.the-variants.{Packet, Refused
 -- ---- the tests from each number on
 
 module _ (s : List ℕ) where
+  -- the last of the AF tests alone: a CRC field that is not as CF calls for gives 25
   abbrev pub from-25 : List (Bool × ℕ)
   from-25 = (badCrc s, 25) ∷ []
 
+  -- from 24 on: a PT that is not "T", then the CRC field
   abbrev pub from-24 : List (Bool × ℕ)
   from-24 = (not (eqb (ptOf s) packetType), 24) ∷ from-25
 
+  -- from 23 on: a major revision that is not 1, then PT and the CRC field
   abbrev pub from-23 : List (Bool × ℕ)
   from-23 = (not (eqb (majorOf s) major), 23) ∷ from-24
 
+  -- from 22 on: a length that is not LEN + 12 or is over 8,192, then the tests of 23 to 25
   abbrev pub from-22 : List (Bool × ℕ)
   from-22 = (badLength s, 22) ∷ from-23
 
+  -- from 21 on: a packet that does not begin with "AF", then the tests of 22 to 25
   abbrev pub from-21 : List (Bool × ℕ)
   from-21 = (not (eqb (syncOf s) sync), 21) ∷ from-22
 
   abbrev pub from-20 : List (Bool × ℕ)
   from-20 = (ltb (length s) least-l, 20) ∷ from-21
 
+  -- the first of the tests 20 to 25 that a packet fails gives its number, and 0 is given if it fails none
   pub in-order : first from-20 ≡ afFault s
   unfolding afFault
   in-order = refl
@@ -54,10 +60,12 @@ module _ (s : List ℕ) where
 
   -- the same as it is worked out, with LEN as it was read
   module _ (len : ℕ) (is-len : len ≡ lenOf s) where
+    -- a length other than LEN + 12 fails the test of 22
     pub length-other : (length s ≡ len + least-l → ⊥) → true ≡ badLength s
     unfolding badLength
     length-other ne = rw (← is-len, ne-eqb (length s) (len + least-l) ne)
 
+    -- of a length that is LEN + 12, the test of 22 asks only whether it is over 8,192
     pub length-over : length s ≡ len + least-l → ltb most-l (length s) ≡ badLength s
     unfolding badLength
     length-over e = rw (← is-len, eq-eqb (length s) (len + least-l) e)
@@ -78,6 +86,7 @@ module _ (s : List ℕ) where
 
 -- ---- a packet that passes
 
+-- all that the checks 20 to 25 ask of a packet
 pub record Passing (s : List ℕ) : Type 0 where
   pub long : least-l ≤ length s
   pub synced : syncOf s ≡ sync
@@ -87,6 +96,7 @@ pub record Passing (s : List ℕ) : Type 0 where
   pub typed : ptOf s ≡ packetType
   pub summed : crcOf s ≡ crcFor (cfOf s) (coveredOf s)
 
+-- a packet that has all this passes the AF checks
 pub passes : (s : List ℕ) → Passing s → 0 ≡ afFault s
 passes s p =
     skip 20 (from-21 s) (le-ltb (length s) least-l (p .long))
@@ -97,6 +107,7 @@ passes s p =
     (skip 25 [] (fit-crc s (p .summed)) none-due)))))
     ∙ in-order s
 
+-- and one that passes them has all this
 pub passing : (s : List ℕ) → afFault s ≡ 0 → Passing s
 passing s e =
     let some : (n : ℕ) → (suc n ≡ 0 → ⊥) = λ n (z : suc n ≡ 0). omega arith in
@@ -120,10 +131,12 @@ passing s e =
 -- ---- the answers of a check, case by case
 
 module _ (s : List ℕ) where
+  -- where a number is due, the check refuses with it
   pub check-refused : (n : ℕ) → n ≡ afFault s → (n ≡ 0 → ⊥) → refused n ≡ checkCall s
   unfolding checkCall
   check-refused n e some = refuses n (afFault s) _ (pos-of-ne-zero some) e
 
+  -- where none is due, it answers SEQ, CF, the minor revision out of AR, and LEN
   pub check-granted : (p : Figures) (ar : ℕ) → 0 ≡ afFault s → p .seq ≡ seqOf s → p .cf ≡ cfOf s → ar ≡ arOf s → p .minor ≡ ar % 16
       → p .len ≡ lenOf s → numberOf (Packet p) ≡ checkCall s
   unfolding checkCall numberOf

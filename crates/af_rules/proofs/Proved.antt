@@ -32,6 +32,7 @@ module _ (seq : ℕ) (cf : Bool) (payload : List ℕ) (small : seq < 65536) (few
       sym (grants _ _ (passes (packetOf seq cf payload) (back.packet-passes seq cf payload few)))
       ∙ simp (back.seq-back seq cf payload small, back.cf-back seq cf payload, back.minor-back seq cf payload, back.len-back seq cf payload few)
 
+-- what is wrapped passes the AF checks, and SEQ, CF and payload are read back from it
 pub a1 : A1
 a1 seq cf payload small bytes few =
     record {
@@ -46,5 +47,6 @@ a1 seq cf payload small bytes few =
 pub a2 : A2
 a2 s bytes e = packet-again s bytes (passing s e)
 
+-- a packet that passes the AF checks has 12 to 8,192 bytes
 pub a3 : A3
 a3 s e = (passing s e .long, passing s e .most)

@@ -24,6 +24,7 @@ unfolding bytesOf
 bytes-bytes zero x = tt
 bytes-bytes (suc w) x = bytes-append (bytesOf w (x / 256)) (x % 256 ∷ []) (bytes-bytes w (x / 256)) (mod-lt x (zero-lt-suc 255), tt)
 
+-- bytes with those of a number written in front are bytes again
 pub bytes-then : (w x : ℕ) (rest : List ℕ) → Bytes rest → Bytes (bytesOf w x ++ rest)
 bytes-then w x rest h = bytes-append (bytesOf w x) rest (bytes-bytes w x) h
 
@@ -83,6 +84,7 @@ module _ (seq : ℕ) (cf : Bool) (payload : List ℕ) where
   abbrev from-len : List ℕ
   from-len = bytesOf 4 (length payload) ++ from-seq
 
+  -- a packet has 12 bytes more than its payload
   pub length-packet : length (packetOf seq cf payload) ≡ length payload + least-l
   unfolding packetOf
   length-packet = length-closed cf front ∙ omega (
@@ -91,6 +93,7 @@ module _ (seq : ℕ) (cf : Bool) (payload : List ℕ) where
     length-header seq cf (length payload),
   )
 
+  -- a payload of bytes makes a packet of bytes, whatever SEQ and CF are
   pub bytes-packet : Bytes payload → Bytes (packetOf seq cf payload)
   unfolding packetOf closed headerOf bytesOf
   bytes-packet h =
@@ -104,10 +107,12 @@ module _ (seq : ℕ) (cf : Bool) (payload : List ℕ) where
   unfolding packetOf closed headerOf bytesOf
   sync-back = back-at 2 sync 0 (packetOf seq cf payload) from-len refl (lit< tt)
 
+  -- of a payload of at most 8,180 bytes, LEN reads back as its length
   pub len-back : length payload ≤ most-payload → lenOf (packetOf seq cf payload) ≡ length payload
   unfolding packetOf closed headerOf bytesOf
   len-back h = back-at 4 (length payload) 2 (packetOf seq cf payload) from-seq refl (omega arith)
 
+  -- a SEQ that fits two bytes reads back as it was given
   pub seq-back : seq < 65536 → seqOf (packetOf seq cf payload) ≡ seq
   unfolding packetOf closed headerOf bytesOf
   seq-back h = back-at 2 seq 6 (packetOf seq cf payload) from-ar refl h
@@ -120,12 +125,14 @@ module _ (seq : ℕ) (cf : Bool) (payload : List ℕ) where
   unfolding packetOf closed headerOf bytesOf
   pt-back = back-at 1 packetType 9 (packetOf seq cf payload) behind refl (lit< tt)
 
+  -- CF reads back as it was chosen
   pub cf-back : cfOf (packetOf seq cf payload) ≡ cf
   cf-back = ap (λ (x : ℕ). eqb (x / 128) 1) ar-back ∙ ar-parts cf .0
 
   major-back : majorOf (packetOf seq cf payload) ≡ major
   major-back = ap (λ (x : ℕ). x / 16 % 8) ar-back ∙ ar-parts cf .1
 
+  -- the minor revision reads back as 0, the one that is written
   pub minor-back : minorOf (packetOf seq cf payload) ≡ minor
   minor-back = ap (λ (x : ℕ). x % 16) ar-back ∙ ar-parts cf .2
 
@@ -133,6 +140,7 @@ module _ (seq : ℕ) (cf : Bool) (payload : List ℕ) where
   unfolding packetOf closed headerOf bytesOf
   behind-header = refl
 
+  -- the payload reads back byte for byte
   pub payload-back : payloadOf (packetOf seq cf payload) ≡ payload
   unfolding payloadOf
   payload-back =

@@ -31,6 +31,7 @@ pub laid : (s l q : List ℕ) (ar seq len : ℕ) (cf : Bool) → s ≡ bytesOf 2
 unfolding headerOf bytesOf
 laid s l q ar seq len cf is-s is-l is-q is-ar = simp (is-s, is-l, is-q, is-ar, mod-eq-of-lt (ar-lt cf))
 
+-- the header has 10 bytes, whatever SEQ, CF and LEN are
 pub length-header : (seq : ℕ) (cf : Bool) (len : ℕ) → length (headerOf seq cf len) ≡ headerBytes
 unfolding headerOf bytesOf
 length-header seq cf len = refl
@@ -61,16 +62,19 @@ packed seq cf payload out x y is-x is-y =
 -- ---- the answers, case by case
 
 module _ (seq : ℕ) (cf : Bool) (payload out : List ℕ) where
+  -- a payload over 8,180 bytes is refused with 22, whatever the room, and nothing is written
   pub wrap-22 : most-payload < length payload → outcome (refused 22) out ≡ wrapCall seq cf payload out
   unfolding wrapCall wrapFault
   wrap-22 h = leaves 22 _ _ _ _ (lit< tt) (due 22 _ (lt-ltb most-payload (length payload) h))
 
   module _ (few : length payload ≤ most-payload) where
+    -- a payload of at most 8,180 bytes, without room for its packet: 1, and nothing is written
     pub wrap-1 : length out < length payload + least-l → outcome (refused 1) out ≡ wrapCall seq cf payload out
     unfolding wrapCall wrapFault
     wrap-1 h = leaves 1 _ _ _ _ (lit< tt) (skip 22 _ (le-ltb most-payload (length payload) few)
         (due 1 _ (lt-ltb (length out) (length payload + least-l) h)))
 
+    -- a payload of at most 8,180 bytes, with room: granted, and out begins with its packet
     pub wrap-done : (y : List ℕ) → length payload + least-l ≤ length out → y ≡ splice out 0 (packetOf seq cf payload)
         → outcome (granted []) y ≡ wrapCall seq cf payload out
     unfolding wrapCall wrapFault

@@ -63,6 +63,7 @@ module _ (s : List ℕ) (bytes : Bytes s) where
         ∙ ap (λ (l : List ℕ). take n s ++ l)
         (sym (take-all crcBytes (drop n s) two) ∙ sym (bytes-back crcBytes s n bytes (omega (arith, p .long))) ∙ ap (bytesOf crcBytes) (p .summed))
 
+    -- a packet that passes, of minor revision 0, is what wrapping its payload again would write
     pub packet-again : minorOf s ≡ minor → s ≡ packetOf (seqOf s) (cfOf s) (payloadOf s)
     unfolding packetOf
     packet-again is-minor = closed-again ∙ ap (closed (cfOf s)) (covered-again is-minor)

@@ -18,6 +18,7 @@ pub grants : (fault : ℕ) (values : List ℕ) → 0 ≡ fault → granted value
 unfolding answered
 grants fault values e = rw (← e)
 
+-- where a number other than 0 is due, the call refuses with that number, alone
 pub refuses : (n fault : ℕ) (values : List ℕ) → 0 < n → n ≡ fault → refused n ≡ answered fault values
 unfolding answered
 refuses zero fault values h e = absurd (not-suc-le-zero h)
@@ -29,6 +30,7 @@ pub writes : (fault : ℕ) (values written before after : List ℕ) → 0 ≡ fa
 unfolding settled
 writes fault values written before after e w = rw (← e, w)
 
+-- where a number other than 0 is due, the call refuses and the lent bytes stay as they were before
 pub leaves : (n fault : ℕ) (values written before : List ℕ) → 0 < n → n ≡ fault
     → outcome (refused n) before ≡ settled fault values written before
 unfolding settled
@@ -45,10 +47,12 @@ one-written (Refused n) (Refused m) e = cc
 
 -- copying
 module _ (d s : List ℕ) (at : ℕ) where
+  -- bytes that would pass the end of the buffer are refused as 1 ROOM, and the buffer stays as it was
   pub put-refused : length d < at + length s → outcome (numberOf (Refused 1)) d ≡ putOf d at s
   unfolding numberOf putOf putFault
   put-refused h = leaves 1 _ _ _ _ (lit< tt) (due 1 _ (lt-ltb (length d) (at + length s) h))
 
+  -- bytes that there is room for are granted, and the buffer has them from `at` on
   pub put-done : (y : List ℕ) → at + length s ≤ length d → y ≡ splice d at s → outcome (numberOf Done) y ≡ putOf d at s
   unfolding numberOf putOf putFault
   put-done y h e = writes _ _ _ _ _ (skip 1 _ (le-ltb (length d) (at + length s) h) none-due) e

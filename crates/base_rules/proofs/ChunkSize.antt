@@ -9,23 +9,28 @@ use Rattle.base_rules.specs.Bounds.{most-k, badK}
 use Rattle.base_rules.proofs.Logic.{or-left, or-right}
 
 module _ (k : ℕ) where
+  -- no chunk has 0 data bytes
   pub k-none : k ≡ 0 → badK k ≡ true
   unfolding badK
   k-none e = rw (eq-eqb k 0 e)
 
+  -- no chunk has more than 207 data bytes
   pub k-over : (k ≡ 0 → ⊥) → most-k < k → badK k ≡ true
   unfolding badK
   k-over some over = rw (ne-eqb k 0 some, lt-ltb most-k k over)
 
+  -- a chunk may have any number of data bytes from 1 to 207
   pub k-fits : (k ≡ 0 → ⊥) → k ≤ most-k → badK k ≡ false
   unfolding badK
   k-fits some few = rw (ne-eqb k 0 some, le-ltb most-k k few)
 
   module _ (fine : badK k ≡ false) where
+    -- where the test is false, there is a data byte or more
     pub k-some : 0 < k
     unfolding badK
     k-some = pos-of-ne-zero (eqb-false _ _ (or-left (eqb k 0) _ fine))
 
+    -- where the test is false, there are at most 207 data bytes
     pub k-most : k ≤ most-k
     unfolding badK
     k-most = ltb-false _ _ (or-right (eqb k 0) _ fine)

@@ -26,6 +26,7 @@ unfolding first
 clear true n ts p e = absurd (p e)
 clear false n ts p e = refl
 
+-- where nothing is due of all the tests, nothing is due of those behind the first
 pub clear-rest : (b : Bool) (n : ℕ) (ts : List (Bool × ℕ)) → (n ≡ 0 → ⊥) → first ((b, n) ∷ ts) ≡ 0 → first ts ≡ 0
 unfolding first
 clear-rest true n ts p e = absurd (p e)

@@ -27,22 +27,27 @@ bit-one true false e = absurd (omega arith)
 bit-one false true e = absurd (omega arith)
 bit-one false false e = refl
 
+-- where both of two tests are true, the first is
 pub and-left : (a b : Bool) → (a && b) ≡ true → a ≡ true
 and-left true b e = refl
 and-left false b e = e
 
+-- where both of two tests are true, the second is
 pub and-right : (a b : Bool) → (a && b) ≡ true → b ≡ true
 and-right true b e = e
 and-right false b e = cc
 
+-- two tests of which the second is false are not both true
 pub and-false : (b : Bool) → (b && false) ≡ false
 and-false true = refl
 and-false false = refl
 
+-- where neither of two tests is true, the first is false
 pub or-left : (a b : Bool) → (a || b) ≡ false → a ≡ false
 or-left true b e = e
 or-left false b e = refl
 
+-- where neither of two tests is true, the second is false
 pub or-right : (a b : Bool) → (a || b) ≡ false → b ≡ false
 or-right true b e = cc
 or-right false b e = e
@@ -51,6 +56,7 @@ or-right false b e = e
 pub hit : {a : Bool} (b : Bool) → a ≡ true → true ≡ (a || b)
 hit b e = simp e
 
+-- behind a test that is false, the value of the rest is that of the whole
 pub pass : {a b r : Bool} → a ≡ false → r ≡ b → r ≡ (a || b)
 pass e q = simp e q
 
@@ -58,8 +64,10 @@ pass e q = simp e q
 pub same : {a b : ℕ} → a ≡ b → not (eqb a b) ≡ false
 same {a} {b} e = rw (eq-eqb a b e)
 
+-- of two numbers that differ, the test that they differ is true
 pub other : {a b : ℕ} → (a ≡ b → ⊥) → not (eqb a b) ≡ true
 other {a} {b} e = rw (ne-eqb a b e)
 
+-- where the test that they differ is false, two numbers are equal
 pub same-from : {a b : ℕ} → not (eqb a b) ≡ false → a ≡ b
 same-from {a} {b} e = eqb-true a b (not-false (eqb a b) e)

@@ -22,6 +22,7 @@ pub number-one : (s : List ℕ) (i : ℕ) {x : ℕ} → x ≡ getD s i 0 → x �
 unfolding numberAt
 number-one s i e = e ∙ ap (λ (k : ℕ). getD s k 0) (sym (add-zero i)) ∙ sym (zero-add (getD s (i + 0) 0))
 
+-- 256 times the number in w bytes, plus the byte behind them, is the number in w + 1 bytes
 pub number-more : (w : ℕ) (s : List ℕ) (i : ℕ) {x y : ℕ} → x ≡ numberAt w s i → y ≡ getD s (i + w) 0 → x * 256 + y ≡ numberAt (suc w) s i
 unfolding numberAt
 number-more w s i p q = ap₂ (λ (a b : ℕ). a * 256 + b) p q

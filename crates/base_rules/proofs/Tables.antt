@@ -10,11 +10,13 @@ use Rattle.base_rules.specs.Bytes.{splice}
 use Rattle.base_rules.proofs.Splice.{splice-none, splice-more, splice-length}
 
 module _ (rule : ℕ → ℕ) where
+  -- a table of n elements is n long
   pub length-table : (a n : ℕ) → length (table rule a n) ≡ n
   unfolding table
   length-table a zero = refl
   length-table a (suc n) = ap suc (length-table (suc a) n)
 
+  -- the element at i, within a table that starts at a, is the rule's for a + i
   pub at-table : (a n i : ℕ) → i < n → getD (table rule a n) i 0 ≡ rule (a + i)
   unfolding table
   at-table a zero i h = absurd (not-suc-le-zero h)

@@ -30,11 +30,13 @@ differ-lt x y hx hy =
 xor-half : (a b : ℕ) → bitXor a b / 2 ≡ bitXor (a / 2) (b / 2)
 xor-half a b = xor-shr a b 1
 
+-- the lowest bit of an exclusive or is 1 where those of the two numbers differ, else 0
 pub xor-odd : (a b : ℕ) → bitXor a b % 2 ≡ differ (a % 2) (b % 2)
 xor-odd a b =
     ap (λ x. x % 2) (xor-step a b)
     ∙ digits-mod (bitXor (a / 2) (b / 2)) (differ-lt (a % 2) (b % 2) (bit a) (bit b))
 
+-- the exclusive or of three numbers goes by either grouping
 pub xor-assoc : (a b c : ℕ) → bitXor (bitXor a b) c ≡ bitXor a (bitXor b c)
 xor-assoc a =
     bin-ind (λ a. (b c : ℕ) → bitXor (bitXor a b) c ≡ bitXor a (bitXor b c)) (λ b c. refl)
@@ -45,18 +47,22 @@ xor-assoc a =
     ∙ ap (differ (n % 2)) (sym (xor-odd b c)))
     ∙ sym (xor-step n (bitXor b c))) a
 
+-- of three numbers, the first two may change places
 pub xor-left-comm : (a b c : ℕ) → bitXor a (bitXor b c) ≡ bitXor b (bitXor a c)
 xor-left-comm a b c = sym (xor-assoc a b c) ∙ ap (λ x. bitXor x c) (xor-comm a b) ∙ xor-assoc b a c
 
+-- a number that is put in twice drops out
 pub xor-cancel : (a b : ℕ) → bitXor a (bitXor a b) ≡ b
 xor-cancel a b = sym (xor-assoc a a b) ∙ ap (λ x. bitXor x b) (xor-self a) ∙ xor-zero-l b
 
 -- simp with this set sorts sums, and cancels what stands twice
 pub ruleset xors = (xor-assoc, xor-comm, xor-left-comm, xor-zero-l, xor-zero-r, xor-self, xor-cancel)
 
+-- of two pairs, the second of the one and the first of the other may change places
 pub xor-swap : (a b c d : ℕ) → bitXor (bitXor a b) (bitXor c d) ≡ bitXor (bitXor a c) (bitXor b d)
 xor-swap a b c d = simp xors
 
+-- two numbers whose exclusive or is 0 are equal
 pub eq-of-xor-zero : (a b : ℕ) → bitXor a b ≡ 0 → a ≡ b
 eq-of-xor-zero a b e =
     sym (xor-zero-r a) ∙ ap (bitXor a) (sym (xor-self b)) ∙ sym (xor-assoc a b b) ∙ ap (λ x. bitXor x b) e ∙ xor-zero-l b
@@ -67,5 +73,6 @@ xor-scaled k a b =
     sym (add-zero (bitXor a b * 2 ^ k)) ∙ sym (xor-block k a b 0 0 (pow-pos k) (pow-pos k))
     ∙ ap₂ bitXor (add-zero (a * 2 ^ k)) (add-zero (b * 2 ^ k))
 
+-- an exclusive or doubled is the exclusive or of the doubles
 pub xor-double : (a b : ℕ) → bitXor a b * 2 ≡ bitXor (a * 2) (b * 2)
 xor-double a b = xor-scaled 1 a b

@@ -6,6 +6,7 @@ use Rattle.code_rules.proofs.Proved.{r4}
 use Rattle.card_rules.specs.Blocks.{keptOf, filledNumber, CardFilled}
 use Rattle.card_rules.specs.Claims.{OneFilling}
 
+-- no second answer fits a filling's promise: the block after it and its number are determined
 pub one-filling : OneFilling
 one-filling kept f s k block after after′ r r′ one other =
     let same : (one .answer ≡ other .answer) × (after ≡ after′) =

@@ -14,9 +14,11 @@ use Rattle.card_rules.specs.Blocks.{flags}
 pub record Flags (test : ℕ → Bool) (xs : List Bool) (i : ℕ) : Type 0 where
   pub at : (q : ℕ) → q < i → getD xs q false ≡ test q
 
+-- before any element is set, none has to be the test's value
 pub flags-none : (test : ℕ → Bool) (xs : List Bool) → Flags test xs 0
 flags-none test xs = record { at = λ q (b : q < 0). absurd (omega arith) }
 
+-- with element i set to the test's value, the first i + 1 are the test's values
 pub flags-more : (test : ℕ → Bool) (xs : List Bool) (i : ℕ) (v : Bool) → Flags test xs i → i < length xs → v ≡ test i
     → Flags test (set xs i v) (i + 1)
 flags-more test xs i v h l e = record { at = λ q (b : q < i + 1). go q (eq-or-lt-of-le b) }

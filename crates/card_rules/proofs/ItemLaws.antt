@@ -24,6 +24,7 @@ use Rattle.card_rules.proofs.ToldLaws.{told-as}
 
 -- ---- numbers
 
+-- a number of eight bytes is that of its first four, times 2^32, and that of its last four
 pub eight-read : (s : List ℕ) (i : ℕ) {a b : ℕ} → a ≡ numberAt 4 s i → b ≡ numberAt 4 s (i + 4) → a * 4294967296 + b ≡ numberAt 8 s i
 unfolding numberAt
 eight-read s i p q =
@@ -32,6 +33,7 @@ eight-read s i p q =
 
 -- ---- a walk as bytes
 
+-- the seven numbers of eight bytes each are the position, the depth and the five ends of the walk
 pub walker-read : (s : List ℕ) {at depth a b c d e : ℕ} → at ≡ numberAt 8 s 0 → depth ≡ numberAt 8 s 8 → a ≡ numberAt 8 s 16 → b ≡ numberAt 8 s 24
     → c ≡ numberAt 8 s 32 → d ≡ numberAt 8 s 40 → e ≡ numberAt 8 s 48
     → record { refusal = 0; at = at; depth = depth; ends = a ∷ b ∷ c ∷ d ∷ e ∷ [] } ≡ walkerFrom s
@@ -63,16 +65,19 @@ module _ (packet names walker : List ℕ) (w : Walker) (e : w ≡ opens packet n
   is-refusal : w .refusal ≡ opens packet names .refusal
   is-refusal = ap (λ (x : Walker). x .refusal) e
 
+  -- a walk that is refused gives its number and leaves the lent bytes, however many they are
   pub open-refused : (w .refusal ≡ 0 → ⊥) → outcome (refused (w .refusal)) walker ≡ walkOpenCall packet names walker
   unfolding walkOpenCall walkOpenFault
   open-refused h =
       leaves (w .refusal) _ _ _ _ (pos-of-ne-zero h)
       (is-refusal ∙ due (opens packet names .refusal) _ (other (λ (z : opens packet names .refusal ≡ 0). h (is-refusal ∙ z))))
 
+  -- a walk that is not refused gives 1 where the lent bytes are not 56, and leaves them
   pub open-short : w .refusal ≡ 0 → (length walker ≡ walker-bytes → ⊥) → outcome (refused 1) walker ≡ walkOpenCall packet names walker
   unfolding walkOpenCall walkOpenFault
   open-short z h = leaves 1 _ _ _ _ (lit< tt) (skip _ _ (same (sym is-refusal ∙ z)) (due 1 _ (other h)))
 
+  -- with 56 bytes lent, a walk that is not refused stands in them
   pub open-done : {y : List ℕ} → w .refusal ≡ 0 → length walker ≡ walker-bytes → y ≡ walkerBytes w
       → outcome (granted []) y ≡ walkOpenCall packet names walker
   unfolding walkOpenCall walkOpenFault
@@ -89,6 +94,7 @@ answers packet names walker x long is-x =
     ∙ sym (ap (λ (b : Bool). cond b (steppedNumber (stepped packet names walker .handed)) (refused 1)) (eq-eqb (length walker) walker-bytes long))
 
 module _ (packet names walker told : List ℕ) where
+  -- a step gives 1 where the bytes of the walk are not 56, tells nothing and leaves them
   pub step-short : (length walker ≡ walker-bytes → ⊥) → CardStepped packet names walker walker told told 1
   unfolding walkStepCall walkerAfter refusalIn toldOf
   step-short h =
@@ -101,6 +107,7 @@ module _ (packet names walker told : List ℕ) where
       there : CardTold step-widths (walkStepCall packet names walker) told told-after r
       there = told-as step-widths told (answers packet names walker x long is-x) said
 
+      -- after a step that is not refused, the bytes are those of the walk where it goes on
       pub step-on : {y : List ℕ} → r ≡ 0 → y ≡ walkerBytes (x .next) → CardStepped packet names walker y told told-after r
       unfolding walkerAfter
       step-on z is-y = record {
@@ -112,6 +119,7 @@ module _ (packet names walker told : List ℕ) where
             (eq-eqb (refusalIn (walkStepCall packet names walker)) 0 (sym (there .number) ∙ z)));
       }
 
+      -- a step that is refused leaves the bytes of the walk as they were
       pub step-not : (r ≡ 0 → ⊥) → CardStepped packet names walker walker told told-after r
       unfolding walkerAfter
       step-not h = record {

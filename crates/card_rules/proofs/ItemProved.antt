@@ -64,6 +64,7 @@ located-whole true true found.Nothing found.Nothing n m p q = tt
 located-whole true false f g n m p q = tt
 located-whole false b′ f g n m p q = tt
 
+-- no figure of an item found, in the packet or the standing packet, is cut off where it is told
 pub found-whole : FoundWhole
 unfolding locateOf
 found-whole packet standing name bytes bytes′ long long′ =
@@ -80,6 +81,7 @@ handed-whole s cs ends bytes long =
     (λ at d n shallow e. tt)
     (λ at d shallow. omega arith)
 
+-- no figure of an item that a step hands out is cut off; its depth is at most 4, and padding under 8 bytes
 pub step-whole : StepWhole
 step-whole packet names w bytes long =
     let P : Walked → Type 0 = λ (x : Walked). HandedWhole (x .handed) in

@@ -99,6 +99,7 @@ pair (seen.Spoiled n) rest = refl
 next : (s : Seen) {l rest more : List ℕ} → l ≡ seenTold s → rest ≡ more → getD l 0 0 ∷ getD l 1 0 ∷ rest ≡ seenTold s ++ more
 next s {more = more} e h = ap₂ (λ (x y : List ℕ). getD x 0 0 ∷ getD x 1 0 ∷ y) e h ∙ pair s more
 
+-- condition and number taken place by place are the eight figures told of all four
 pub eight : (p : Shown) {a b c d : List ℕ} → a ≡ seenTold (p .first) → b ≡ seenTold (p .second) → c ≡ seenTold (p .third) → d ≡ seenTold (p .fourth)
     → getD a 0 0 ∷ getD a 1 0 ∷ getD b 0 0 ∷ getD b 1 0 ∷ getD c 0 0 ∷ getD c 1 0 ∷ getD d 0 0 ∷ getD d 1 0 ∷ [] ≡ shownTold p
 unfolding shownTold
@@ -109,10 +110,12 @@ eight p ea eb ec ed =
 -- ---- the query's ends
 
 module _ (s : List ℕ) (lent : ℕ) (before : List ℕ) (w : Written) (t : Table) (e : (numberOf w, t) ≡ unpackCall s) where
+  -- a query of bytes that are no record gives the number of unpacking and tells nothing
   pub query-refused : (n : ℕ) → w ≡ Refused n → CardTold places-widths (queryFor s lent) before before n
   unfolding queryFor
   query-refused n is = told-refused places-widths before (refused-record s w t e refused _ n is)
 
+  -- a query of a record tells what `query` answers of it
   pub query-done : {after : List ℕ} {r : ℕ} (q : Queried) → w ≡ Done → queriedNumber q ≡ queryCall t lent
       → CardTold places-widths (queriedIn q) before after r → CardTold places-widths (queryFor s lent) before after r
   unfolding queryFor
@@ -124,6 +127,7 @@ fresh-length : length (packedOf freshTable) ≡ table-bytes
 fresh-length = ap length fresh-zeros ∙ length-replicate {A = ℕ} table-bytes 0
 
 module _ (s : List ℕ) (lent : ℕ) (w : Written) (t : Table) (e : (numberOf w, t) ≡ unpackCall s) where
+  -- a clearing of bytes that are no record gives the number of unpacking and leaves them
   pub clear-no-record : (n : ℕ) → w ≡ Refused n → CardWritten (clearFor s lent) s n
   unfolding clearFor refusalIn
   clear-no-record n is = handed-on {a = refused n} (sym (refused-record s w t e _ _ n is)) refl
@@ -133,6 +137,7 @@ module _ (s : List ℕ) (lent : ℕ) (w : Written) (t : Table) (e : (numberOf w,
     unfolding clearCall
     due = ap (λ (y : Answer × Table). y .0) cleared
 
+    -- a clearing that `clear` refuses gives its number and leaves the bytes of the record
     pub clear-refused : (n : ℕ) → v ≡ Refused n → CardWritten (clearFor s lent) s n
     unfolding clearFor refusalIn numberOf
     clear-refused n is-v =
@@ -141,6 +146,7 @@ module _ (s : List ℕ) (lent : ℕ) (w : Written) (t : Table) (e : (numberOf w,
         (leaves n (roomFault t lent most-l) [] (packedOf freshTable) s (by .1) (by .0) ∙ sym (taken-record s w t e _ _ is))
         refl
 
+    -- a clearing that is not refused gives 0 and leaves the bytes of a fresh record
     pub clear-done : (after : List ℕ) (u : Written) → v ≡ Done → outcome (numberOf u) after ≡ packCall x s → CardWritten (clearFor s lent) after 0
     unfolding clearFor clearCall refusalIn numberOf
     clear-done after u is-v packed =

@@ -94,6 +94,7 @@ module _ (s : List ℕ) (w : Written) (t : Table) (e : (numberOf w, t) ≡ unpac
   unfolding unpackCall
   answer-is = ap (λ (x : Answer × Table). x .0) e
 
+  -- bytes that unpacking refuses end the call with the number it gave
   pub refused-record {ℓ} : {A : Type ℓ} (refusal : ℕ → A) (call : Table → A) (n : ℕ) → w ≡ Refused n → onRecord s refusal call ≡ refusal n
   unfolding numberOf onRecord
   refused-record refusal call n is =
@@ -101,6 +102,7 @@ module _ (s : List ℕ) (w : Written) (t : Table) (e : (numberOf w, t) ≡ unpac
       let some : unpackFault s ≡ 0 → ⊥ = λ z. omega (arith, due .0, due .1) in
       ap (λ (b : Bool). cond b (call (tableFrom s)) (refusal (unpackFault s))) (ne-eqb (unpackFault s) 0 some) ∙ ap refusal (sym (due .0))
 
+  -- bytes that unpacking takes have no fault, and what it gave is the record in them
   pub good-record : w ≡ Done → (unpackFault s ≡ 0) × (t ≡ tableFrom s)
   unfolding numberOf unpackCall
   good-record is =
@@ -108,6 +110,7 @@ module _ (s : List ℕ) (w : Written) (t : Table) (e : (numberOf w, t) ≡ unpac
       let there : t ≡ cond (eqb (unpackFault s) 0) (tableFrom s) freshTable = ap (λ (x : Answer × Table). x .1) e in
       (none, there ∙ ap (λ (b : Bool). cond b (tableFrom s) freshTable) (eq-eqb (unpackFault s) 0 none))
 
+  -- with bytes that unpacking takes, the call goes on with the record it gave
   pub taken-record {ℓ} : {A : Type ℓ} (refusal : ℕ → A) (call : Table → A) → w ≡ Done → onRecord s refusal call ≡ call t
   unfolding onRecord
   taken-record refusal call is =
@@ -116,10 +119,12 @@ module _ (s : List ℕ) (w : Written) (t : Table) (e : (numberOf w, t) ≡ unpac
 
 module _ (own : Address) (datagram : List ℕ) (before after : Held) (r : ℕ) (w : Written) (x : Table)
     (e : (numberOf w, x) ≡ unpackCall (before .record-bytes)) where
+  -- a receiving with bytes that are no record gives the number of unpacking and changes nothing
   pub receive-refused : w ≡ Refused r → after ≡ before → CardReceived own datagram before after r
   unfolding CardReceived
   receive-refused is same = subst (λ (X : Type 0). X) (sym (refused-record (before .record-bytes) w x e _ _ r is)) (refl, same)
 
+  -- a receiving that fits the promise of `receive`, packed again and told, fits that of the call for C
   pub received-there : (o : Address) (v : Written) (t : Table) (a : Received) → w ≡ Done → o ≡ own
       → Step o (record { table = x; bytes = before .lent }) datagram (before .out) (promise.outcome a t (after .lent) (after .out))
       → length (packedOf t) ≡ table-bytes → outcome (numberOf v) (after .record-bytes) ≡ packCall t (before .record-bytes)

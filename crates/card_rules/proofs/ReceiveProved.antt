@@ -52,6 +52,7 @@ fresh-typed = record {
   oldest = lit< tt;
 }
 
+-- a record of all zero bytes is taken as a fresh table
 pub zeros-fresh : ZerosFresh
 zeros-fresh = ap unpackCall (sym fresh-zeros) ∙ unpacks freshTable fresh-typed
 
@@ -74,6 +75,7 @@ cleared-by s lent o is none =
     let to : o ≡ outcome (refused (unpackFault s)) s = rw z at is in
     absurd (eqb-false (unpackFault s) 0 z (sym (none ∙ ap (λ (x : Outcome). refusalIn (answerIn x)) to))))
 
+-- a clearing that is not refused leaves a record of all zero bytes
 pub cleared-zeros : ClearedZeros
 cleared-zeros s after lent cleared = cleared .out ∙ cleared-by s lent (clearFor s lent) refl (cleared .number) ∙ fresh-zeros
 
@@ -115,6 +117,7 @@ module _ (own : Address) (datagram : List ℕ) (before after after′ : Held) (r
         p .number ∙ ap (λ (a : Received). promise.numberOf a .0) answers ∙ sym (q .number),
       )
 
+-- no second outcome fits a receiving's promise: its number and all that is lent are determined
 pub one-receipt : OneReceipt
 one-receipt own datagram before after after′ r r′ p q =
     let s : List ℕ = before .record-bytes in
@@ -167,6 +170,7 @@ module _ (own : Address) (datagram : List ℕ) (before after : Held) (r : ℕ) (
       (λ z. p13 (p .number ∙ z))))
       (λ e. refused-as (step-refused own state datagram (before .out) (eqb-false due 0 e) (p .step)))
 
+-- a receiving answered with neither 0 nor 13 leaves every lent byte as it was, the record too
 pub refused-unchanged : RefusedUnchanged
 refused-unchanged own datagram before after r bytes p p0 p13 =
     let s : List ℕ = before .record-bytes in
@@ -178,6 +182,7 @@ refused-unchanged own datagram before after r bytes p p0 p13 =
 
 -- ---- what a delivery tells
 
+-- a delivery tells a length of at most 8,192, and at most 256 fragments not held
 pub receipt-whole : ReceiptWhole
 unfolding promise.outcome
 receipt-whole own s datagram out y step l m d q =

@@ -28,6 +28,7 @@ at-most : (b : Bool) (x : ℕ) → cond b x 0 ≤ x
 at-most true x = omega arith
 at-most false x = omega arith
 
+-- each figure of a plan that is not refused fits the two bytes in which it is told
 pub plan-whole : PlanWhole
 unfolding figuresOf withFec n assured
 plan-whole g l fault =
@@ -78,6 +79,7 @@ module _ (g : Settings) (packet : List ℕ) (rest : List (Bool × ℕ)) (fault :
         omega (arith, size-most g packet passed i, sizes .s-most, room, ok .room, ok .mtu-most),
       )
 
+-- the length of a fragment that is granted fits the two bytes in which it is told
 pub length-whole : LengthWhole
 unfolding fragmentCall fragmentFault
 length-whole g number packet i out values e =
@@ -85,6 +87,7 @@ length-whole g number packet i out values e =
     let fit = sizes-fit g packet _ (both .0) i in
     subst InTwo (both .1) (more (omega (arith, fit .3, fragment-size g packet number i)) none)
 
+-- of all fragments, where they are granted, f, h, s and the last Plen fit two bytes each
 pub split-whole : SplitWhole
 unfolding fragmentsCall fragmentsFault
 split-whole g number packet out values e =

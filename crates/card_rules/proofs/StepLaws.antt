@@ -19,10 +19,12 @@ use Rattle.walk_rules.proofs.StepCases.{step-item, step-end, step-refused}
 
 -- the end of a packet is within the whole one, and so is an item
 module _ (s ends : List ℕ) where
+  -- at each depth the packet ends within the whole one
   pub end-within : (d : ℕ) → endOf s ends d ≤ length s
   unfolding endOf
   end-within d = omega arith
 
+  -- an item that is found at any depth ends within the whole packet
   pub item-within : (at d : ℕ) (i : Item) → stepIn s at (endOf s ends d) ≡ step.Item i → nextOf i ≤ length s
   item-within at d i e =
       omega (arith, item-fits s at (endOf s ends d) i e, item-begins s at (endOf s ends d) i e, end-within d)
@@ -52,6 +54,7 @@ module _ (s cs ends : List ℕ) (P : Walked → Type 0) (Q : ℕ → ℕ → Typ
   inner at d q (step.End p) e behind = subst P (sym (up at d p e)) behind
   inner at d q (step.Refused n) e behind = subst P (sym (step-refused s cs at ends (suc d) _ n refl e)) (refused at (suc d) n q e)
 
+  -- what holds of each item, end and refusal holds of the step, from any depth
   pub by-steps : (d at : ℕ) → Q at d → P (stepFrom s cs at d ends)
   by-steps zero at q = outer at q (stepIn s at (endOf s ends 0)) refl
   by-steps (suc d) at q = inner at d q (stepIn s at (endOf s ends (suc d))) refl (by-steps d (endOf s ends (suc d)) (above at d q))

@@ -18,10 +18,12 @@ told-room : (before bytes : List ℕ) → length bytes ≤ length before → tol
 unfolding toldIn
 told-room before bytes fits = ap (λ (b : Bool). cond b before (splice before 0 bytes)) (le-ltb (length before) (length bytes) fits)
 
+-- bytes as many as the buffer has, laid down from its front, replace all of it
 pub whole : (d s : List ℕ) → length s ≡ length d → splice d 0 s ≡ s
 unfolding splice
 whole d s e = ap (λ (l : List ℕ). s ++ l) (drop-of-length-le d {i = 0 + length s} (omega arith)) ∙ append-nil s
 
+-- what is told in as many bytes as are lent is all that stands in them afterwards
 pub told-whole : (before bytes : List ℕ) → length bytes ≡ length before → toldIn before bytes ≡ bytes
 told-whole before bytes e = told-room before bytes (omega (arith, e)) ∙ whole before bytes e
 
@@ -71,6 +73,7 @@ same-bytes (w ∷ widths) (x ∷ a) (y ∷ b) e =
     ∙ ap₂ (λ (j k : ℕ). j + k) (length-bytes w x ∙ sym (length-bytes w y)) (same-bytes widths a b (omega arith))
     ∙ sym (length-append (bytesOf w y) (inWidths widths b))
 
+-- as many numbers as there are widths take as many bytes, whatever the numbers are
 pub as-wide : (widths values : List ℕ) → length values ≡ length widths
     → (length values ≡ length widths) × (length (inWidths widths values) ≡ length (inWidths widths widths))
 as-wide widths values e = (e, same-bytes widths values widths e)
@@ -91,9 +94,11 @@ left-next widths values i a b =
 pub record Telling (widths values before : List ℕ) (n : ℕ) (told : List ℕ) (at i : ℕ) : Type 0 where
   pub long : length told ≡ length before
   pub room : at + length (leftOf widths values i) ≡ n
+  -- with the rest told from there on, all the numbers stand from the front
   pub whole : splice told at (leftOf widths values i) ≡ splice before 0 (inWidths widths values)
 
 module _ (widths values before : List ℕ) (n : ℕ) (long : length (inWidths widths values) ≡ n) where
+  -- at the start none is told and all are still to be
   pub tells-none : Telling widths values before n before 0 0
   tells-none = record { long = refl; room = omega (arith, long); whole = refl }
 
@@ -133,6 +138,7 @@ module _ (widths values before : List ℕ) (n : ℕ) (long : length (inWidths wi
               ∙ t .whole;
         }
 
+    -- behind the last width all the numbers are told, where there is room for them
     pub tells-all : n ≤ length before → length widths ≤ i → told ≡ toldIn before (inWidths widths values)
     unfolding inWidths
     tells-all fits end =
@@ -141,6 +147,7 @@ module _ (widths values before : List ℕ) (n : ℕ) (long : length (inWidths wi
         ∙ t .whole
         ∙ sym (told-room before (inWidths widths values) (omega (arith, long)))
 
+  -- where the numbers have no room, the lent bytes stay as they were
   pub tells-short : length before < n → before ≡ toldIn before (inWidths widths values)
   unfolding toldIn
   tells-short short =

@@ -51,6 +51,7 @@ told-as widths before is said =
 
 -- ---- a call that does both
 
+-- a call that leaves the bytes that are due and tells its answer keeps both promises
 pub sent-as : (widths before : List ℕ) {told after : List ℕ} {r : ℕ} {a : Answer} {due : Outcome} → outcome a after ≡ due
     → CardTold widths a before told r → SentAs widths due before told after r
 sent-as widths before e said =

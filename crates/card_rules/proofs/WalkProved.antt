@@ -42,6 +42,7 @@ module _ (at depth a b c d e : ℕ) where
       (sym (back-at 8 a 16 bytes _ refl (small 2))) (sym (back-at 8 b 24 bytes _ refl (small 3))) (sym (back-at 8 c 32 bytes _ refl (small 4)))
       (sym (back-at 8 d 40 bytes _ refl (small 5))) (sym (back-at 8 e 48 bytes [] refl (small 6)))
 
+-- a walk that is not refused, with five ends and numbers of 64 bits, reads back from its bytes
 pub read-back : ReadBack
 unfolding walkerBytes
 read-back w h =
@@ -77,6 +78,7 @@ typed : (at depth : ℕ) (ends : List ℕ) → at < 2 ^ 64 → depth < 2 ^ 64 �
     → TypedWalk (record { refusal = 0; at = at; depth = depth; ends = ends })
 typed at depth ends a d long all = record { unrefused = refl; five = long; small = below-more at (depth ∷ ends) a (below-more depth ends d all) }
 
+-- a walk that opens without refusal on a packet under 2^64 bytes has five ends and numbers of 64 bits
 pub opens-typed : OpensTyped
 unfolding opens
 opens-typed packet names long none =
@@ -114,6 +116,7 @@ module _ (s cs ends : List ℕ) (long : length s < 2 ^ 64) (sized : length ends 
       (λ at d n here e. typed at d ends (here .0) (omega (arith, here .1)) sized all)
       (λ at d here. (omega (arith, end-within s ends (suc d)), omega (arith, here .1)))
 
+-- a step from such a walk leaves such a walk: not refused, five ends, numbers of 64 bits
 pub steps-typed : StepsTyped
 steps-typed packet names w long h =
     subst (λ (x : Walked). TypedWalk (x .next)) (sym (steps-on packet names w (h .unrefused)))
@@ -134,6 +137,7 @@ numbered s cs ends d at =
     by-steps s cs ends Numbered (λ (a b : ℕ). Unit {0}) (λ a b i q e. inl refl) (λ a p q e. inl refl)
     (λ a b n q e. inr (refused-is s a (endOf s ends b) n e)) (λ a b q. tt) d at tt
 
+-- whatever the 56 bytes of a walk are, a step gives 0 or 30
 pub step-numbers : StepNumbers
 unfolding walkStep walkerFrom
 step-numbers packet names walker long =

@@ -15,6 +15,7 @@ twice-test : T (below 256 (λ x. eqb (times2 x) (cond (ltb x 128) (x + x) ((x - 
 unfolding times2 _⊕_
 twice-test = tt
 
+-- an element times α: below 128 its double, else the double less 256, with 1D hex added in the field
 pub twice-is : (x : ℕ) → x < 256 → times2 x ≡ cond (ltb x 128) (x + x) ((x - 128 + (x - 128)) ⊕ 29)
 twice-is x h = eqb→eq _ _ (at 256 (λ x. eqb (times2 x) (cond (ltb x 128) (x + x) ((x - 128 + (x - 128)) ⊕ 29))) twice-test x h)
 

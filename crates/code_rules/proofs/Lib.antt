@@ -15,7 +15,6 @@ pub mod Misfits
 pub mod Only
 pub mod PartLaws
 pub mod PatternLaws
-pub mod PlaceLaws
 pub mod Proved
 pub mod RegisterLaws
 pub mod RowLaws

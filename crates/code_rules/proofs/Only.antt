@@ -67,6 +67,7 @@ module _ (k : ℕ) (mask c v w : List ℕ) where
   unfolding chunkFault
   no-fault e = clear _ 8 [] (λ z. omega arith) (sym e)
 
+  -- a chunk: no second answer, and no second chunk after it, fits the promise
   pub one-chunk-filled : (r s : Filled) → ChunkFilled k mask c v r → ChunkFilled k mask c w s → (r ≡ s) × (v ≡ w)
   unfolding numberOf
   one-chunk-filled Done Done a b =
@@ -118,6 +119,7 @@ module _ (kept : List Bool) (f s k : ℕ) (block v w : List ℕ) where
       (subst (λ (m : List ℕ). count (marks m) ≤ 48) (part-lost kept f (k + parity) (receivedC f s k) j l)
       (few-lost kept f (k + parity) (receivedC f s k) enough j l)) a b
 
+  -- a block: no second answer, and no second block after it, fits the promise
   pub one-block-filled : (r q : Filled) → BlockFilled kept f s k block v r → BlockFilled kept f s k block w q → (r ≡ q) × (v ≡ w)
   unfolding numberOf
   one-block-filled Done Done a b =

@@ -3,6 +3,7 @@ use Rattle.code_rules.specs.Claims.{R4, EndsInLast}
 use Rattle.code_rules.proofs.Only.{one-chunk-filled, one-block-filled}
 use Rattle.code_rules.proofs.Misfits.{fits-in-last, in-last-fits}
 
+-- R4: no second answer and no second filling fits, neither for a chunk nor for a block
 pub r4 : R4
 r4 = record { chunk = one-chunk-filled; block = one-block-filled }
 

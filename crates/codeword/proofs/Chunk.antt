@@ -17,6 +17,7 @@ use Rattle.codeword.proofs.Places.{full-inj}
 
 -- ---- masks and words by their parts
 
+-- a word is erased part by part, where the first part of the mask is as long as that of the word
 pub erase-append : (a b : List Bool) (u v : List ℕ) → length a ≡ length u → erase (a ++ b) (u ++ v) ≡ erase a u ++ erase b v
 unfolding erase
 erase-append [] b [] v e = refl
@@ -25,12 +26,14 @@ erase-append (m ∷ a) b [] v e = absurd (suc-ne-zero (length a) e)
 erase-append (true ∷ a) b (c ∷ u) v e = ap (λ l. 0 ∷ l) (erase-append a b u v (suc-inj e))
 erase-append (false ∷ a) b (c ∷ u) v e = ap (λ l. c ∷ l) (erase-append a b u v (suc-inj e))
 
+-- a mask that marks nothing leaves the word as it is
 pub erase-none : (n : ℕ) (l : List ℕ) → erase (replicate n false) l ≡ l
 unfolding erase
 erase-none zero l = refl
 erase-none (suc n) [] = refl
 erase-none (suc n) (c ∷ l) = ap (λ t. c ∷ t) (erase-none n l)
 
+-- a mask that marks each place of the word leaves zeros only
 pub erase-all : (n : ℕ) (l : List ℕ) → length l ≡ n → erase (replicate n true) l ≡ replicate n 0
 unfolding erase
 erase-all zero [] e = refl
@@ -38,22 +41,26 @@ erase-all zero (x ∷ l) e = absurd (suc-ne-zero (length l) e)
 erase-all (suc n) [] e = absurd (suc-ne-zero n (sym e))
 erase-all (suc n) (x ∷ l) e = ap (λ t. 0 ∷ t) (erase-all n l (suc-inj e))
 
+-- two masks in a row miss what the one misses and what the other misses
 pub count-append : (a b : List Bool) → count (a ++ b) ≡ count a + count b
 unfolding count
 count-append [] b = sym (zero-add (count b))
 count-append (true ∷ a) b = ap suc (count-append a b) ∙ omega arith
 count-append (false ∷ a) b = count-append a b
 
+-- a mask that marks nothing misses no byte
 pub count-none : (n : ℕ) → count (replicate n false) ≡ 0
 unfolding count
 count-none zero = refl
 count-none (suc n) = count-none n
 
+-- a mask that marks all of n places misses n bytes
 pub count-all : (n : ℕ) → count (replicate n true) ≡ n
 unfolding count
 count-all zero = refl
 count-all (suc n) = ap suc (count-all n)
 
+-- there are as many locators as missing bytes
 pub length-locators : (ms : List Bool) → length (locators ms) ≡ count ms
 unfolding locators count
 length-locators [] = refl
@@ -62,15 +69,18 @@ length-locators (false ∷ ms) = length-locators ms
 
 -- ---- a word in its 255 places
 
+-- the places between data and parity, which are never missing, add nothing to the count
 pub count-full : (k : ℕ) (ms : List Bool) → count (full false k ms) ≡ count ms
 unfolding full
 count-full k ms =
     simp (count-append, count-none, zero-add) (sym (count-append (take k ms) (drop k ms)) ∙ ap count (take-append-drop k ms))
 
+-- at most 207 data bytes and 48 parity bytes, or the marks of these, have 255 places
 pub length-full {ℓ} : {A : Type ℓ} (z : A) (k : ℕ) (w : List A) → k ≤ most-k → length w ≡ k + parity → length (full z k w) ≡ 255
 unfolding full
 length-full z k w h e = simp (length-append, length-replicate, length-take, length-drop) (omega arith)
 
+-- a word may be erased by its mask before it is put in its 255 places or after
 pub erase-full : (k : ℕ) (ms : List Bool) (w : List ℕ) → length ms ≡ length w → k ≤ length w
     → erase (full false k ms) (full 0 k w) ≡ full 0 k (erase ms w)
 unfolding full
@@ -104,6 +114,7 @@ erase-full k ms w e h =
     long : length head ≡ k
     long = length-erase (take k ms) (take k w) ∙ length-take-le k w h
 
+-- a word of bytes, put in its 255 places, is still bytes
 pub bytes-full : (k : ℕ) (w : List ℕ) → Bytes w → Bytes (full 0 k w)
 unfolding full
 bytes-full k w b =

@@ -23,9 +23,11 @@ use Rattle.codeword.proofs.Poly.{value-plus, length-plus, plus-at}
 
 -- ---- the code polynomial has the roots
 
+-- one coefficient more at the end makes a polynomial one longer
 pub length-snoc : (p : List ℕ) (c : ℕ) → length (p ++ (c ∷ [])) ≡ suc (length p)
 length-snoc p c = omega (arith, length-append p (c ∷ []))
 
+-- p times the factor with root r has, at x, x times p's value plus r times p's value
 pub value-root : (x r : ℕ) (p : List ℕ) → value x (timesRoot r p) ≡ value x p ⊗ x ⊕ r ⊗ value x p
 unfolding timesRoot
 value-root x r p =
@@ -67,6 +69,7 @@ pub product-all : product parity ≡ 1 ∷ generator
 unfolding generator
 product-all = product-monic parity .1 ∙ ap (λ t. 1 ∷ t) (sym (ap (drop 1) (product-monic parity .1)))
 
+-- G(x) has 48 coefficients behind its leading 1
 pub length-generator : length generator ≡ parity
 unfolding generator
 length-generator = ap (λ p. length (drop 1 p)) (product-monic parity .1) ∙ product-monic parity .2
@@ -84,11 +87,13 @@ generator-root j h =
 fits : (s : ℕ) (ss : List ℕ) → length (s ∷ ss) ≡ parity → length generator ≡ length (ss ++ (0 ∷ []))
 fits s ss e = length-generator ∙ sym e ∙ sym (length-snoc ss 0)
 
+-- a register of 48 bytes has 48 still when a byte has come in
 pub length-step : (s : List ℕ) (b : ℕ) → length s ≡ parity → length (step s b) ≡ parity
 unfolding step
 length-step [] b e = e
 length-step (c ∷ ss) b e = length-plus (c ⊕ b) generator (ss ++ (0 ∷ [])) (fits c ss e) ∙ length-snoc ss 0 ∙ e
 
+-- a register of 48 bytes has 48 still after any number of bytes
 pub length-run : (s bs : List ℕ) → length s ≡ parity → length (run s bs) ≡ parity
 unfolding run
 length-run s [] e = e
@@ -101,6 +106,7 @@ snoc-at [] (suc i) = refl
 snoc-at (x ∷ l) zero = refl
 snoc-at (x ∷ l) (suc i) = snoc-at l i
 
+-- when b comes in, place i takes what stood at i + 1, plus (first byte + b) times coefficient i of G(x)
 pub step-at : (s : List ℕ) (b i : ℕ) → length s ≡ parity → getD (step s b) i 0 ≡ getD s (i + 1) 0 ⊕ (getD s 0 0 ⊕ b) ⊗ getD generator i 0
 unfolding step
 step-at [] b i e = absurd (suc-ne-zero (parity - 1) (sym e))
@@ -172,40 +178,48 @@ encode-codeword d k e j h =
     ∙ ap (value (alpha (suc j))) (sym (append-assoc d (replicate (most-k - length d) 0) (parityOf d)))
     ∙ vanishes (alpha (suc j)) (alpha-lt (suc j)) (generator-root j h) (d ++ replicate (most-k - length d) 0)
 
+-- what is encoded begins with the data bytes, unchanged
 pub encode-keeps : (d : List ℕ) (k : ℕ) → length d ≡ k → take k (encode d) ≡ d
 unfolding encode
 encode-keeps d k e = take-at d (parityOf d) k e
 
+-- the parity is 48 bytes, whatever the data
 pub length-parity : (d : List ℕ) → length (parityOf d) ≡ parity
 unfolding parityOf
 length-parity d = length-run (replicate parity 0) (d ++ replicate (most-k - length d) 0) zeros-long
 
+-- what is encoded is 48 bytes longer than the data
 pub length-encode : (d : List ℕ) → length (encode d) ≡ length d + parity
 unfolding encode
 length-encode d = length-append d (parityOf d) ∙ ap (λ n. length d + n) (length-parity d)
 
 -- ---- its bytes
 
+-- bytes to which a multiple of any polynomial is added are bytes
 pub bytes-plus : (f : ℕ) (gs ss : List ℕ) → Bytes ss → Bytes (plus f gs ss)
 unfolding plus
 bytes-plus f [] ss b = tt
 bytes-plus f (g ∷ gs) [] b = tt
 bytes-plus f (g ∷ gs) (s ∷ ss) b = (add-lt (b .0) (mul-lt f g), bytes-plus f gs ss (b .1))
 
+-- a register of bytes holds bytes still, whatever comes in
 pub bytes-step : (s : List ℕ) (b : ℕ) → Bytes s → Bytes (step s b)
 unfolding step
 bytes-step [] b p = tt
 bytes-step (c ∷ ss) b p = bytes-plus (c ⊕ b) generator (ss ++ (0 ∷ [])) (bytes-append ss (0 ∷ []) (p .1) (lit< tt, tt))
 
+-- a register of bytes holds bytes still after any run, whatever came in
 pub bytes-run : (s d : List ℕ) → Bytes s → Bytes (run s d)
 unfolding run
 bytes-run s [] p = p
 bytes-run s (b ∷ d) p = bytes-run (step s b) d (bytes-step s b p)
 
+-- the parity is bytes, whatever the data
 pub bytes-parity : (d : List ℕ) → Bytes (parityOf d)
 unfolding parityOf
 bytes-parity d = bytes-run (replicate parity 0) (d ++ replicate (most-k - length d) 0) (bytes-zeros parity)
 
+-- data bytes with their parity are bytes
 pub bytes-encode : (d : List ℕ) → Bytes d → Bytes (encode d)
 unfolding encode
 bytes-encode d p = bytes-append d (parityOf d) p (bytes-parity d)

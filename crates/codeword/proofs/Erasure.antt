@@ -28,12 +28,14 @@ missing (false ∷ ms) (c ∷ w) = missing ms w
 
 -- ---- the locators
 
+-- each locator of a missing place is a byte
 pub bytes-locators : (ms : List Bool) → Bytes (locators ms)
 unfolding locators
 bytes-locators [] = tt
 bytes-locators (true ∷ ms) = (alpha-lt (length ms), bytes-locators ms)
 bytes-locators (false ∷ ms) = bytes-locators ms
 
+-- no locator of a missing place is 0
 pub positive-locators : (ms : List Bool) → Positive (locators ms)
 unfolding locators
 positive-locators [] = tt
@@ -47,6 +49,7 @@ apart-locators (true ∷ ms) n l h =
     (λ e. (let q : length ms ≡ n = alpha-inj (length ms) n (omega arith) h e in omega arith), apart-locators ms n (omega arith) h)
 apart-locators (false ∷ ms) n l h = apart-locators ms n (omega arith) h
 
+-- no two missing places of at most 255 have the same locator
 pub distinct-locators : (ms : List Bool) → length ms ≤ 255 → Distinct (locators ms)
 unfolding locators
 distinct-locators [] h = tt
@@ -55,6 +58,7 @@ distinct-locators (false ∷ ms) h = distinct-locators ms (omega arith)
 
 -- ---- the missing bytes
 
+-- there are as many locators as bytes at the missing places, where mask and word have one length
 pub length-missing : (ms : List Bool) (w : List ℕ) → length ms ≡ length w → length (locators ms) ≡ length (missing ms w)
 unfolding locators missing
 length-missing [] w e = refl
@@ -62,6 +66,7 @@ length-missing (m ∷ ms) [] e = absurd (suc-ne-zero (length ms) e)
 length-missing (true ∷ ms) (c ∷ w) e = ap suc (length-missing ms w (suc-inj e))
 length-missing (false ∷ ms) (c ∷ w) e = length-missing ms w (suc-inj e)
 
+-- what stands at the missing places of a word of bytes is bytes
 pub bytes-missing : (ms : List Bool) (w : List ℕ) → Bytes w → Bytes (missing ms w)
 unfolding missing
 bytes-missing [] w b = tt
@@ -69,6 +74,7 @@ bytes-missing (m ∷ ms) [] b = tt
 bytes-missing (true ∷ ms) (c ∷ w) b = (b .0, bytes-missing ms w (b .1))
 bytes-missing (false ∷ ms) (c ∷ w) b = bytes-missing ms w (b .1)
 
+-- an erased word, filled with the bytes that it misses, is the word again
 pub fill-missing : (ms : List Bool) (w : List ℕ) → fill ms (erase ms w) (missing ms w) ≡ w
 unfolding fill erase missing
 fill-missing [] w = refl
@@ -76,6 +82,7 @@ fill-missing (m ∷ ms) [] = refl
 fill-missing (true ∷ ms) (c ∷ w) = ap (λ l. c ∷ l) (fill-missing ms w)
 fill-missing (false ∷ ms) (c ∷ w) = ap (λ l. c ∷ l) (fill-missing ms w)
 
+-- an erased word is as long as it was
 pub length-erase : (ms : List Bool) (w : List ℕ) → length (erase ms w) ≡ length w
 unfolding erase
 length-erase [] w = refl
@@ -112,6 +119,7 @@ module _ (ms : List Bool) (w : List ℕ) (e : length ms ≡ length w) (b : Bytes
   unfolding Codeword
   missing-sum j l = eq-of-add-zero _ _ (sym (value-erase (suc j) ms w e b) ∙ word j l)
 
+  -- the syndromes of the erased word are the missing bytes' sums at the exponents 1 to 48
   pub syndromes-right : (j : ℕ) → j < parity → getD (syndromes (erase ms w)) j 0 ≡ sumAt (locators ms) (missing ms w) (suc j)
   unfolding syndromes
   syndromes-right j l = getD-table parity (λ j. value (alpha (suc j)) (erase ms w)) j l ∙ missing-sum j l

@@ -12,6 +12,7 @@ coefficients =
     122 ∷ 12 ∷ 14 ∷ 218 ∷ 195 ∷ 73 ∷ 194 ∷ 157 ∷ 32 ∷ 17 ∷ 5 ∷ 62 ∷ 71 ∷ 15 ∷ 25 ∷ 240 ∷ 161 ∷ 21 ∷ 218 ∷ 148 ∷ 176 ∷ 109 ∷ 183 ∷ 149 ∷ 166
     ∷ 245 ∷ 218 ∷ 251 ∷ 151 ∷ 150 ∷ 170 ∷ 195 ∷ 151 ∷ 160 ∷ 12 ∷ 130 ∷ 219 ∷ 117 ∷ 244 ∷ 10 ∷ 169 ∷ 19 ∷ 204 ∷ 113 ∷ 81 ∷ 214 ∷ 231 ∷ 228 ∷ []
 
+-- the product of x - α^1 to x - α^48 has these coefficients behind its leading 1
 pub generator-is : generator ≡ coefficients
 unfolding generator product timesRoot plus alpha _⊗_ mulBits times2 _⊕_
 generator-is = refl

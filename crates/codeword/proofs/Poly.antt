@@ -19,10 +19,12 @@ pub raise : ℕ → ℕ → ℕ → ℕ
 raise x zero c = c
 raise x (suc n) c = raise x n (c ⊗ x)
 
+-- n + 1 products by x are one product, and then n
 pub raise-s : (x n c : ℕ) → raise x (suc n) c ≡ raise x n (c ⊗ x)
 unfolding raise
 raise-s x n c = refl
 
+-- a sum times x^n is the sum of its parts times x^n
 pub raise-add : (x n a b : ℕ) → raise x n (a ⊕ b) ≡ raise x n a ⊕ raise x n b
 unfolding raise
 raise-add x zero a b = refl
@@ -34,9 +36,11 @@ unfolding raise
 raise-mul x zero a b = refl
 raise-mul x (suc n) a b = ap (raise x n) (mul-assoc a b x) ∙ raise-mul x n a (b ⊗ x)
 
+-- n + 1 products by x are n products, and then one
 pub raise-out : (x n c : ℕ) → raise x (suc n) c ≡ raise x n c ⊗ x
 raise-out x n c = raise-s x n c ∙ ap (raise x n) (mul-comm c x) ∙ raise-mul x n x c ∙ mul-comm x (raise x n c)
 
+-- 0 times any power is 0
 pub raise-0 : (x n : ℕ) → raise x n 0 ≡ 0
 unfolding raise
 raise-0 x zero = refl
@@ -66,19 +70,23 @@ horner-value x h (c ∷ cs) =
     ∙ ap (λ y. raise x (length cs) (h ⊗ x) ⊕ y)
     (sym (horner-value x (0 ⊗ x ⊕ c) cs ∙ ap (λ y. raise x (length cs) y ⊕ value x cs) (ap (λ y. y ⊕ c) (mul-0-l x) ∙ add-0-l c)))
 
+-- a leading coefficient c adds c x^n to the value, where n coefficients follow it
 pub value-cons : (x c : ℕ) (l : List ℕ) → value x (c ∷ l) ≡ raise x (length l) c ⊕ value x l
 unfolding value horner
 value-cons x c l = ap (λ y. horner x y l) (ap (λ y. y ⊕ c) (mul-0-l x) ∙ add-0-l c) ∙ horner-value x c l
 
+-- a polynomial of no coefficients has the value 0
 pub value-nil : (x : ℕ) → value x [] ≡ 0
 unfolding value horner
 value-nil x = refl
 
+-- over two lists in a row, Horner's rule goes on in the second from what the first came to
 pub horner-append : (x h : ℕ) (l m : List ℕ) → horner x h (l ++ m) ≡ horner x (horner x h l) m
 unfolding horner
 horner-append x h [] m = refl
 horner-append x h (c ∷ l) m = horner-append x (h ⊗ x ⊕ c) l m
 
+-- the value of two lists in a row: the first's value raised by the second's length, plus the second's value
 pub value-append : (x : ℕ) (l m : List ℕ) → value x (l ++ m) ≡ raise x (length m) (value x l) ⊕ value x m
 unfolding value
 value-append x l m = horner-append x 0 l m ∙ horner-value x (value x l) m
@@ -94,12 +102,14 @@ unfolding horner
 horner-take x h w i l =
     ap (λ n. horner x h (take n w)) (add-one i) ∙ ap (horner x h) (take-suc w i 0 l) ∙ horner-append x h (take i w) (getD w i 0 ∷ [])
 
+-- where all coefficients are 0, the value is 0
 pub value-zeros : (x n : ℕ) → value x (replicate n 0) ≡ 0
 value-zeros x zero = value-nil x
 value-zeros x (suc n) = value-cons x 0 (replicate n 0) ∙ ap₂ _⊕_ (raise-0 x (length (replicate n 0))) (value-zeros x n) ∙ add-self 0
 
 -- ---- sums of polynomials
 
+-- the sum of two polynomials of one length has that length
 pub length-plus : (f : ℕ) (gs ss : List ℕ) → length gs ≡ length ss → length (plus f gs ss) ≡ length ss
 unfolding plus
 length-plus f [] [] e = refl
@@ -107,6 +117,7 @@ length-plus f [] (s ∷ ss) e = e
 length-plus f (g ∷ gs) [] e = refl
 length-plus f (g ∷ gs) (s ∷ ss) e = ap suc (length-plus f gs ss (suc-inj e))
 
+-- each coefficient of the sum is that of ss plus f times that of gs, where these have one length
 pub plus-at : (f : ℕ) (gs ss : List ℕ) (i : ℕ) → length gs ≡ length ss → getD (plus f gs ss) i 0 ≡ getD ss i 0 ⊕ f ⊗ getD gs i 0
 unfolding plus
 plus-at f [] [] i e = sym (add-0-l (f ⊗ 0) ∙ mul-0-r f)
@@ -115,6 +126,7 @@ plus-at f (g ∷ gs) [] i e = absurd (suc-ne-zero (length gs) e)
 plus-at f (g ∷ gs) (s ∷ ss) zero e = refl
 plus-at f (g ∷ gs) (s ∷ ss) (suc i) e = plus-at f gs ss i (suc-inj e)
 
+-- the value of the sum is that of ss plus f times that of gs, where these have one length
 pub value-plus : (x f : ℕ) (gs ss : List ℕ) → length gs ≡ length ss → value x (plus f gs ss) ≡ value x ss ⊕ f ⊗ value x gs
 unfolding plus
 value-plus x f [] [] e = value-nil x ∙ sym (ap₂ (λ a b. a ⊕ f ⊗ b) (value-nil x) (value-nil x) ∙ add-0-l (f ⊗ 0) ∙ mul-0-r f)

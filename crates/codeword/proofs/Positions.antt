@@ -8,6 +8,7 @@ use native.Mathlib.Omega.{arith}
 use lib.ListN.{length, getD}
 use Rattle.codeword.specs.Erasure.{erase, maskOf}
 
+-- the mask of n places is n long
 pub length-maskOf : (there : ℕ → Bool) (a n : ℕ) → length (maskOf there a n) ≡ n
 unfolding maskOf
 length-maskOf there a zero = refl

@@ -24,6 +24,7 @@ places k w short size =
 pub roots : Roots
 roots j h = product-root parity j h
 
+-- R1: data with its parity is a word of the code, and the parity is 48 bytes
 pub r1 : R1
 r1 =
     record {
@@ -35,6 +36,7 @@ r1 =
 pub r2 : R2
 r2 = vanish
 
+-- R3: where at most 48 bytes are missing, at most one word of the code has the others
 pub r3 : R3
 r3 =
     record {
@@ -46,5 +48,6 @@ r3 =
           (erase-same there 0 (k + parity) v w (cv .size) (cw .size) (λ i h t. same i h (ap there (sym (zero-add i)) ∙ t)));
     }
 
+-- every word of the code is its data followed by their parity
 pub systematic : Systematic
 systematic = is-encoded

@@ -32,6 +32,7 @@ data-left k d p e q =
     erase-append (replicate k false) (replicate parity true) d p (length-replicate k false ∙ sym e)
     ∙ ap₂ _++_ (erase-none k d) (erase-all parity p q)
 
+-- a word of the code, of k data bytes, is these and the parity that the encoder gives them
 pub is-encoded : (k : ℕ) (w : List ℕ) → k ≤ most-k → Coded k w → w ≡ encode (take k w)
 unfolding encode
 is-encoded k w h c =

@@ -68,6 +68,7 @@ unfolding offsets
 bytes-offsets x [] h b = tt
 bytes-offsets x (y ∷ ys) h b = (add-lt (b .0) h, bytes-offsets x ys h (b .1))
 
+-- the sum of two locators that differ is not 0
 pub apart-pos : (y x : ℕ) → (y ≡ x → ⊥) → 0 < y ⊕ x
 apart-pos y x h = go (y ⊕ x) refl
   where
@@ -173,5 +174,6 @@ vanish a xs ys e bx p d b h =
 
 -- ---- a sequence as a list
 
+-- member j of a table from 0 on is the rule's for j
 pub getD-table : (n : ℕ) (f : ℕ → ℕ) (j : ℕ) → j < n → getD (table f 0 n) j 0 ≡ f j
 getD-table n f j h = at-table f 0 n j h ∙ ap f (zero-add j)

@@ -32,6 +32,7 @@ after {f} {g} m l =
       null = λ x hx e. l .null x hx (m .null (f x) (l .stays x hx) e);
     }
 
+-- such a map taken twice keeps sums and the width, and takes only 0 to 0
 pub twice : {f : ℕ → ℕ} → Linear f → Linear (λ x. f (f x))
 twice l = after l l
 
@@ -83,10 +84,12 @@ shift-linear =
 pub shift-one-to-one : (x y : ℕ) → x < 65536 → y < 65536 → shift x ≡ shift y → x ≡ y
 shift-one-to-one = one-to-one shift-linear
 
+-- eight shifts of the register keep sums and the width, and take only 0 to 0
 pub shift8-linear : Linear shift8
 unfolding shift8
 shift8-linear = twice (twice (twice shift-linear))
 
+-- so do the shifts that any number of zero bytes make
 pub rounds-linear : (n : ℕ) → Linear (rounds n)
 unfolding rounds
 rounds-linear zero = record { sum = λ x y hx hy. refl; stays = λ x h. h; null = λ x h e. e }

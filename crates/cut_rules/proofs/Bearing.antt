@@ -26,14 +26,17 @@ module _ (g : Settings) (l : ℕ) (in-bounds : Within g l) where
   L>0 : 0 < L g l
   L>0 = L-some g l (in-bounds .from)
 
+  -- a cut in bounds has at least one fragment
   pub f-some : 0 < f g l
   unfolding f
   f-some = fragment.f-some (L g l) (S g l) L>0 S>0
 
+  -- a fragment of a cut in bounds has at least one byte
   pub s-some : 0 < s g l
   unfolding f s
   s-some = fragment.s-some (L g l) (S g l) L>0 S>0
 
+  -- the sizes of a cut in bounds fit together, and all its fragments fit a place
   pub sized : Sized g l
   unfolding f s
   sized =
@@ -48,6 +51,7 @@ module _ (g : Settings) (l : ℕ) (in-bounds : Within g l) where
         placed = omega (arith, fragment.over (L g l) (S g l) L>0 S>0, in-bounds .few, L-most g l (in-bounds .from) (in-bounds .to));
       }
 
+  -- with FEC the c that the receiver takes of a cut in bounds is the sender's
   pub same-c : g .fec ≡ true → receivedC (f g l) (s g l) (k l) ≡ c l
   unfolding receivedC f s n
   same-c fec =
@@ -80,6 +84,7 @@ each-bears g l ok from =
     (λ (more : g .m ≡ 0 → ⊥).
     (ceil parity (g .m + 1), loss.thin (c l) (g .m + 1) (S g l) (omega arith) (omega (arith, S-both g l more)), shares (g .m) (ok .m-most)))
 
+-- with FEC, where at most m fragments of a cut in bounds are lost, no chunk misses more than 48 bytes
 pub bears : (g : Settings) (l : ℕ) → Within g l → g .fec ≡ true
     → (lost : ℕ → Bool) → losses lost (f g l) ≤ assured g l → (j : ℕ) → missing lost (f g l) (n l) j ≤ parity
 unfolding f Thin

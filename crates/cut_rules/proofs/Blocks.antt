@@ -16,6 +16,7 @@ module _ (parityOf : List ℕ → List ℕ) (k : ℕ) (full : (xs : List ℕ) �
       let e : length (take k xs) ≡ k = length-take-le k xs h in
       length-append (take k xs) (parityOf (take k xs)) ∙ ap₂ (λ (x y : ℕ). x + y) e (full (take k xs) e)
 
+  -- a block has k + 48 bytes for each of its c chunks, where there are bytes enough to fill them
   pub length-block : (xs : List ℕ) (c : ℕ) → c * k ≤ length xs → length (blockOf parityOf xs k c) ≡ c * (k + parity)
   unfolding blockOf
   length-block xs zero h = sym (zero-mul (k + parity))
@@ -23,6 +24,7 @@ module _ (parityOf : List ℕ → List ℕ) (k : ℕ) (full : (xs : List ℕ) �
       length-append (wordOf parityOf (take k xs)) (blockOf parityOf (drop k xs) k c)
       ∙ omega (arith, length-word xs (omega arith), length-block (drop k xs) c (omega (arith, length-drop k xs)))
 
+  -- the k + 48 bytes of a block from j (k + 48) on are chunk j and its parity
   pub window : (xs : List ℕ) (c j : ℕ) → c * k ≤ length xs → j < c
       → take (k + parity) (drop (j * (k + parity)) (blockOf parityOf xs k c)) ≡ wordOf parityOf (chunkOf xs k j)
   unfolding blockOf chunkOf
@@ -50,6 +52,7 @@ pub unpadded : (packet : List ℕ) (z : ℕ) → take (length packet) (padded pa
 unfolding padded
 unpadded packet z = take-append-seam packet (replicate z 0)
 
+-- a packet with z zeros behind it has z bytes more
 pub length-padded : (packet : List ℕ) (z : ℕ) → length (padded packet z) ≡ length packet + z
 unfolding padded
 length-padded packet z = length-append packet (replicate z 0) ∙ ap (λ (x : ℕ). length packet + x) (length-replicate z 0)

@@ -9,6 +9,7 @@ use Rattle.base_rules.proofs.Ceil as ceils
 use Rattle.cut_rules.specs.Sizes.{c, k, z, n}
 
 module _ (l : ℕ) (some : 0 < l) where
+  -- a packet that is not empty has at least one chunk
   pub c-some : 0 < c l
   unfolding c
   c-some = ceils.some l most-k (omega arith) some
@@ -29,14 +30,17 @@ module _ (l : ℕ) (some : 0 < l) where
   pub c-few : c l ≤ l
   c-few = omega (arith, c-near, some)
 
+  -- a chunk of a packet that is not empty has at least one data byte
   pub k-some : 0 < k l
   unfolding k
   k-some = ceils.some l (c l) c-some some
 
+  -- a chunk has at most 207 data bytes
   pub k-most : k l ≤ most-k
   unfolding k
   k-most = ceils.least l (c l) c-some most-k (omega (arith, c-up))
 
+  -- the data bytes of all chunks are the packet and its z zeros
   pub filled : c l * k l ≡ l + z l
   unfolding z
   filled = omega (arith, k-up)
@@ -50,6 +54,7 @@ module _ (l : ℕ) (some : 0 < l) where
       let once : j ≤ j * c l = le-mul-of-pos-right j c-some in
       omega (arith, each, once, filled, c-near)
 
+  -- a chunk has at least 49 bytes, one of data and the 48 of parity
   pub n-least : parity + 1 ≤ n l
   unfolding n
   n-least = omega (arith, k-some)

@@ -6,6 +6,7 @@ use native.Mathlib.Omega.{arith, by-contra}
 use Rattle.base_rules.specs.Round.{ceil}
 use Rattle.base_rules.proofs.Ceil as ceils
 
+-- how many fragments L bytes are cut into, with at most S bytes to each
 abbrev pub f′ : ℕ → ℕ → ℕ
 f′ L S = ceil L S
 
@@ -13,15 +14,19 @@ abbrev pub s′ : ℕ → ℕ → ℕ
 s′ L S = ceil L (f′ L S)
 
 module _ (L S : ℕ) (some : 0 < L) (room : 0 < S) where
+  -- a cut of one byte or more, with room for a byte in a fragment, has at least one fragment
   pub f-some : 0 < f′ L S
   f-some = ceils.some L S room some
 
+  -- a fragment of such a cut has at least one byte
   pub s-some : 0 < s′ L S
   s-some = ceils.some L (f′ L S) f-some some
 
+  -- a fragment has no more than the S bytes that it may have
   pub s-most : s′ L S ≤ S
   s-most = ceils.least L (f′ L S) f-some S (omega (arith, ceils.up L S room))
 
+  -- f fragments of s bytes hold all L bytes
   pub holds : L ≤ f′ L S * s′ L S
   holds = ceils.up L (f′ L S) f-some
 
@@ -48,6 +53,7 @@ module _ (L S : ℕ) (some : 0 < L) (room : 0 < S) where
 -- the receiver's c is the sender's where a chunk has as many bytes as there are chunks: with a chunk's bytes left over f and s
 -- would both be above n
 module _ (c n S : ℕ) (chunks : 0 < c) (cells : 0 < n) (room : 0 < S) where
+  -- with at least as many bytes to a chunk as there are chunks, floor(fs / n) is the c that was cut
   pub c-same : c ≤ n → f′ (c * n) S * s′ (c * n) S / n ≡ c
   c-same small =
       div-eq-of-lt-le n (holds (c * n) S some room) (by-contra (suc (f * s)) ((c + 1) * n) (λ (much : (c + 1) * n < suc (f * s)).

@@ -11,6 +11,7 @@ use Rattle.base_rules.proofs.Tables.{length-table, at-table}
 use Rattle.cut_rules.specs.Cells.{fragmentOf, partOf, cellOf}
 use Rattle.cut_rules.specs.Claims.{Woven, Joined}
 
+-- each fragment of a block has s bytes, however long the block is
 pub length-fragment : (block : List ℕ) (f s i : ℕ) → length (fragmentOf block f s i) ≡ s
 unfolding fragmentOf
 length-fragment block f s i = length-table (λ t. getD block (i + f * t) 0) 0 s
@@ -35,6 +36,7 @@ module _ (f s : ℕ) (some : 0 < f) where
         ap (λ (x : ℕ). x / f) e ∙ digits-div t low,
       )
 
+  -- where there is a fragment, the f s cells and the offsets in the fragments are one to one
   pub woven : Woven f s
   woven =
       record {
@@ -55,6 +57,7 @@ module _ (f s : ℕ) (some : 0 < f) where
         getD-take s (drop (q % f * s) place) (q / f) 0 (offset q h) ∙ getD-drop (q % f * s) place (q / f) 0 in
         sym read ∙ ap (λ (xs : List ℕ). getD xs (q / f) 0) e ∙ join
 
+    -- byte q of the block stands in fragment q mod f, and in cell q of a place that holds that fragment
     pub joined : Joined block f s q
     joined = record { byte = join; held = held }
 

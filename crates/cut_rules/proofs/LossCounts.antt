@@ -19,6 +19,7 @@ bit-le true = omega arith
 bit-le false = omega arith
 
 module _ (p : ℕ → Bool) where
+  -- of t numbers no more than t pass a test
   pub count-le : (a t : ℕ) → count p a t ≤ t
   unfolding count
   count-le a zero = zero-le
@@ -169,10 +170,12 @@ count-firsts w t =
     omega (arith, inside, outside, e, count-add (firsts w) 0 m (t - m))
 
 module _ (n f w : ℕ) (some : 0 < f) (few : w ≤ f) where
+  -- where the first w fragments are lost, w at most f, there are w losses
   pub firsts-lost : losses (firsts w) f ≡ w
   unfolding losses
   firsts-lost = omega (arith, count-firsts w f)
 
+  -- the first w fragments take from chunk 0 the most that any w lost fragments can
   pub firsts-take : missing (firsts w) f n 0 ≡ worst n f w
   unfolding missing worst
   firsts-take =

@@ -25,12 +25,14 @@ use Rattle.cut_rules.proofs.ChunkSizes as chunk
 
 -- ---- what `fit` says
 
+-- settings in bounds: m at most 5, and 0 without FEC; MTU above h and at most 16,384
 pub record Fit (g : Settings) : Type 0 where
   pub m-most : g .m ≤ most-m
   pub m-fec : g .fec ≡ false → g .m ≡ 0
   pub room : h g < g .mtu
   pub mtu-most : g .mtu ≤ most-mtu
 
+-- settings that pass the test of 40 SETTINGS are in these bounds
 pub fitted : (g : Settings) → fit g ≡ true → Fit g
 unfolding fit
 fitted g e =
@@ -50,36 +52,43 @@ passed : {a b : Bool} (x r : Bool) → a ≡ true → b ≡ true → x ≡ r →
 passed x r p q e = rw (p, q) e
 
 module _ (g : Settings) where
+  -- settings with m over 5 do not fit
   pub fit-most : most-m < g .m → false ≡ fit g
   unfolding fit
   fit-most many = rw (lt-leb (g .m) most-m many)
 
   module _ (few : g .m ≤ most-m) where
+    -- with FEC and m at most 5, the bounds of MTU alone decide whether settings fit
     pub fit-fec : (b : Bool) → g .fec ≡ true → b ≡ (ltb (h g) (g .mtu) && leb (g .mtu) most-mtu) → b ≡ fit g
     unfolding fit
     fit-fec b fec e = passed b _ (le-leb (g .m) most-m few) (ap (λ (x : Bool). cond x true (eqb (g .m) 0)) fec) e
 
+    -- without FEC and with m 0, the bounds of MTU alone decide whether settings fit
     pub fit-plain : (b : Bool) → g .fec ≡ false → g .m ≡ 0 → b ≡ (ltb (h g) (g .mtu) && leb (g .mtu) most-mtu) → b ≡ fit g
     unfolding fit
     fit-plain b plain none e =
         passed b _ (le-leb (g .m) most-m few) (ap (λ (x : Bool). cond x true (eqb (g .m) 0)) plain ∙ eq-eqb (g .m) 0 none) e
 
+    -- settings without FEC and with m above 0 do not fit
     pub fit-losses : g .fec ≡ false → (g .m ≡ 0 → ⊥) → false ≡ fit g
     unfolding fit
     fit-losses plain some = rw (le-leb (g .m) most-m few, plain, ne-eqb (g .m) 0 some)
 
 -- ---- the header
 
+-- with FEC a header has 16 bytes besides those of the address
 pub h-fec : (g : Settings) → g .fec ≡ true → h g ≡ 16 + addressBytes (g .address)
 unfolding h
 h-fec g e = rw e
 
+-- without FEC a header has 14 bytes besides those of the address
 pub h-plain : (g : Settings) → g .fec ≡ false → h g ≡ 14 + addressBytes (g .address)
 unfolding h
 h-plain g e = rw e
 
 -- ---- the divisor: these two, and `each-bears` of Bearing, are all that know it
 
+-- at settings in bounds with m above 0, what 48 c is divided by is not 0
 pub divisor-some : (g : Settings) → Fit g → (g .m ≡ 0 → ⊥) → 0 < divisor g
 unfolding divisor
 divisor-some g ok more = omega arith
@@ -96,10 +105,12 @@ by-m P zero a b = a refl
 by-m P (suc m) a b = b (λ (e : suc m ≡ 0). omega arith)
 
 module _ (g : Settings) (l : ℕ) where
+  -- with m 0 a fragment may fill all of MTU - h
   pub S-none : g .m ≡ 0 → S g l ≡ g .mtu - h g
   unfolding S
   S-none e = rw (eq-eqb (g .m) 0 e)
 
+  -- where m is not 0, S is the smaller of 48 c over the divisor and MTU - h
   pub S-both : (g .m ≡ 0 → ⊥) → S g l ≡ min (parity * c l / divisor g) (g .mtu - h g)
   unfolding S
   S-both e = rw (ne-eqb (g .m) 0 e)
@@ -109,15 +120,19 @@ module _ (g : Settings) (l : ℕ) where
     shared : parity * x / y ≡ parity * c l / divisor g
     shared = ap₂ (λ (u v : ℕ). parity * u / v) is-c is-d
 
+    -- with m above 0, 48 c over the divisor is S where it is below MTU - h
     pub S-share : parity * x / y < g .mtu - h g → parity * x / y ≡ S g l
     S-share less = omega (arith, shared, S-both more)
 
+    -- with m above 0, MTU - h is S where it is no more than 48 c over the divisor
     pub S-room : g .mtu - h g ≤ parity * x / y → g .mtu - h g ≡ S g l
     S-room less = omega (arith, shared, S-both more)
 
+  -- the most bytes of a fragment, S, are no more than MTU - h, the room behind a header
   pub S-most : S g l ≤ g .mtu - h g
   S-most = by-m (S g l ≤ g .mtu - h g) (g .m) (λ e. omega (arith, S-none e)) (λ e. omega (arith, S-both e))
 
+  -- at settings in bounds a fragment of a packet of 12 bytes or more has room for a byte
   pub S-some : Fit g → least-l ≤ l → 0 < S g l
   S-some ok from = by-m (0 < S g l) (g .m)
       (λ e. omega (arith, S-none e, ok .room))
@@ -128,14 +143,17 @@ module _ (g : Settings) (l : ℕ) where
 
   -- ---- L, with FEC and without
 
+  -- with FEC the bytes that are cut are the c chunks with their parity
   pub L-fec : g .fec ≡ true → L g l ≡ c l * n l
   unfolding L
   L-fec e = rw e
 
+  -- without FEC the bytes that are cut are the packet alone
   pub L-plain : g .fec ≡ false → L g l ≡ l
   unfolding L
   L-plain e = rw e
 
+  -- of a packet of 12 bytes or more there is a byte to cut
   pub L-some : least-l ≤ l → 0 < L g l
   L-some from = either (g .fec)
       (λ e.
@@ -143,6 +161,7 @@ module _ (g : Settings) (l : ℕ) where
       omega (arith, L-fec e, mul-pos (chunk.c-some l (omega arith)) cells))
       (λ e. omega (arith, L-plain e))
 
+  -- what is cut of a packet of 12 to 8,192 bytes, zeros and parity with it, is at most 10,319 bytes
   pub L-most : least-l ≤ l → l ≤ most-l → L g l ≤ most-l + most-k + parity * 40
   unfolding n
   L-most from to =
@@ -154,6 +173,7 @@ module _ (g : Settings) (l : ℕ) where
   -- ---- the figures, as they are worked out
 
   module _ (p : Figures) (x y : ℕ) (is-c : x ≡ c l) (is-k : y ≡ k l) where
+    -- figures that are worked out so, one by one, are the values that a plan is answered with
     pub figured : p .c ≡ cond (g .fec) x 0 → p .k ≡ cond (g .fec) y 0 → p .z ≡ cond (g .fec) (x * y - l) 0 → p .n ≡ cond (g .fec) (y + parity) 0
         → p .h ≡ h g → p .room ≡ S g l → p .total ≡ L g l → p .f ≡ f g l → p .s ≡ ceil (p .total) (p .f) → p .assured ≡ assured g l
         → valuesOf p ≡ figuresOf g l
@@ -166,11 +186,13 @@ module _ (g : Settings) (l : ℕ) where
     fit-due : not (fit g) ≡ false
     fit-due = rw ok
 
+    -- at settings that fit, a length under 12 is refused with 20
     pub plan-20 : l < least-l → refused 20 ≡ planOf g l
     unfolding planOf planFault
     plan-20 short = refuses 20 _ _ (lit< tt) (skip 40 _ fit-due (due 20 _ (lt-ltb l least-l short)))
 
     module _ (from : least-l ≤ l) where
+      -- at settings that fit, a length over 8,192 is refused with 22
       pub plan-22 : most-l < l → refused 22 ≡ planOf g l
       unfolding planOf planFault
       plan-22 long = refuses 22 _ _ (lit< tt) (skip 40 _ fit-due (skip 20 _ (le-ltb l least-l from) (due 22 _ (lt-ltb most-l l long))))
@@ -180,26 +202,31 @@ module _ (g : Settings) (l : ℕ) where
         unfolding planFault
         last-due r e = skip 40 _ fit-due (skip 20 _ (le-ltb l least-l from) (skip 22 _ (le-ltb most-l l to) e))
 
+        -- at settings that fit, a length in bounds that makes over 256 fragments is refused with 41
         pub plan-41 : most-f < f g l → refused 41 ≡ planOf g l
         unfolding planOf
         plan-41 many = refuses 41 _ _ (lit< tt) (last-due 41 (due 41 _ (lt-ltb most-f (f g l) many)))
 
+        -- at settings that fit, a length in bounds that makes at most 256 fragments is answered with its figures
         pub plan-cut : f g l ≤ most-f → granted (figuresOf g l) ≡ planOf g l
         unfolding planOf
         plan-cut few = grants _ _ (last-due 0 (skip 41 _ (le-ltb most-f (f g l) few) none-due))
 
+  -- settings that do not fit are refused with 40, whatever the length
   pub plan-40 : fit g ≡ false → refused 40 ≡ planOf g l
   unfolding planOf planFault
   plan-40 e = refuses 40 _ _ (lit< tt) (due 40 _ (rw e))
 
 -- ---- and what is known where nothing is refused
 
+-- a cut in bounds: the settings fit, the packet has 12 to 8,192 bytes, and f is at most 256
 pub record Within (g : Settings) (l : ℕ) : Type 0 where
   pub ok : fit g ≡ true
   pub from : least-l ≤ l
   pub to : l ≤ most-l
   pub few : f g l ≤ most-f
 
+-- a cut that is not refused is in these bounds
 pub within : (g : Settings) (l : ℕ) → planFault g l ≡ 0 → Within g l
 unfolding planFault
 within g l e =
@@ -238,6 +265,7 @@ read-back : (p : Figures) → figuresFrom (valuesOf p) ≡ p
 unfolding figuresFrom valuesOf
 read-back p = refl
 
+-- no two answers to a plan have the same number and values
 pub one-planned : (a b : Planned) → numberOf a ≡ numberOf b → a ≡ b
 unfolding numberOf
 one-planned (Cut p) (Cut q) e =

@@ -20,9 +20,11 @@ use Rattle.cut_rules.proofs.LossCounts.{most, fewest, firsts-lost, firs
 use Rattle.cut_rules.proofs.PlanCases.{within, L-plain}
 use Rattle.cut_rules.proofs.Sufficing.{suffice-from, suffice-no}
 
+-- in every cut that is not refused the sizes fit together, and all fragments fit a place
 pub c2 : C2
 c2 g l taken = bearing.sized g l (within g l taken)
 
+-- in every cut with FEC that is not refused the receiver's c is the sender's
 pub c3 : C3
 c3 g l taken = bearing.same-c g l (within g l taken)
 
@@ -48,6 +50,7 @@ parted g packet taken plain =
           (omega (arith, here, length-part packet s i, sure .last-held, cut), omega (arith, length-part packet s i));
     }
 
+-- each byte of a block or packet has one fragment and offset, and each chunk its own cells of the block
 pub c4 : C4
 c4 =
     record {
@@ -62,6 +65,7 @@ unfolding missing
 c5 n f some =
     ((λ lost j. most lost f some (j * n) n), (λ w few. (firsts-lost n f w some few, firsts-take n f w some few)))
 
+-- with FEC, after any m losses or fewer no chunk misses more than 48 bytes, and what is held suffices
 pub c6 : C6
 c6 g l taken with-fec lost few =
     let all = bearing.bears g l (within g l taken) with-fec lost few in
@@ -69,6 +73,7 @@ c6 g l taken with-fec lost few =
 
 -- ---- document 01's edge
 
+-- the definitions give the sizes in all the starred rows of document 01's edge
 pub edge-rows : map (λ (r : Row). r .gives) rows ≡ map (λ (r : Row). r .says) rows
 unfolding rows ceil size.c size.k size.z size.n size.addressBytes size.h size.divisor size.S size.L size.f size.s
 edge-rows = refl
@@ -86,8 +91,10 @@ four : (lost : ℕ → Bool) → 4 ≤ losses lost 12 → (j : ℕ) → parity <
 unfolding missing
 four lost many j = omega (arith, fewest lost 12 (omega arith) (j * 187) 187)
 
+-- at l 415 and m 2, whichever three fragments or fewer are lost, the others suffice
 pub any-three : AnyThree
 any-three lost = rw (cut-415 .0, cut-415 .1, cut-415 .2) (λ few. suffice-from lost 12 187 3 (λ j h. three lost few j))
 
+-- at l 415 and m 2, whichever four fragments or more are lost, the others do not suffice
 pub no-four : NoFour
 no-four lost = rw (cut-415 .0, cut-415 .1, cut-415 .2) (λ many. suffice-no lost 12 187 3 0 (omega arith) (four lost many 0))

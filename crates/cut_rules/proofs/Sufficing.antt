@@ -12,6 +12,7 @@ use Rattle.base_rules.proofs.Logic.{and-false}
 use Rattle.cut_rules.specs.Missing.{missing, suffice}
 
 module _ (lost : ℕ → Bool) (f n : ℕ) where
+  -- where one of c chunks misses more than 48 bytes, the fragments held do not suffice
   pub suffice-no : (c j : ℕ) → j < c → parity < missing lost f n j → suffice lost f n c ≡ false
   unfolding suffice
   suffice-no zero j l h = absurd (not-suc-le-zero l)
@@ -22,6 +23,7 @@ module _ (lost : ℕ → Bool) (f n : ℕ) where
           (simp (lt-leb (missing lost f n j) parity h, and-false))
       go (inr k) ih = simp (ih k)
 
+  -- where none of c chunks misses more than 48 bytes, the fragments held suffice
   pub suffice-from : (c : ℕ) → ((j : ℕ) → j < c → missing lost f n j ≤ parity) → suffice lost f n c ≡ true
   unfolding suffice
   suffice-from zero h = refl

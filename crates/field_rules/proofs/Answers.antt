@@ -29,19 +29,23 @@ elsewhere : (x v r : ℕ) → (x ≡ 0 → ⊥) → r ≡ v → granted (r ∷ [
 elsewhere x v r p e = ap (λ y. granted (y ∷ [])) e ∙ grants _ _ (skip 44 _ (ne-eqb x 0 p) none-due)
 
 module _ (a b : ℕ) where
+  -- a division by 0 is refused as 44 ZERO
   pub quotient-refused : b ≡ 0 → numberOf (Refused 44) ≡ quotientOf a b
   unfolding numberOf quotientOf
   quotient-refused e = at-zero b (a ⊗ inv b) e
 
+  -- a division by anything but 0 gives the product with the inverse
   pub quotient-given : (r : ℕ) → (b ≡ 0 → ⊥) → r ≡ a ⊗ inv b → numberOf (Value r) ≡ quotientOf a b
   unfolding numberOf quotientOf
   quotient-given r p e = elsewhere b (a ⊗ inv b) r p e
 
 module _ (a : ℕ) where
+  -- the logarithm of 0 is refused as 44 ZERO
   pub logarithm-refused : a ≡ 0 → numberOf (Refused 44) ≡ logarithmOf a
   unfolding numberOf logarithmOf
   logarithm-refused e = at-zero a (logOf a) e
 
+  -- of anything but 0 the logarithm is given
   pub logarithm-given : (r : ℕ) → (a ≡ 0 → ⊥) → r ≡ logOf a → numberOf (Value r) ≡ logarithmOf a
   unfolding numberOf logarithmOf
   logarithm-given r p e = elsewhere a (logOf a) r p e

@@ -20,10 +20,12 @@ unfolding pow
 pow-lt x zero = lit< tt
 pow-lt x (suc n) = mul-lt x (pow x n)
 
+-- the power with exponent 0 is 1
 pub pow-0 : (x : ℕ) → pow x 0 ≡ 1
 unfolding pow
 pow-0 x = refl
 
+-- one more in the exponent is one factor more
 pub pow-s : (x n : ℕ) → pow x (suc n) ≡ x ⊗ pow x n
 unfolding pow
 pow-s x n = refl
@@ -32,6 +34,7 @@ pub pow-1 : (x : ℕ) → x < 256 → pow x 1 ≡ x
 unfolding pow
 pow-1 x h = mul-1-r x h
 
+-- the power to a sum of exponents is the product of the powers
 pub pow-add : (x m n : ℕ) → pow x (m + n) ≡ pow x m ⊗ pow x n
 unfolding pow
 pow-add x zero n = ap (pow x) (zero-add n) ∙ sym (mul-1-l (pow x n) (pow-lt x n))
@@ -55,6 +58,7 @@ pow-pow a m (suc n) = ap (λ y. pow a m ⊗ y) (pow-pow a m n) ∙ sym (mul-pow 
 
 -- ---- the powers of α
 
+-- each power of α is a byte
 pub alpha-lt : (n : ℕ) → alpha n < 256
 unfolding alpha
 alpha-lt zero = lit< tt
@@ -68,6 +72,7 @@ alpha-pow (suc n) = times2-mul (alpha n) (alpha-lt n) ∙ ap (λ x. 2 ⊗ x) (al
 pub alpha-add : (m n : ℕ) → alpha (m + n) ≡ alpha m ⊗ alpha n
 alpha-add m n = alpha-pow (m + n) ∙ pow-add 2 m n ∙ sym (ap₂ _⊗_ (alpha-pow m) (alpha-pow n))
 
+-- the n-th power of α^m is the m-th power of α^n
 pub pow-alpha : (m n : ℕ) → pow (alpha m) n ≡ pow (alpha n) m
 pow-alpha m n = ap (λ x. pow x n) (alpha-pow m) ∙ pow-pow 2 m n ∙ ap (λ x. pow x m) (sym (alpha-pow n))
 
@@ -163,6 +168,7 @@ apart i j l h e =
     back : 255 - i + i ≡ 255
     back = omega arith
 
+-- no two exponents below 255 have the same power of α
 pub alpha-inj : (i j : ℕ) → i < 255 → j < 255 → alpha i ≡ alpha j → i ≡ j
 alpha-inj i j hi hj e = go (decLt i j) (decLt j i)
   where
@@ -190,6 +196,7 @@ found (suc a) p h = log-found 255 0 (suc a) (at 255 (λ a. among (suc a) (powers
 pub log-lt : (x : ℕ) → 0 < x → x < 256 → logOf x < 255
 log-lt x p h = found x p h .0
 
+-- α to the power of the logarithm of an element but 0 is that element
 pub alpha-log : (x : ℕ) → 0 < x → x < 256 → alpha (logOf x) ≡ x
 alpha-log x p h = found x p h .1
 
@@ -217,6 +224,7 @@ inv-0 = pow-s 0 253 ∙ mul-0-l (pow 0 253)
 pub div-mul : (a b : ℕ) → a < 256 → 0 < b → b < 256 → b ⊗ (a ⊗ inv b) ≡ a
 div-mul a b ha pb hb = mul-left-comm b a (inv b) ∙ ap (λ x. a ⊗ x) (mul-inv b pb hb) ∙ mul-1-r a ha
 
+-- a product divided by one factor, which is not 0, is the other
 pub mul-div : (a b : ℕ) → a < 256 → 0 < b → b < 256 → (a ⊗ b) ⊗ inv b ≡ a
 mul-div a b ha pb hb = mul-assoc a b (inv b) ∙ ap (λ x. a ⊗ x) (mul-inv b pb hb) ∙ mul-1-r a ha
 
@@ -224,6 +232,7 @@ mul-div a b ha pb hb = mul-assoc a b (inv b) ∙ ap (λ x. a ⊗ x) (mul-inv b p
 pub mul-zero : (a b : ℕ) → a < 256 → 0 < b → b < 256 → a ⊗ b ≡ 0 → a ≡ 0
 mul-zero a b ha pb hb e = sym (mul-div a b ha pb hb) ∙ ap (λ x. x ⊗ inv b) e ∙ mul-0-l (inv b)
 
+-- the product of two elements but 0 is not 0
 pub mul-pos : (a b : ℕ) → a < 256 → 0 < a → 0 < b → b < 256 → 0 < a ⊗ b
 mul-pos a b ha pa pb hb = pos (a ⊗ b) refl
   where
@@ -231,6 +240,7 @@ mul-pos a b ha pa pb hb = pos (a ⊗ b) refl
     pos zero e = absurd (let z : a ≡ 0 = mul-zero a b ha pb hb e in omega arith)
     pos (suc x) e = omega arith
 
+-- no power of α is 0
 pub alpha-pos : (i : ℕ) → 0 < alpha i
 unfolding alpha
 alpha-pos zero = lit< tt
@@ -243,9 +253,11 @@ log-alpha i h =
 
 -- ---- a product and a quotient by logarithms
 
+-- the logarithms of two factors, added modulo 255, are a logarithm of their product
 pub log-mul : {a b : ℕ} (k l : ℕ) → k < 255 → l < 255 → alpha k ≡ a → alpha l ≡ b → alpha ((k + l) % 255) ≡ a ⊗ b
 log-mul k l hk hl ea eb = alpha-mod (k + l) ∙ alpha-add k l ∙ ap₂ _⊗_ ea eb
 
+-- the dividend's logarithm less the divisor's, modulo 255, is a logarithm of the quotient
 pub log-div : {a b : ℕ} (k l : ℕ) → k < 255 → l < 255 → alpha k ≡ a → alpha l ≡ b → alpha ((k + 255 - l) % 255) ≡ a ⊗ inv b
 log-div {a} {b} k l hk hl ea eb =
     alpha-mod (k + 255 - l) ∙ sym (mul-div (alpha (k + 255 - l)) b (alpha-lt (k + 255 - l)) pb hb)

@@ -20,12 +20,14 @@ fall-add m a b =
     ap (λ x. x % 2 * m) (add-shr a b 7) ∙ ap (λ x. x * m) (add-odd (a / 128) (b / 128))
     ∙ differ-scale (a / 128 % 2) (b / 128 % 2) m (bit (a / 128)) (bit (b / 128))
 
+-- a sum times α is the sum of its parts times α
 pub times2-add : (a b : ℕ) → times2 (a ⊕ b) ≡ times2 a ⊕ times2 b
 unfolding times2
 times2-add a b =
     ap₂ _⊕_ (ap (λ x. x % 256) (add-dbl a b) ∙ add-mod (a * 2) (b * 2) 8) (fall-add _ a b)
     ∙ add-swap (a * 2 % 256) (b * 2 % 256) _ _
 
+-- any number times α is a byte
 pub times2-lt : (a : ℕ) → times2 a < 256
 unfolding times2
 times2-lt a = add-lt (omega arith) (omega arith)
@@ -55,14 +57,17 @@ mulBits-lt (suc n) a b h =
 byte : (a : ℕ) → a % 256 < 256
 byte a = mod-lt a (zero-lt-suc 255)
 
+-- the product of any two numbers is a byte
 pub mul-lt : (a b : ℕ) → a ⊗ b < 256
 unfolding _⊗_
 mul-lt a b = mulBits-lt 8 (a % 256) b (byte a)
 
+-- a sum as the first factor may be multiplied part by part
 pub mul-add-l : (a b c : ℕ) → (a ⊕ b) ⊗ c ≡ a ⊗ c ⊕ b ⊗ c
 unfolding _⊗_
 mul-add-l a b c = ap (λ x. mulBits 8 x c) (add-mod a b 8) ∙ mulBits-add-l 8 (a % 256) (b % 256) c
 
+-- a sum as the second factor may be multiplied part by part
 pub mul-add-r : (a b c : ℕ) → a ⊗ (b ⊕ c) ≡ a ⊗ b ⊕ a ⊗ c
 unfolding _⊗_
 mul-add-r a b c = mulBits-add-r 8 (a % 256) b c
@@ -89,6 +94,7 @@ additive-0 : (f : ℕ → ℕ) → Additive f → f 0 ≡ 0
 unfolding Additive
 additive-0 f h = ap f (sym (add-self 0)) ∙ h 0 0 ∙ add-self (f 0)
 
+-- a number is the sum of its k low bits and of the bits above them
 pub split-add : (a k : ℕ) → a / 2 ^ k * 2 ^ k ⊕ a % 2 ^ k ≡ a
 unfolding _⊕_
 split-add a k = xor-shifted (a / 2 ^ k) k (a % 2 ^ k) (mod-lt a (pow-pos k)) ∙ split a k
@@ -131,6 +137,7 @@ comm-bytes a b ha hb =
     (λ i hi. agree8 (λ y. 2 ^ i ⊗ y) (λ y. y ⊗ 2 ^ i) (λ x y. mul-add-r (2 ^ i) x y) (λ x y. mul-add-l x y (2 ^ i))
     (λ j hj. comm-basis i j hi hj) b hb) a ha
 
+-- the product goes in either order
 pub mul-comm : (a b : ℕ) → a ⊗ b ≡ b ⊗ a
 mul-comm a b = sym (mul-mod a b) ∙ comm-bytes (a % 256) (b % 256) (byte a) (byte b) ∙ mul-mod b a
 
@@ -170,19 +177,23 @@ mul-mod-r a b = mulBits-mod 8 (a % 256) b
 mul-mod-l : (a b : ℕ) → (a % 256) ⊗ b ≡ a ⊗ b
 mul-mod-l a b = mul-comm (a % 256) b ∙ mul-mod-r b a ∙ mul-comm b a
 
+-- the product goes by either grouping
 pub mul-assoc : (a b c : ℕ) → a ⊗ b ⊗ c ≡ a ⊗ (b ⊗ c)
 mul-assoc a b c =
     sym (ap₂ _⊗_ (mul-mod a b) refl ∙ mul-mod-r (a ⊗ b) c)
     ∙ assoc-bytes (a % 256) (b % 256) (c % 256) (byte a) (byte b) (byte c)
     ∙ mul-mod-l a ((b % 256) ⊗ (c % 256)) ∙ ap (λ x. a ⊗ x) (mul-mod b c)
 
+-- of three factors, the first two may change places
 pub mul-left-comm : (a b c : ℕ) → a ⊗ (b ⊗ c) ≡ b ⊗ (a ⊗ c)
 mul-left-comm a b c = sym (mul-assoc a b c) ∙ ap (λ x. x ⊗ c) (mul-comm a b) ∙ mul-assoc b a c
 
+-- anything times 0 is 0
 pub mul-0-r : (a : ℕ) → a ⊗ 0 ≡ 0
 unfolding Additive
 mul-0-r a = additive-0 (λ x. a ⊗ x) (λ x y. mul-add-r a x y)
 
+-- 0 times anything is 0
 pub mul-0-l : (a : ℕ) → 0 ⊗ a ≡ 0
 mul-0-l a = mul-comm 0 a ∙ mul-0-r a
 
@@ -190,9 +201,11 @@ unit-test : T (below 256 (λ a. eqb (1 ⊗ a) a))
 unfolding _⊗_ mulBits times2 _⊕_
 unit-test = tt
 
+-- 1 times an element is that element
 pub mul-1-l : (a : ℕ) → a < 256 → 1 ⊗ a ≡ a
 mul-1-l a h = eqb→eq (1 ⊗ a) a (at 256 (λ a. eqb (1 ⊗ a) a) unit-test a h)
 
+-- an element times 1 is that element
 pub mul-1-r : (a : ℕ) → a < 256 → a ⊗ 1 ≡ a
 mul-1-r a h = mul-comm a 1 ∙ mul-1-l a h
 

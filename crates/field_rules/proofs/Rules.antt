@@ -37,6 +37,7 @@ numbered-at (suc n) l t e (suc i) h =
 abbrev pub all-logs : List ℕ → Bool
 all-logs t = eqb (getD t 0 0) 0 && numbered 0 (powers 255 1) t
 
+-- a table that passes the test is the table of logarithms
 pub logs : (t : List ℕ) → all-logs t ≡ true → Logs t
 unfolding alpha
 logs t e =

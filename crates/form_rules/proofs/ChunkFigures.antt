@@ -30,6 +30,7 @@ pub record Figures (f s k z : ℕ) : Type 0 where
   pub small : k ≤ most-k
   pub zeros : z < k
 
+-- the figures of a place in range, with FEC, are within these bounds
 pub figures : (p : Place) → badPlace p ≡ false → p .fec ≡ true → Figures (p .count) (p .size) (p .rsk) (p .rsz)
 figures p ranged fec =
     let r = range-from p ranged in
@@ -42,13 +43,16 @@ module _ {f s k z : ℕ} (g : Figures f s k z) where
   no-chunks h = div-eq-of-lt h
 
   module _ (some : k + parity ≤ f * s) where
+    -- where the fragments have the bytes of a chunk, there is at least one of them
     pub some-fragments : 0 < f
     some-fragments = pos-of-ne-zero (λ (e : f ≡ 0). omega (arith, ap (λ (x : ℕ). x * s) e, zero-mul s))
 
+    -- the count of fragments that have the bytes of a chunk passes 7 COUNT
     pub counted : badCount f ≡ false
     unfolding badCount
     counted = rw (ne-eqb f 0 (λ e. omega (arith, some-fragments)), le-ltb most-f f (g .few))
 
+    -- such fragments together are not too much for a place
     pub in-place : tooMuch f s ≡ false
     unfolding tooMuch
     in-place = le-ltb place (f * s) (g .placed)
@@ -57,6 +61,7 @@ module _ {f s k z : ℕ} (g : Figures f s k z) where
     unfolding badChunk
     sound = rw (k-fits k (λ e. omega (arith, g .some)) (g .small), le-ltb (f * s) (k + parity) some)
 
+    -- where the fragments have the bytes of a chunk, the receiver takes at least one chunk
     pub some-chunk : 0 < receivedC f s k
     unfolding receivedC
     some-chunk =
@@ -81,6 +86,7 @@ module _ {f s k z : ℕ} (g : Figures f s k z) where
       go (yes h) = no-chunks h
       go (no h) = absurd (omega (arith, refused-by n (enoughFault f s k) values e, enough-fine (omega arith)))
 
+  -- where a filling, with a cell for each of their bytes, refuses them, they make no chunk
   pub fill-refused : (n room : ℕ) (values : List ℕ) → f * s ≤ room → refused n ≡ answered (fillFault f s k room) values → receivedC f s k ≡ 0
   fill-refused n room values fits e = go (decLt (f * s) (k + parity))
     where

@@ -26,10 +26,12 @@ chunk-next : (n j : ℕ) (l : List ℕ) → chunkOf (drop n l) n j ≡ chunkOf l
 unfolding chunkOf
 chunk-next n j l = ap (take n) (drop-drop (j * n) n l ∙ ap (λ (x : ℕ). drop x l) (add-comm n (j * n) ∙ sym (suc-mul j n)))
 
+-- byte i of chunk j, of n bytes each, is byte j n + i of the list
 pub chunk-at : (n j i : ℕ) (l : List ℕ) → i < n → getD (chunkOf l n j) i 0 ≡ getD l (j * n + i) 0
 unfolding chunkOf part
 chunk-at n j i l h = part-at n j i l h
 
+-- in a list that has c chunks of n bytes, each of them has n bytes
 pub length-chunk : (n c j : ℕ) (l : List ℕ) → c * n ≤ length l → j < c → length (chunkOf l n j) ≡ n
 unfolding chunkOf
 length-chunk n c j l h b = length-take-le n (drop (j * n) l) (omega (arith, length-drop (j * n) l, room n c j b))
@@ -45,6 +47,7 @@ chunks-same n (suc c) u v e =
 
 -- ---- the data of c chunks and their parity
 
+-- the data of c chunks without their parity are c k bytes
 pub length-data : (l : List ℕ) (k c : ℕ) → c * (k + parity) ≤ length l → length (dataOf l k c) ≡ c * k
 unfolding dataOf
 length-data l k zero h = sym (zero-mul k)

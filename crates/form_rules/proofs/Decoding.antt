@@ -46,14 +46,17 @@ module _ (p : Place) (ranged : badPlace p ≡ false) (fec : p .fec ≡ true) whe
   unfolding suffice
   none-enough e = sym (enough-coded p fec ∙ ap (suffice (notKept (p .kept)) (p .count) (p .rsk + parity)) e)
 
+  -- of a place in range with FEC, the answer Enough says that its fragments suffice
   pub suffices-yes : (h : Held) → h ≡ helds.Enough → held-calls.numberOf h ≡ enoughOf (p .kept) (p .count) (p .size) (p .rsk) → true ≡ enoughIn p
   unfolding held-calls.numberOf
   suffices-yes h is e = told-enough true (sym (ap held-calls.numberOf is) ∙ e)
 
+  -- of a place in range with FEC, the answer NotEnough says that its fragments do not suffice
   pub suffices-no : (h : Held) → h ≡ helds.NotEnough → held-calls.numberOf h ≡ enoughOf (p .kept) (p .count) (p .size) (p .rsk) → false ≡ enoughIn p
   unfolding held-calls.numberOf
   suffices-no h is e = told-enough false (sym (ap held-calls.numberOf is) ∙ e)
 
+  -- where the test refuses such a place, it has no chunk to miss a byte, and its fragments suffice
   pub suffices-refused : (h : Held) (n : ℕ) → h ≡ helds.Refused n → held-calls.numberOf h ≡ enoughOf (p .kept) (p .count) (p .size) (p .rsk)
       → true ≡ enoughIn p
   unfolding held-calls.numberOf enoughOf
@@ -85,6 +88,7 @@ chunksIn p = receivedC (p .count) (p .size) (p .rsk)
 
 -- ---- what is known once the cells are filled in
 
+-- a place with FEC, ready to be formed: its cells as deinterleaved, and how they were filled in
 pub record Decoding (p : Place) (held cells after : List ℕ) (r : Filled) : Type 0 where
   pub ready : Ready p held
   pub fec : p .fec ≡ true
@@ -92,6 +96,7 @@ pub record Decoding (p : Place) (held cells after : List ℕ) (r : Filled) : Typ
   pub laid : p .rsk + parity ≤ p .count * p .size → Laid (p .count) (p .size) held cells
   pub filled : BlockFilled (p .kept) (p .count) (p .size) (p .rsk) cells after r
 
+-- cells that were deinterleaved from a place's bytes and then filled in are such a decoding
 pub decoding : {p : Place} {held cells after : List ℕ} {r : Filled} (blank : List ℕ) (a : Answer) (q : Filled) → Ready p held → p .fec ≡ true
     → length blank ≡ place → length cells ≡ place → outcome a cells ≡ deinterleaveOf held (p .count) (p .size) blank
     → BlockFilled (p .kept) (p .count) (p .size) (p .rsk) cells after q → q ≡ r → Decoding p held cells after r
@@ -106,6 +111,7 @@ decoding {p} {held} {cells} {after} blank a q ready fec room size put filled is 
     }
 
 module _ {p : Place} {held cells after : List ℕ} {r : Filled} (d : Decoding p held cells after r) where
+  -- the figures of a place that is decoded are within their bounds
   pub figured : figures.Figures (p .count) (p .size) (p .rsk) (p .rsz)
   figured = figures.figures p (d .ready .ranged) (d .fec)
 

@@ -29,10 +29,12 @@ data-more cells k (suc c) =
 
 -- ---- the loop that lays them down
 
+-- before the first chunk the buffer is as it was
 pub gathered-none : (cells buffer : List ℕ) (k : ℕ) → buffer ≡ splice buffer 0 (dataOf cells k 0)
 unfolding dataOf
 gathered-none cells buffer k = splice-none buffer 0
 
+-- once as many chunks are gathered as there are, the buffer begins with the data bytes of all
 pub gathered-all : (cells buffer x : List ℕ) (k i c : ℕ) → i ≤ c → c ≤ i → x ≡ splice buffer 0 (dataOf cells k i)
     → x ≡ splice buffer 0 (dataOf cells k c)
 gathered-all cells buffer x k i c h g e = e ∙ ap (λ (n : ℕ). splice buffer 0 (dataOf cells k n)) (omega arith)

@@ -28,9 +28,11 @@ fits (suc n) (suc s) l all one less =
 -- ---- of a place in range
 
 module _ (p : Place) (fine : badPlace p ≡ false) where
+  -- the fragments before the last, and the last, have room in one place together
   pub front-fits : (p .count - 1) * p .size + p .last ≤ place
   front-fits = let r = range-from p fine in fits (p .count) (p .size) (p .last) (r .size) (r .last) (r .less)
 
+  -- where no fragment comes before the last, no byte does, and the last alone fits a place
   pub front-none : p .count - 1 ≡ 0 → (0 ≡ (p .count - 1) * p .size) × (0 + p .last ≤ place)
   front-none e =
       let none : (p .count - 1) * p .size ≡ 0 * p .size = ap (λ (n : ℕ). n * p .size) e in
@@ -55,9 +57,11 @@ module _ (p : Place) (held : List ℕ) (long : place ≤ length held) (n : ℕ) 
   last-length : length last-part ≡ p .last
   last-length = length-take-le _ (drop (place - p .last) held) (rw length-drop (omega (arith, is-front .1))) ∙ last-long
 
+  -- the joined packet has these n bytes and those of the last fragment
   pub joined-length : n + p .last ≡ length (joined p held)
   joined-length = omega (arith, ap length is-joined, length-append (take n held) last-part, front-length, last-length)
 
+  -- copying the one and then the other right behind it leaves the joined packet at the front
   pub joined-put : (buffer first both : List ℕ) (a b : Answer) → length buffer ≡ place → outcome a first ≡ putOf buffer 0 (take n held)
       → outcome b both ≡ putOf first n last-part → both ≡ splice buffer 0 (joined p held)
   joined-put buffer first both a b as-long e q =
@@ -70,5 +74,6 @@ module _ (p : Place) (held : List ℕ) (long : place ≤ length held) (n : ℕ) 
       ∙ splice-next buffer (take n held) last-part n front-length
       ∙ ap (splice buffer 0) is-joined
 
+-- what is joined from a place in range is no longer than a place
 pub joined-fits : (p : Place) (held : List ℕ) → badPlace p ≡ false → place ≤ length held → length (joined p held) ≤ place
 joined-fits p held fine long = omega (arith, front-fits p fine, joined-length p held long _ (refl, front-fits p fine))

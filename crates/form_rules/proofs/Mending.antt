@@ -108,6 +108,7 @@ module _ (f s k z : ℕ) (lost : ℕ → Bool) (held P : List ℕ) (fills : Fill
       ∙ ap (λ (x : ℕ). take x (padded P z)) (sym (fills .size)) ∙ unpadded P z
 
   module _ (j : ℕ) (below : j < receivedC f s k) where
+    -- each chunk of the packet with its z zeros has k data bytes
     pub length-data-chunk : length (chunkOf (padded P z) k j) ≡ k
     length-data-chunk = length-chunk k (receivedC f s k) j (padded P z) long below
 
@@ -134,6 +135,7 @@ module _ (f s k z : ℕ) (lost : ℕ → Bool) (held P : List ℕ) (fills : Fill
 -- its words have the kept bytes of the cells
 module _ (f s k z : ℕ) (kept : List Bool) (held cells : List ℕ) (laid : Laid f s held cells) (room : f * s ≤ length cells) (small : k ≤ most-k)
     (P : List ℕ) (fills : Fills f s k z (notKept kept) held P) (j : ℕ) (below : j < receivedC f s k) where
+  -- chunk j with its parity is a word of the code, and has every kept byte of chunk j of the cells
   pub word-agrees : chunk.Agrees k (lostCells kept f (j * (k + parity)) (k + parity)) (chunkOf cells (k + parity) j)
       (encode (chunkOf (padded P z) k j))
   word-agrees =

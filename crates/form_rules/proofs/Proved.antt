@@ -62,5 +62,6 @@ module _ (p : Place) (held out : List ℕ) where
 pub one-formed : OneFormed
 one-formed p held out v w r q a b = formed p held out v w r q a b
 
+-- whether some packet agrees with what a place holds can always be told
 pub decided : Decided
 decided = searching.decided

@@ -116,6 +116,7 @@ module _ (p : Place) (held : List ℕ) where
   agrees-plain plain (yes accepted) = yes (joined p held, record { coded = λ e. clash e plain; plain = λ e. refl; accepted = accepted })
   agrees-plain plain (no refused) = no (λ x. refused (sym (ap afFault (x .1 .plain plain)) ∙ x .1 .accepted))
 
+-- whether any packet agrees with what a place holds can always be told
 pub decided : Decided
 decided p held =
     either (p .fec)

@@ -27,6 +27,7 @@ pub length-cells : (held : List ℕ) (f s : ℕ) → length (cellsOf held f s) �
 unfolding cellsOf
 length-cells held f s = length-table (cellOf held f s) 0 (f * s)
 
+-- in the list of all cells each cell of the place stands at its own index
 pub laid-all : (held : List ℕ) (f s : ℕ) → Laid f s held (cellsOf held f s)
 unfolding cellsOf
 laid-all held f s q h = at-table (cellOf held f s) 0 (f * s) q h ∙ ap (cellOf held f s) (zero-add q)
@@ -51,11 +52,13 @@ module _ (f s k z : ℕ) (kept : List Bool) (held : List ℕ) (small : k ≤ mos
       ∙ ap (take (receivedC f s k * k - z)) (chunks-same k (receivedC f s k) (padded P z) (padded Q z) same-chunk)
       ∙ from-chunks f s k z (notKept kept) held Q b
 
+-- with FEC the fragments held suffice just where no chunk misses more than 48 bytes
 pub enough-coded : (p : Place) → p .fec ≡ true → enoughIn p ≡ suffice (notKept (p .kept)) (p .count) (p .rsk + parity)
     (receivedC (p .count) (p .size) (p .rsk))
 unfolding enoughIn enough
 enough-coded p fec = rw fec
 
+-- where the fragments held suffice (with FEC, for k up to 207), no two packets agree with them
 pub one-packet : OnePacket
 one-packet p held P Q small e a b =
     either (p .fec)

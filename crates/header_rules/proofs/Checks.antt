@@ -27,27 +27,34 @@ use Rattle.header_rules.proofs.Fields.{no-chunk}
 -- ---- the tests from each number on
 
 module _ (own : Address) (s : List ℕ) where
+  -- the last of the header's tests alone: sizes out of bounds give 8
   abbrev pub from-8 : List (Bool × ℕ)
   from-8 = (badSize (fieldsOf s), 8) ∷ []
 
+  -- from 7 on: Fcount out of bounds or Findex not below it, then the sizes
   abbrev pub from-7 : List (Bool × ℕ)
   from-7 = (badIndex (fieldsOf s), 7) ∷ from-8
 
+  -- from 6 on: an address that is not the configured pair, then the tests of 7 and 8
   abbrev pub from-6 : List (Bool × ℕ)
   from-6 = (badAddress own (addressOf s), 6) ∷ from-7
 
+  -- from 5 on: a Plen of 0 or a total that is not h + Plen, then the tests of 6 to 8
   abbrev pub from-5 : List (Bool × ℕ)
   from-5 = (badLength s (fieldsOf s), 5) ∷ from-6
 
+  -- from 4 on: a header CRC that is wrong, then the tests of 5 to 8
   abbrev pub from-4 : List (Bool × ℕ)
   from-4 = (badCrc s, 4) ∷ from-5
 
+  -- from 3 on: a datagram that does not begin with "PF", then the tests of 4 to 8
   abbrev pub from-3 : List (Bool × ℕ)
   from-3 = (notSync s, 3) ∷ from-4
 
   abbrev pub from-2 : List (Bool × ℕ)
   from-2 = (isShort s, 2) ∷ from-3
 
+  -- the first of the tests 2 to 8 that a datagram fails gives its number, and 0 is given if it fails none
   pub in-order : first from-2 ≡ faultOf own s
   unfolding faultOf
   in-order = refl
@@ -55,6 +62,7 @@ module _ (own : Address) (s : List ℕ) where
 -- ---- what a test tells that failed, and how it is made to
 
 module _ (s : List ℕ) where
+  -- a datagram that passes 2 SHORT has at least 14 bytes, and the whole header that its flags call for
   pub short-from : isShort s ≡ false → (14 ≤ length s) × (lengthOf s ≤ length s)
   unfolding isShort
   short-from e = (ltb-false (length s) 14 (or-left (ltb (length s) 14) _ e), ltb-false (length s) (lengthOf s) (or-right (ltb (length s) 14) _ e))
@@ -64,10 +72,12 @@ module _ (s : List ℕ) where
   fit-short long whole = rw (le-ltb (length s) 14 long, le-ltb (length s) (lengthOf s) whole)
 
   module _ (x : ℕ) (is-x : x ≡ numberAt 2 s 0) where
+    -- a datagram whose first two bytes were read as "PF" passes 3 SYNC
     pub fit-sync : x ≡ sync → notSync s ≡ false
     unfolding notSync
     fit-sync e = same (sym is-x ∙ e)
 
+    -- a datagram whose first two bytes were read as anything but "PF" fails 3 SYNC
     pub other-sync : (x ≡ sync → ⊥) → notSync s ≡ true
     unfolding notSync
     other-sync ne = other (λ (e : numberAt 2 s 0 ≡ sync). ne (is-x ∙ e))
@@ -95,14 +105,17 @@ module _ (s : List ℕ) (h : Header) where
   fit-length some e = rw (ne-eqb (h .plen) 0 (λ z. omega arith), eq-eqb (length s) (lengthOf s + h .plen) e)
 
 module _ (h : Header) where
+  -- a header that passes 7 COUNT has an Fcount that is neither 0 nor over 256
   pub counted : badIndex h ≡ false → badCount (h .count) ≡ false
   unfolding badIndex
   counted e = or-left (badCount (h .count)) _ e
 
+  -- a header that passes 7 COUNT has Findex below Fcount, and Fcount at most 256
   pub index-from : badIndex h ≡ false → (h .index < h .count) × (h .count ≤ most-f)
   unfolding badIndex
   index-from e = (leb-false (h .count) (h .index) (or-right (badCount (h .count)) _ e), f-most (h .count) (or-left (badCount (h .count)) _ e))
 
+  -- a header with Findex below Fcount, and Fcount at most 256, passes 7 COUNT
   pub fit-index : h .index < h .count → h .count ≤ most-f → badIndex h ≡ false
   unfolding badIndex badCount
   fit-index below few =
@@ -127,6 +140,7 @@ module _ (f s k z : ℕ) where
       (k-fits k (λ e. omega (arith, c .0)) (c .1), le-ltb (f * s) (k + parity) (c .3), lt-leb k z (c .2))
 
 module _ (h : Header) where
+  -- a header that passes 8 SIZE has fragments that fit a place, and with FEC a chunk's RSk and RSz
   pub size-from : badSize h ≡ false → (h .count * h .plen ≤ place) × (h .fec ≡ true → Chunk (h .count) (h .plen) (h .rsk) (h .rsz))
   unfolding badSize
   size-from e =
@@ -135,6 +149,7 @@ module _ (h : Header) where
         λ (f : h .fec ≡ true). chunk-from (h .count) (h .plen) (h .rsk) (h .rsz) (ap (λ (b : Bool). b && no-chunk h) (sym f) ∙ coded),
       )
 
+  -- a header whose fragments fit a place, with a chunk's RSk and RSz if with FEC, passes 8 SIZE
   pub fit-size : h .count * h .plen ≤ place → (h .fec ≡ true → Chunk (h .count) (h .plen) (h .rsk) (h .rsz)) → badSize h ≡ false
   unfolding badSize tooMuch
   fit-size fits chunk =
@@ -148,11 +163,13 @@ pub address-told : (own : Address) (s : List ℕ) (h : Header) {b y : Bool} → 
 unfolding fieldsOf
 address-told own s h is-h is-b e = ap (λ (x : Header). badAddress own (x .address)) (sym is-h) ∙ sym is-b ∙ e
 
+-- what a test was found to say of one header it says of any header equal to it
 pub told-by : (test : Header → Bool) {h h′ : Header} {b y : Bool} → h ≡ h′ → b ≡ test h → b ≡ y → test h′ ≡ y
 told-by test is-h is-b e = ap test (sym is-h) ∙ sym is-b ∙ e
 
 -- ---- a datagram that passes
 
+-- a datagram that passes the checks 2 to 8 for the configured address, and what each tells of it
 pub record Passing (own : Address) (s : List ℕ) : Type 0 where
   pub long : 14 ≤ length s
   pub whole : lengthOf s ≤ length s
@@ -165,6 +182,7 @@ pub record Passing (own : Address) (s : List ℕ) : Type 0 where
   pub placed : badSize (fieldsOf s) ≡ false
 
 module _ (own : Address) (s : List ℕ) where
+  -- a datagram that passes each check has no number due
   pub passes : Passing own s → 0 ≡ faultOf own s
   passes p =
       skip 2 (from-3 own s) (fit-short s (p .long) (p .whole))
@@ -174,6 +192,7 @@ module _ (own : Address) (s : List ℕ) where
       (skip 6 (from-7 own s) (p .owned) (skip 7 (from-8 own s) (p .indexed) (skip 8 [] (p .placed) none-due))))))
       ∙ in-order own s
 
+  -- a datagram with no number due passes each check
   pub passing : faultOf own s ≡ 0 → Passing own s
   passing e =
       let due : (n : ℕ) → (suc n ≡ 0 → ⊥) = λ n (z : suc n ≡ 0). omega arith in

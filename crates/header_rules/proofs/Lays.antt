@@ -27,11 +27,13 @@ length-either : (b : Bool) (k z : ℕ) → length (cond b (k ∷ z ∷ []) []) �
 length-either true k z = refl
 length-either false k z = refl
 
+-- an address is written in the bytes that the size of a header counts for it: 4, or 0 for none
 pub address-length : (a : Address) → length (addressPart a) ≡ addressBytes a
 unfolding addressPart addressBytes bytesOf
 address-length None = refl
 address-length (Pair source dest) = refl
 
+-- an address takes at most 4 bytes of a header
 pub address-most : (a : Address) → length (addressPart a) ≤ 4
 unfolding addressPart bytesOf
 address-most None = omega arith
@@ -46,13 +48,16 @@ module _ (h : Header) where
   unfolding frontOf bytesOf
   front-length = refl
 
+  -- with FEC RSk and RSz take 2 bytes of a header, without it none
   pub fec-length : length (fecPart h) ≡ cond (h .fec) 2 0
   unfolding fecPart
   fec-length = length-either (h .fec) (h .rsk) (h .rsz)
 
+  -- with FEC or without, RSk and RSz take at most 2 bytes of a header
   pub fec-most : length (fecPart h) ≤ 2
   fec-most = omega (arith, fec-length, most-two (h .fec))
 
+  -- before the address stand the front's 12 bytes, and RSk and RSz if with FEC
   pub lead-length : length (frontOf h ++ fecPart h) ≡ 12 + length (fecPart h)
   lead-length = omega (arith, length-append (frontOf h) (fecPart h), front-length)
 
@@ -60,9 +65,11 @@ module _ (h : Header) where
   unfolding bodyOf
   grouped = append-assoc (frontOf h) (fecPart h) (addressPart (h .address))
 
+  -- before HCRC stand the front's 12 bytes, RSk and RSz if with FEC, and the address if there is one
   pub body-length : length (bodyOf h) ≡ 12 + length (fecPart h) + length (addressPart (h .address))
   body-length = omega (arith, ap length grouped, length-append (frontOf h ++ fecPart h) (addressPart (h .address)), lead-length)
 
+  -- a header has two bytes more than HCRC is over: HCRC itself
   pub header-length : length (headerBytes h) ≡ length (bodyOf h) + 2
   unfolding headerBytes
   header-length = omega (arith, length-append (bodyOf h) (bytesOf 2 (wordOf (bodyOf h))), length-bytes 2 (wordOf (bodyOf h)))
@@ -70,10 +77,12 @@ module _ (h : Header) where
 -- ---- the flags
 
 module _ (h : Header) (x : ℕ) (is-x : x ≡ addrFlag (h .address)) where
+  -- with FEC the flags are the FEC bit, the Addr bit if there is an address, and Plen
   pub flags-fec : h .fec ≡ true → fecBit + (x + h .plen % addrBit) ≡ flagsOf h
   unfolding flagsOf
   flags-fec e = ap₂ (λ (b : Bool) (y : ℕ). cond b fecBit 0 + (y + h .plen % addrBit)) (sym e) is-x
 
+  -- without FEC the flags are the Addr bit if there is an address, and Plen
   pub flags-plain : h .fec ≡ false → x + h .plen % addrBit ≡ flagsOf h
   unfolding flagsOf
   flags-plain e = sym (zero-add _) ∙ ap₂ (λ (b : Bool) (y : ℕ). cond b fecBit 0 + (y + h .plen % addrBit)) (sym e) is-x
@@ -93,6 +102,7 @@ put-next out x y a b b′ n p long fits is-x is-b e =
 abbrev pf : List ℕ
 pf = 80 ∷ 70 ∷ []
 
+-- the copies of "PF", Pseq, Findex, Fcount and the flags, one behind another, write the front
 pub front-laid : (h : Header) (out x₁ x₂ x₃ x₄ x₅ b₂ b₃ b₄ b₅ : List ℕ) (flags : ℕ) (p₁ p₂ p₃ p₄ p₅ : Answer) → 12 ≤ length out
     → b₂ ≡ bytesOf 2 (h .number) → b₃ ≡ bytesOf 3 (h .index) → b₄ ≡ bytesOf 3 (h .count) → b₅ ≡ bytesOf 2 flags → flags ≡ flagsOf h
     → outcome p₁ x₁ ≡ putOf out 0 pf → outcome p₂ x₂ ≡ putOf x₁ 2 b₂ → outcome p₃ x₃ ≡ putOf x₂ 4 b₃ → outcome p₄ x₄ ≡ putOf x₃ 7 b₄
@@ -118,6 +128,7 @@ module _ (out : List ℕ) (at : ℕ) (part : List ℕ) where
   part-none e = (sym (add-zero at) ∙ ap (λ (l : List ℕ). at + length l) e, splice-none out at ∙ ap (splice out at) e)
 
 module _ (h : Header) (out : List ℕ) (at : ℕ) where
+  -- with FEC the copy of RSk and RSz writes their part, and the next begins 2 bytes on
   pub fec-laid : (y : List ℕ) (p : Answer) → h .fec ≡ true → at + 2 ≤ length out → outcome p y ≡ putOf out at (h .rsk ∷ h .rsz ∷ [])
       → (at + 2 ≡ at + length (fecPart h)) × (y ≡ splice out at (fecPart h))
   unfolding fecPart
@@ -125,15 +136,18 @@ module _ (h : Header) (out : List ℕ) (at : ℕ) where
       let part : h .rsk ∷ h .rsz ∷ [] ≡ fecPart h = ap (λ (b : Bool). cond b (h .rsk ∷ h .rsz ∷ []) []) (sym e) in
       (ap (λ (l : List ℕ). at + length l) part, put-is out (h .rsk ∷ h .rsz ∷ []) y at p room is-y ∙ ap (splice out at) part)
 
+  -- without FEC the part of RSk and RSz is empty: nothing is written, and the next begins at once
   pub fec-none : h .fec ≡ false → (at ≡ at + length (fecPart h)) × (out ≡ splice out at (fecPart h))
   unfolding fecPart
   fec-none e = part-none out at (fecPart h) (ap (λ (b : Bool). cond b (h .rsk ∷ h .rsz ∷ []) []) (sym e))
 
 module _ (a : Address) (out : List ℕ) (at : ℕ) where
+  -- without an address its part is empty: nothing is written, and the next begins at once
   pub address-absent : a ≡ None → (at ≡ at + length (addressPart a)) × (out ≡ splice out at (addressPart a))
   unfolding addressPart
   address-absent e = part-none out at (addressPart a) (ap addressPart (sym e))
 
+  -- with an address the copies of Source and Dest write its part, and the next begins 4 bytes on
   pub address-laid : (source dest : ℕ) (u v b d : List ℕ) (p q : Answer) → a ≡ Pair source dest → b ≡ bytesOf 2 source → d ≡ bytesOf 2 dest
       → at + 4 ≤ length out → outcome p u ≡ putOf out at b → outcome q v ≡ putOf u (at + 2) d
       → (at + 4 ≡ at + length (addressPart a)) × (v ≡ splice out at (addressPart a))
@@ -153,6 +167,7 @@ module _ (a : Address) (out : List ℕ) (at : ℕ) where
 
 -- ---- HCRC, and all of it
 
+-- the copy of the CRC of all bytes before it writes HCRC
 pub crc-laid : (out y b : List ℕ) (at word : ℕ) (p : Answer) → word ≡ wordOf (take at out) → b ≡ bytesOf 2 word → at + 2 ≤ length out
     → outcome p y ≡ putOf out at b
     → y ≡ splice out at (bytesOf 2 (wordOf (take at out)))
@@ -160,6 +175,7 @@ crc-laid out y b at word p is-word is-b room e =
     let two : length b ≡ 2 = ap length is-b ∙ length-bytes 2 word in
     put-is out b y at p (omega arith) e ∙ ap (splice out at) (is-b ∙ ap (bytesOf 2) is-word)
 
+-- the front, RSk and RSz, the address and HCRC, written one behind another, are the header
 pub header-laid : (h : Header) (out w x y v : List ℕ) (a b : ℕ) → w ≡ splice out 0 (frontOf h) → a ≡ 12 + length (fecPart h)
     → x ≡ splice w 12 (fecPart h)
     → b ≡ a + length (addressPart (h .address)) → y ≡ splice x a (addressPart (h .address)) → v ≡ splice y b (bytesOf 2 (wordOf (take b y)))

@@ -21,9 +21,11 @@ use Rattle.header_rules.proofs.Checks.{Passing, passes, passing, index-
 use Rattle.header_rules.proofs.Lays.{fec-length, body-length, address-length, header-length}
 use Rattle.header_rules.proofs.ReadBack.{header-back, sound-passes}
 
+-- a header that is written is read as itself, whatever stands behind it
 pub reads-back : ReadsBack
 reads-back h rest w = header-back h w rest
 
+-- a sound header and Plen bytes of payload have none of 2 to 8 due where the address is accepted
 pub written-passes : Passes
 written-passes own h payload p long owned = sym (passes own _ (sound-passes own h payload p long owned))
 
@@ -54,6 +56,7 @@ module _ (s : List ℕ) (bytes : Bytes s) where
         address = fitting (hasAddress s) _ _ (number-lt 2 s (addressAt s) bytes) (number-lt 2 s (addressAt s + 2) bytes);
       }
 
+-- a datagram that passes the checks 2 to 8 has a sound header
 pub passed-sound : PassedSound
 passed-sound own s bytes e =
     let p : Passing own s = passing own s e in
@@ -66,9 +69,11 @@ passed-sound own s bytes e =
       chunk = size-from (fieldsOf s) (p .placed) .1;
     }
 
+-- a datagram that passes the checks 2 to 8 is its header and Plen bytes of payload
 pub payload-stands : PayloadStands
 payload-stands own s e = passing own s e .sized
 
+-- a header has 14 bytes, two more with FEC and four more with an address
 pub header-lengths : HeaderLength
 header-lengths h = omega (arith, header-length h, body-length h, fec-length h, address-length (h .address))
 

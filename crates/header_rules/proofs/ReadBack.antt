@@ -152,6 +152,7 @@ module _ (h : Header) (w : Written h) (rest : List ℕ) where
   unfolding addressOf
   address-back = address-from (h .address) s (crc ++ rest) (addressAt s) (hasAddress s) addressed-back from-address (w .address)
 
+  -- each field of a written header is read back, whatever stands behind the header
   pub header-back : fieldsOf s ≡ h
   unfolding fieldsOf
   header-back = rw (pseq-back, index-back, count-back, plen-back, rsk-back, rsz-back, address-back, fec-back)
@@ -181,6 +182,7 @@ module _ (h : Header) (w : Written h) (rest : List ℕ) where
 
 -- ---- so what a sender writes passes
 
+-- a sound header and Plen bytes of payload pass each of the checks where the address is accepted
 pub sound-passes : (own : Address) (h : Header) (payload : List ℕ) → Sound h → length payload ≡ h .plen → badAddress own (h .address) ≡ false
     → Passing own (headerBytes h ++ payload)
 sound-passes own h payload p long owned =

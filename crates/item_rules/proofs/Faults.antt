@@ -10,11 +10,13 @@ use Rattle.base_rules.proofs.Firsts.{due, skip, none-due}
 use Rattle.item_rules.specs.declared.Item.{Item}
 use Rattle.item_rules.specs.Run.{dmy, badPtr, faultOf}
 
+-- a "*dmy" has no fault, whether its name has stood before or not
 pub fault-dmy : (before : Bool) (i : Item) → i .name ≡ dmy → _≡_ {A = ℕ} 0 (faultOf before i)
 unfolding faultOf first badPtr
 fault-dmy before i q = rw q
 
 module _ (before : Bool) (i : Item) where
+  -- any other name that has stood before is refused as 31 TWICE
   pub fault-again : (i .name ≡ dmy → ⊥) → before ≡ true → _≡_ {A = ℕ} 31 (faultOf before i)
   unfolding faultOf
   fault-again h q = due _ _ (simp (ne-eqb _ _ h, q))
@@ -22,10 +24,12 @@ module _ (before : Bool) (i : Item) where
   fresh : before ≡ false → not (eqb (i .name) dmy) && before ≡ false
   fresh q = simp (q, and-false)
 
+  -- a first "*ptr" that has not 64 bits is refused as 33 PTR
   pub fault-ptr : before ≡ false → badPtr (i .name) (i .bits .0) ≡ true → _≡_ {A = ℕ} 33 (faultOf before i)
   unfolding faultOf
   fault-ptr q p = skip _ _ (fresh q) (due _ _ p)
 
+  -- an item whose name has not stood before, and that is no "*ptr" of other than 64 bits, has no fault
   pub fault-none : before ≡ false → badPtr (i .name) (i .bits .0) ≡ false → _≡_ {A = ℕ} 0 (faultOf before i)
   unfolding faultOf
   fault-none q p = skip _ _ (fresh q) (skip _ _ p none-due)

@@ -37,6 +37,7 @@ module _ (s : List ℕ) (name end : ℕ) (i : Item) where
   stands-in zero at q = absurd (zero-one (cc))
   stands-in (suc f) at q = step-by f at (stands-in f) (stepIn s at end) refl q
 
+  -- the item that the search for a name finds is an item of that packet
   pub found-stands : (at : ℕ) → firstOf name (runOf s at end) ≡ found.At i → Stands s end i
   unfolding runOf
   found-stands at q = stands-in (end - at) at q

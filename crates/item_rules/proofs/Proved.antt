@@ -17,6 +17,7 @@ one-item : (i j : Item) → valuesOf i ≡ valuesOf j → i ≡ j
 one-item i j e =
     same (i .name) (j .name) (i .bits .0) (j .bits .0) (i .from) (j .from) (i .len .0) (j .len .0) (cc) (cc) (cc) (cc)
 
+-- no two answers of a step have the same number and values
 pub one-step : OneStep
 unfolding numberOf
 one-step (step.Item i) (step.Item j) e = ap step.Item (one-item i j (cc))

@@ -19,6 +19,7 @@ pub item-begins : (s : List ℕ) (at end : ℕ) (i : Item) → stepIn s at end �
 unfolding itemAt
 item-begins s at end i e = ap (λ (j : Item). j .from) (item-at s at end i e)
 
+-- fewer bytes are left behind an item than where it begins
 pub falls : (s : List ℕ) (at end : ℕ) (i : Item) → stepIn s at end ≡ step.Item i → end - nextOf i < end - at
 falls s at end i e = let h = item-fits s at end i e in let b = item-begins s at end i e in omega arith
 
@@ -42,35 +43,42 @@ opens : (s : List ℕ) (at end : ℕ) → runOf s at end ≡ runIn (suc (end - a
 unfolding runOf
 opens s at end = enough (end - at) (suc (end - at)) s at end (le-refl _) (omega arith)
 
+-- where an item stands, the run is that item and the run behind it
 pub run-item : (s : List ℕ) (at end : ℕ) (i : Item) → stepIn s at end ≡ step.Item i → runOf s at end ≡ item i (runOf s (nextOf i) end)
 unfolding runIn runOf
 run-item s at end i e =
     opens s at end
     ∙ simp e (let l = falls s at end i e in ap (item i) (enough (end - at) (end - nextOf i) s (nextOf i) end (omega arith) (le-refl _)))
 
+-- where padding stands, the run is that padding
 pub run-end : (s : List ℕ) (at end : ℕ) (p : Bytes) → stepIn s at end ≡ step.End p → runOf s at end ≡ padding (p .0)
 unfolding runIn
 run-end s at end p e = opens s at end ∙ simp e
 
+-- where an item is refused, the run is that refusal
 pub run-refused : (s : List ℕ) (at end n : ℕ) → stepIn s at end ≡ step.Refused n → runOf s at end ≡ refused n
 unfolding runIn
 run-refused s at end n e = opens s at end ∙ simp e
 
 -- the search for a name, by what stands at the start
 module _ (s : List ℕ) (name at end : ℕ) where
+  -- an item of the name looked for is what the search finds
   pub first-here : (i : Item) → stepIn s at end ≡ step.Item i → i .name ≡ name → firstOf name (runOf s at end) ≡ found.At i
   unfolding firstOf
   first-here i e q = rw (run-item s at end i e) (simp (eq-eqb _ _ q))
 
+  -- past an item of another name the search goes on behind it
   pub first-next : (i : Item) → stepIn s at end ≡ step.Item i → (i .name ≡ name → ⊥)
       → firstOf name (runOf s at end) ≡ firstOf name (runOf s (nextOf i) end)
   unfolding firstOf
   first-next i e q = rw (run-item s at end i e) (simp (ne-eqb _ _ q))
 
+  -- where padding stands, the search finds nothing
   pub first-end : (p : Bytes) → stepIn s at end ≡ step.End p → firstOf name (runOf s at end) ≡ found.Nothing
   unfolding firstOf
   first-end p e = rw (run-end s at end p e) refl
 
+  -- where an item is refused, the search finds nothing
   pub first-refused : (n : ℕ) → stepIn s at end ≡ step.Refused n → firstOf name (runOf s at end) ≡ found.Nothing
   unfolding firstOf
   first-refused n e = rw (run-refused s at end n e) refl

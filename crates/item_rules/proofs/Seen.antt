@@ -37,6 +37,7 @@ ByItem F G = (seen : List ℕ) (i : Item) (r : Run) → F seen (item i r) ≡ or
 abbrev pub again : List ℕ → ℕ → ℕ → List Bool → ℕ → Item → Bool
 again s from end marks h i = getD marks h false && isBefore (firstOf (i .name) (runOf s from end)) (i .from)
 
+-- with a mark for each slot, set or not, no name has stood before the first item
 pub seen-none : (F : List ℕ → Run → ℕ) (s : List ℕ) (from end : ℕ) (marks : List Bool) → length marks ≡ slots → Seen F s from end marks from
 unfolding among
 seen-none F s from end marks h =

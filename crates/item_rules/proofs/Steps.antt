@@ -19,11 +19,13 @@ pub is-item : (s : List ℕ) (at end name bits len : ℕ) → 8 ≤ end - at →
 unfolding stepIn itemAt
 is-item s at end name bits len h n b l f = rw (n, l, b) (simp (le-ltb _ _ h, le-leb _ _ (rw (l, b) at f)))
 
+-- where 8 bytes or more are left, but fewer than the item takes, it is refused as 30 OVERRUN
 pub is-overrun : (s : List ℕ) (at end bits len : ℕ) → 8 ≤ end - at → bits ≡ numberAt 4 s (at + 4) → len ≡ bytesFor bits → end - at < 8 + len
     → step.Refused 30 ≡ stepIn s at end
 unfolding stepIn
 is-overrun s at end bits len h b l f = simp (le-ltb _ _ h, lt-leb _ _ (rw (l, b) at f))
 
+-- 0 is not 1, by which the kinds of an answer are told apart
 pub zero-one : _≡_ {A = ℕ} 0 1 → ⊥
 zero-one z = omega arith
 
@@ -33,12 +35,14 @@ item-by true b′ j i p e = let z : _≡_ {A = ℕ} 0 1 = cc in absurd (zero-one
 item-by false true j i p e = (refl, cc)
 item-by false false j i p e = let z : _≡_ {A = ℕ} 0 1 = cc in absurd (zero-one z)
 
+-- an item's head and value end within its packet
 pub item-fits : (s : List ℕ) (at end : ℕ) (i : Item) → stepIn s at end ≡ step.Item i → 8 + i .len .0 ≤ end - at
 unfolding stepIn itemAt
 item-fits s at end i e =
     let h = item-by (ltb (end - at) 8) (leb (8 + bytesFor (numberAt 4 s (at + 4))) (end - at)) (itemAt s at) i (record { 0 = end - at }) e in
     rw (h .1) (leb-true _ _ (h .0))
 
+-- an item that stands at a position is the one that the bytes there spell
 pub item-at : (s : List ℕ) (at end : ℕ) (i : Item) → stepIn s at end ≡ step.Item i → i ≡ itemAt s at
 unfolding stepIn
 item-at s at end i e = item-by (ltb (end - at) 8) (leb (8 + bytesFor (numberAt 4 s (at + 4))) (end - at)) (itemAt s at) i
@@ -50,6 +54,7 @@ few-by true b′ j p q e = (refl, cc)
 few-by false true j p q e = absurd (zero-one (cc))
 few-by false false j p q e = absurd (zero-one (cc))
 
+-- padding has 7 bytes or fewer, less than an item's head
 pub end-few : (s : List ℕ) (at end : ℕ) (p : Bytes) → stepIn s at end ≡ step.End p → p .0 < head
 unfolding stepIn
 end-few s at end p e =

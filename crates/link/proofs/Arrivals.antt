@@ -60,6 +60,7 @@ module _ (own : Address) (out : List ℕ) where
         ((ap (λ (i : Input). i .own) head, ap (λ (i : Input). i .lent) head), more .1),
       )
 
+-- possible arrivals can be played, with any lent bytes, any buffer with room and any address configured
 pub playable : (opening arrivals : List Arrival) → all-possible (reverse opening) ≡ true → all-possible (reverse arrivals) ≡ true
     → Playable opening arrivals
 playable opening arrivals p q lent out own all room =
@@ -84,6 +85,7 @@ playable opening arrivals p q lent out own all room =
 
 -- ---- what came
 
+-- fragment i of the packet is among these arrivals
 unfoldable pub came : List Arrival → ℕ → Bool
 came [] i = false
 came (Its j ∷ xs) i = eqb j i || came xs i
@@ -94,6 +96,7 @@ foreign : (n : ℕ) (e : Call) → Kind (Of n) e → Foreign number e
 unfolding Kind
 foreign n e k = λ passes is. k .2 (sym (k .1) ∙ is)
 
+-- the fragments that came in the calls are those among the arrivals that they bring
 pub come-is : (xs : List Arrival) (es : List Call) → Kinds xs es → come number es ≡ came xs
 unfolding Kinds Kind came
 come-is [] [] k = come-none number
@@ -114,6 +117,7 @@ own (Its i) e k = λ h is. (i, k .0, k .1)
 own (Of n) e k = λ h is. absurd (k .2 (sym (k .1) ∙ is))
 own (Broken d) e k = λ h is. absurd (k (eqb-true _ _ h))
 
+-- the arrival has one of these numbers, if it is of another packet
 unfoldable pub among-these : List ℕ → Arrival → Bool
 among-these others (Its i) = true
 among-these others (Of n) = among n others
@@ -125,6 +129,7 @@ is-among others (Its i) e k t = λ h strange. absurd (strange (brings-number hou
 is-among others (Of n) e k t = λ h strange. ap (λ (m : ℕ). among m others) (k .1) ∙ t
 is-among others (Broken d) e k t = λ h strange. absurd (k (eqb-true _ _ h))
 
+-- whatever these calls bring under the packet's number is one of its own fragments
 pub all-own : (xs : List Arrival) (es : List Call) → Kinds xs es → All (Own houseOf number packet) es
 unfolding Kinds All
 all-own [] [] k = tt
@@ -132,10 +137,12 @@ all-own [] (e ∷ es) k = absurd k
 all-own (a ∷ xs) [] k = absurd k
 all-own (a ∷ xs) (e ∷ es) k = (own a e (k .0), all-own xs es (k .1))
 
+-- each of the arrivals that is of another packet has one of these numbers
 unfoldable pub all-these : List ℕ → List Arrival → Bool
 all-these others [] = true
 all-these others (a ∷ xs) = among-these others a && all-these others xs
 
+-- then the calls bring no other numbers than these beside the packet's
 pub all-among : (others : List ℕ) (xs : List Arrival) (es : List Call) → Kinds xs es → all-these others xs ≡ true → All (Among number others) es
 unfolding Kinds All all-these
 all-among others [] [] k t = tt
@@ -156,11 +163,13 @@ its-first (Its i) e k t = let b = its-brings i e k in (eq-eqb _ _ (b .passes), b
 its-first (Of n) e k t = clash t refl
 its-first (Broken d) e k t = clash t refl
 
+-- of arrivals, the last one first: there are none, or the oldest is a fragment of the packet
 unfoldable pub begins-its : List Arrival → Bool
 begins-its [] = true
 begins-its (a ∷ []) = is-its a
 begins-its (a ∷ (b ∷ xs)) = begins-its (b ∷ xs)
 
+-- then the first of the calls is heard, with the packet's number
 pub begins : (xs : List Arrival) (es : List Call) → Kinds xs es → begins-its xs ≡ true → Begins number es
 unfolding Kinds Begins begins-its
 begins [] [] k t = tt
@@ -173,6 +182,7 @@ begins (a ∷ (b ∷ xs)) (e ∷ (d ∷ es)) k t = begins (b ∷ xs) (d ∷ es) 
 
 -- ---- each brings the next of some numbers
 
+-- the arrival is a fragment sent under the number n
 unfoldable pub is-number : ℕ → Arrival → Bool
 is-number n (Its i) = eqb number n
 is-number n (Of m) = eqb m n
@@ -184,10 +194,12 @@ next-one n (Its i) e k t = let b = its-brings i e k in (b .passes, brings-number
 next-one n (Of m) e k t = (k .0, k .1 ∙ eqb-true m n t)
 next-one n (Broken d) e k t = clash t refl
 
+-- the arrivals have, from the oldest on, the numbers of the openings from m on
 unfoldable pub in-turn : (ℕ → ℕ) → ℕ → List Arrival → Bool
 in-turn who m [] = true
 in-turn who m (a ∷ xs) = is-number (who (m + length xs)) a && in-turn who m xs
 
+-- there are as many calls as arrivals
 pub kinds-long : (xs : List Arrival) (es : List Call) → Kinds xs es → length es ≡ length xs
 unfolding Kinds
 kinds-long [] [] k = refl
@@ -195,6 +207,7 @@ kinds-long [] (e ∷ es) k = absurd k
 kinds-long (a ∷ xs) [] k = absurd k
 kinds-long (a ∷ xs) (e ∷ es) k = ap suc (kinds-long xs es (k .1))
 
+-- calls that bring arrivals in turn bring the next number each
 pub all-next : (who : ℕ → ℕ) (m : ℕ) (xs : List Arrival) (es : List Call) → Kinds xs es → in-turn who m xs ≡ true → All-next who m es
 unfolding Kinds All-next Brings-next in-turn
 all-next who m [] [] k t = tt

@@ -18,9 +18,11 @@ use Rattle.places_rules.proofs.Records.{first-0, first-1, first-2, first-3, fir
 
 -- ---- cases
 
+-- two numbers are the same or they are not
 pub same-or-not {ℓ} : {P : Type ℓ} (a b : ℕ) → (a ≡ b → P) → ((a ≡ b → ⊥) → P) → P
 same-or-not a b p q = either (eqb a b) (λ e. p (eqb-true a b e)) (λ e. q (eqb-false a b e))
 
+-- a number is below another or at least as great
 pub less-or-not {ℓ} : {P : Type ℓ} (a b : ℕ) → (a < b → P) → (b ≤ a → P) → P
 less-or-not a b p q = either (ltb a b) (λ e. p (ltb-true a b e)) (λ e. q (ltb-false a b e))
 
@@ -41,10 +43,12 @@ in-front (x ∷ l) (suc a) n zero h = absurd (omega arith)
 in-front (x ∷ l) (suc a) n (suc at) h = in-front l a n at (omega arith)
 
 module _ (d : List ℕ) (at : ℕ) (s : List ℕ) (fits : at + length s ≤ length d) (a n : ℕ) where
+  -- bytes that end before what was spliced in are as they were
   pub spared-before : a + n ≤ at → take n (drop a (splice d at s)) ≡ take n (drop a d)
   spared-before h =
       sym (in-front (splice d at s) a n at h) ∙ ap (λ (l : List ℕ). take n (drop a l)) (splice-front d at s fits) ∙ in-front d a n at h
 
+  -- so are bytes that begin behind it
   pub spared-behind : at + length s ≤ a → take n (drop a (splice d at s)) ≡ take n (drop a d)
   spared-behind h =
       let r : ℕ = a - (at + length s) in
@@ -74,10 +78,12 @@ module _ (test : ℕ → Bool) where
 -- ---- the place that holds a number
 
 module _ (t : Table) (n : ℕ) where
+  -- the place that is found for a number holds it
   pub held-found : heldAt t n < four → holds (placeAt t (heldAt t n)) n ≡ true
   unfolding heldAt
   held-found = first-found (λ i. holds (placeAt t i) n)
 
+  -- where no place is found for a number, none of the four holds it
   pub held-absent : four ≤ heldAt t n → (i : ℕ) → i < four → holds (placeAt t i) n ≡ false
   unfolding heldAt
   held-absent = first-absent (λ i. holds (placeAt t i) n)
@@ -86,6 +92,7 @@ module _ (t : Table) (n : ℕ) where
   pub held-some : (i : ℕ) → i < four → holds (placeAt t i) n ≡ true → heldAt t n < four
   held-some i l e = less-or-not (heldAt t n) four (λ h. h) (λ h. clash e (held-absent h i l))
 
+  -- where none of the four holds a number, no place is found for it
   pub held-none : ((i : ℕ) → i < four → holds (placeAt t i) n ≡ false) → four ≤ heldAt t n
   held-none none = less-or-not (heldAt t n) four (λ h. clash (held-found h) (none (heldAt t n) h)) (λ h. h)
 
@@ -97,24 +104,29 @@ module _ (t : Table) (n : ℕ) where
       same-or-not (heldAt t n) i (λ q. q) (λ q. clash (held-found h) (alone (heldAt t n) h q))
 
 module _ (p : Place) (n : ℕ) where
+  -- a place that is not free holds the number in its record
   pub holds-yes : (p .condition ≡ free → ⊥) → p .number ≡ n → holds p n ≡ true
   unfolding holds keyIn
   holds-yes some e = simp (ne-eqb (p .condition) free some, eq-eqb (p .number) n e)
 
+  -- the number that a place holds is the one in its record
   pub holds-number : holds p n ≡ true → p .number ≡ n
   unfolding holds keyIn
   holds-number e = eqb-true _ _ (and-right (not (eqb (p .condition) free)) _ e)
 
+  -- a place that holds a number is not free
   pub holds-some : holds p n ≡ true → p .condition ≡ free → ⊥
   unfolding holds
   holds-some e = eqb-false _ _ (not-true (eqb (p .condition) free) (and-left (not (eqb (p .condition) free)) _ e))
 
+  -- a place holds no number but the one in its record
   pub holds-other : (p .number ≡ n → ⊥) → holds p n ≡ false
   unfolding holds keyIn
   holds-other e = rw (ne-eqb (p .number) n e) (and-false (not (eqb (p .condition) free)))
 
 -- ---- a place that was not written
 
+-- to write one place leaves each other place as it was
 pub other-place : (t : Table) (j : ℕ) (p : Place) (i : ℕ) → (i ≡ j → ⊥) → placeAt (withPlace t j p) i ≡ placeAt t i
 unfolding placeAt withPlace
 other-place t j p i n = getD-set-other (t .places) j i p freePlace n

@@ -54,6 +54,7 @@ packet-wrapped = wrapped 7 403 85 (lit< tt) (lit< tt) (lit≤ tt)
 other-wrapped : Back 8 true (replicate 1375 170)
 other-wrapped = wrapped 8 1375 170 (lit< tt) (lit< tt) (lit≤ tt)
 
+-- the packet of the examples has 415 bytes
 pub packet-size : length packet ≡ 415
 unfolding packet
 packet-size = wrapped-size 7 403 85 packet-wrapped
@@ -62,10 +63,12 @@ other-size : length other ≡ 1387
 unfolding other
 other-size = wrapped-size 8 1375 170 other-wrapped
 
+-- at the house settings it has 12 fragments
 pub packet-count : count houseOf packet ≡ 12
 unfolding ceil cut.c cut.k cut.n cut.addressBytes cut.h cut.divisor cut.S cut.L cut.f
 packet-count = ap (cut.f houseOf) packet-size
 
+-- the other packet, without FEC at an MTU of 1,400, has two
 pub other-count : count plain other ≡ 2
 unfolding ceil cut.c cut.k cut.n cut.addressBytes cut.h cut.divisor cut.S cut.L cut.f
 other-count = ap (cut.f plain) other-size
@@ -79,6 +82,7 @@ plain-fits : fit plain ≡ true
 unfolding fit cut.h cut.addressBytes
 plain-fits = refl
 
+-- the sender takes the packet at the house settings, under any number
 pub packet-takes : (n : ℕ) → n < 65536 → Takes houseOf n packet
 unfolding packet Fitting
 packet-takes n h =
@@ -89,6 +93,7 @@ packet-takes n h =
       address = tt;
     }
 
+-- and the other one without FEC, under any number
 pub other-takes : (n : ℕ) → n < 65536 → Takes plain n other
 unfolding other Fitting
 other-takes n h =
@@ -101,6 +106,7 @@ other-takes n h =
 
 -- ---- what a call brings
 
+-- each number in a datagram is a byte
 unfoldable pub small : List ℕ → Bool
 small [] = true
 small (x ∷ d) = ltb x 256 && small d
@@ -111,11 +117,13 @@ possible (Its i) = ltb i 12
 possible (Of n) = ltb n 65536 && not (eqb n number)
 possible (Broken d) = ltb (length d) 14 && small d
 
+-- a call by its arrival: it has fragment i; it is heard, with the other number n; or it is not heard
 unfoldable pub Kind : Arrival → Call → Type 0
 Kind (Its i) e = (i < count houseOf packet) × (e .datagram ≡ fragmentFor houseOf number packet i)
 Kind (Of n) e = (faultOf (e .own) (e .datagram) ≡ 0) × (numberIn e ≡ n) × (n ≡ number → ⊥)
 Kind (Broken d) e = faultOf (e .own) (e .datagram) ≡ 0 → ⊥
 
+-- a call with fragment i of the packet is heard, whatever address is configured, and brings it
 pub its-brings : (i : ℕ) (e : Call) → Kind (Its i) e → Brings houseOf number packet e i
 unfolding Kind badAddress
 its-brings i e k = brings houseOf number packet (packet-takes number (lit< tt)) e i (k .0) (k .1) refl
@@ -136,12 +144,14 @@ kind (Broken d) e p is =
     let told : 2 ≡ faultOf (e .own) (e .datagram) = due 2 _ short in
     omega arith
 
+-- the calls are of these kinds one by one, and as many
 unfoldable pub Kinds : List Arrival → List Call → Type 0
 Kinds [] [] = Unit {0}
 Kinds [] (e ∷ es) = ⊥
 Kinds (a ∷ xs) [] = ⊥
 Kinds (a ∷ xs) (e ∷ es) = Kind a e × Kinds xs es
 
+-- each of the arrivals is possible
 unfoldable pub all-possible : List Arrival → Bool
 all-possible [] = true
 all-possible (a ∷ xs) = possible a && all-possible xs

@@ -279,6 +279,7 @@ module _ (g : Settings) (n : ℕ) (packet : List ℕ) (takes : Takes g n packet)
     done-step (keeps passes low fault z) = absurd (omega (arith, fault, done-fault))
     done-step (opens passes high z) = absurd (omega (arith, high, done-at-is, o .low))
 
+  -- at whatever stage the packet is, fragment i is answered as promised and leads to the next stage
   pub own-step : Stage g n packet es s → Next g n packet es e i
   own-step (not-yet absent none) = absent-step absent none (see r made)
   own-step (open-at at o before) = open-step at o before (see r made)

@@ -40,10 +40,12 @@ module _ (a b : ℕ → Bool) (f : ℕ) (some : 0 < f) (same : (i : ℕ) → i <
   suffice-same n zero = refl
   suffice-same n (suc c) = ap₂ (λ (x : Bool) (y : ℕ). x && leb y parity) (suffice-same n c) (missing-same n c)
 
+  -- where the same ones of f fragments are lost, as many are lost
   pub losses-same : losses a f ≡ losses b f
   unfolding losses
   losses-same = count-same a b 0 f (λ i h. same (0 + i) (omega arith))
 
+  -- and the others suffice in both cases or in neither
   pub enough-same : (fec : Bool) (s k : ℕ) → enough fec f s k a ≡ enough fec f s k b
   unfolding enough
   enough-same true s k = suffice-same (k + parity) (cut.receivedC f s k)
@@ -95,9 +97,11 @@ module _ (a b : ℕ → Bool) (f : ℕ) (less : (i : ℕ) → a i ≡ true → b
 abbrev pub sizeOf : Settings → List ℕ → ℕ
 sizeOf g packet = cut.s g (length packet)
 
+-- the RSk of its headers: k with FEC, else 0
 abbrev pub rskOf : Settings → List ℕ → ℕ
 rskOf g packet = withFec g (cut.k (length packet))
 
+-- the RSz of its headers: z with FEC, else 0
 abbrev pub rszOf : Settings → List ℕ → ℕ
 rszOf g packet = withFec g (cut.z (length packet))
 

@@ -185,6 +185,7 @@ module _ (r : Played opening three-others) where
         written = answer .1;
       }
 
+-- three other numbers: there are such runs, and in each of them the last call hands the packet out
 pub handed-out-last : ThreeOthers
 handed-out-last =
     record {
@@ -226,6 +227,7 @@ module _ (r : Played opening four-others) where
         named = promised r until-fourth (k .1) run .displaced e made (all-own (reverse four-others) (e ∷ es) k .0) some gone .named before;
       }
 
+-- four other numbers: there are such runs, and in each of them the last call displaces it and names it
 pub displaced-last : FourOthers
 displaced-last =
     record {

@@ -22,6 +22,7 @@ use Rattle.link.proofs.Basic.{same-or-not, less-or-not}
 
 -- ---- a fragment that a place keeps has the place's figures
 
+-- the place has the header's count and FEC bit, and its Plen as size, or as last where it is the last
 pub record Fits (p : Place) (h : Header) : Type 0 where
   pub sound : Sound h
   pub count : p .count ≡ h .count
@@ -37,6 +38,7 @@ beq-equal false false e = refl
 
 -- what a place that does not refuse a fragment tells of it
 module _ (p : Place) (h : Header) (passes : placeFault p h ≡ 0) where
+  -- its index is not kept yet
   pub is-new : getD (p .kept) (h .index) false ≡ false
   unfolding placeFault
   is-new =
@@ -44,6 +46,7 @@ module _ (p : Place) (h : Header) (passes : placeFault p h ≡ 0) where
       (clear-rest (eqb (p .condition) delivered) 11 _ (λ z. omega arith)
       (clear-rest (eqb (p .condition) spoiled) 10 _ (λ z. omega arith) (clear-rest (mismatch p h) 9 _ (λ z. omega arith) passes)))
 
+  -- its FEC bit is the place's
   pub same-fec : p .fec ≡ h .fec
   unfolding mismatch
   same-fec = beq-equal _ _ (not-false _ (or-left (not (Bool·beq (p .fec) (h .fec))) _
@@ -133,6 +136,7 @@ module _ (q : Place) (r : InRange q) where
       below : k .index + 1 ≡ q .count → h .index < k .index
       below one = omega (arith, f .sound .below, f .count)
 
+  -- of two fragments with different indices in a place in range, one ends before the other begins
   pub apart : {P : Type 0} (h k : Header) → Fits q h → Fits q k → (h .index ≡ k .index → ⊥)
       → (offsetOf h + h .plen ≤ offsetOf k → P) → (offsetOf k + k .plen ≤ offsetOf h → P) → P
   apart h k f g other a b =

@@ -61,6 +61,7 @@ module _ (u : Table) (j : ℕ) (p : Place) (below : j < four) (size : length (u 
   unfolding inCondition
   as-before = refl
 
+  -- however it settles, the table is the one that keeping left, but for the condition of place j
   pub settled-place : {d : Displaced} {b o : List ℕ} {y : Outcome} → (p .condition ≡ free → ⊥) → p .condition ≤ spoiled
       → Settled (withPlace u j p) j d b o y → Closed u j p y
   unfolding outcome
@@ -69,6 +70,7 @@ module _ (u : Table) (j : ℕ) (p : Place) (below : j < four) (size : length (u 
       { condition = delivered; some = λ z. omega arith; known = omega arith; table = closed-again delivered }
   settled-place some known (damaged e a) = record { condition = spoiled; some = λ z. omega arith; known = omega arith; table = closed-again spoiled }
 
+-- however it settles, the lent bytes are those that keeping left
 pub settled-bytes : {t : Table} {j : ℕ} {d : Displaced} {b o : List ℕ} {y : Outcome} → Settled t j d b o y → y .bytes ≡ b
 unfolding outcome
 settled-bytes (waits e) = refl
@@ -88,6 +90,7 @@ fine-table t below fine = sym (bad-3 t below (fine 0 (omega arith)) (fine 1 (ome
 
 -- ---- a call that kept a fragment in place j of the table u
 
+-- place j has the fragment's number; the other places and their bytes are as before; the state is good
 pub record Wrote (s : State) (u : Table) (h : Header) (j : ℕ) (y : Outcome) : Type 0 where
   pub below : j < four
   -- what stands in the place after it, held by the fragment's number
@@ -115,6 +118,7 @@ module _ (own : Address) (s : State) (r : Good s) (d o : List ℕ) (bytes : Byte
   sound : Sound h
   sound = passed-sound own d bytes heard
 
+  -- the payload of a datagram that is heard has Plen bytes
   pub payload-long : length (payloadOf d) ≡ h .plen
   unfolding payloadOf
   payload-long = length-drop (lengthOf d) d ∙ omega (arith, payload-stands own d heard)
@@ -215,6 +219,7 @@ turned-same s r =
     choice false p q = q
 
 module _ (own : Address) (s : State) (r : Good s) (d o : List ℕ) (bytes : Bytes d) (heard : faultOf own d ≡ 0) (y : Outcome) where
+  -- a fragment that is not refused by the place that holds its number is kept there
   pub wrote-held : (j : ℕ) → j ≡ heldAt (s .table) (keyOf (fieldsOf d)) → j < four → placeFault (placeAt (s .table) j) (fieldsOf d) ≡ 0
       → SettledAfter (keepAt (s .table) j (placeAt (s .table) j) None (fieldsOf d) (s .bytes) (payloadOf d)) o y → Wrote s (s .table) (fieldsOf d) j y
   unfolding keepAt keyOf
@@ -225,6 +230,7 @@ module _ (own : Address) (s : State) (r : Good s) (d o : List ℕ) (bytes : Byte
       wrote own s r d o bytes heard (s .table) (held-same s r) j low (placeAt (s .table) j) (holds-some _ _ held) (holds-number _ _ held)
       (kept-in-range _ _ (place-fine (s .table) (r .ranged) j low) (passed-sound own d bytes heard) f) None y z
 
+  -- a fragment that opens a place is kept there
   pub wrote-opened : (l : Displaced)
       → SettledAfter (keepAt (turned (s .table) (openAt (s .table))) (openAt (s .table)) (openedBy (fieldsOf d)) l (fieldsOf d) (s .bytes)
       (payloadOf d)) o y
@@ -236,11 +242,13 @@ module _ (own : Address) (s : State) (r : Good s) (d o : List ℕ) (bytes : Byte
 
 -- ---- a place that a call leaves alone
 
+-- the record of place i and its 12,288 bytes are as they were before the call
 pub record Spared (s : State) (i : ℕ) (y : Outcome) : Type 0 where
   pub kept-place : placeAt (y .table) i ≡ placeAt (s .table) i
   pub kept-bytes : (a n : ℕ) → i * place ≤ a → a + n ≤ i * place + place → take n (drop a (y .bytes)) ≡ take n (drop a (s .bytes))
 
 module _ {s : State} {u : Table} {h : Header} {j : ℕ} {y : Outcome} (w : Wrote s u h j y) where
+  -- a call that keeps a fragment in one place leaves each other place alone
   pub wrote-spares : (i : ℕ) → (i ≡ j → ⊥) → Spared s i y
   wrote-spares i n =
       record {
@@ -275,13 +283,16 @@ see r m = view _ _ _ _ _ r (m .room) (m .meets)
 pub good-after : {s : State} {e : Call} → Good s → Made s e → Good (after e)
 good-after {s} {e} r m = good-view s r e (m .bytes) (see r m)
 
+-- calls from a good state on leave a good state
 pub good-run : {s u : State} {es : List Call} → Good s → Run s es u → Good u
 good-run r start = r
 good-run r (next e run m) = good-after (good-run r run) m
 
+-- a fresh table with all of the 49,152 bytes lent is good
 pub good-fresh : (b : List ℕ) → length b ≡ all-places → Good (freshWith b)
 unfolding freshTable
 good-fresh b e = record { places = length-replicate four freePlace; ranged = fresh-in-range; whole = e }
 
+-- every state that calls have left is good
 pub good-reached : {s : State} → Reached s → Good s
 good-reached c = good-run (good-fresh (c .lent) (c .all)) (c .run)

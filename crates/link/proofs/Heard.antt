@@ -93,6 +93,7 @@ module _ (g : Settings) (n : ℕ) (packet : List ℕ) (takes : Takes g n packet)
       (λ other. q (λ z. other)))
       (λ fault. q (λ z. absurd (fault z)))
 
+-- a call that brings a fragment of the packet has its number
 pub brings-number : (g : Settings) (n : ℕ) (packet : List ℕ) (e : Call) (i : ℕ) → Brings g n packet e i → numberIn e ≡ n
 unfolding headerFor
 brings-number g n packet e i b = ap (λ (h : Header). h .number) (b .fields)
@@ -103,6 +104,7 @@ brings-index g n packet e i b = ap (λ (h : Header). h .index) (b .fields)
 
 -- ---- what came, with one call more
 
+-- before the first call no fragment came
 pub come-none : (n : ℕ) → come n [] ≡ (λ i. false)
 unfolding come
 come-none n = fun-ext (λ i. refl)
@@ -113,11 +115,13 @@ foreign-test fault number n rest more other =
     (λ e. simp (e, ne-eqb number n (other (eqb-true fault 0 e))))
     (λ e. simp e)
 
+-- a foreign call adds nothing to what came
 pub come-foreign : (n : ℕ) (e : Call) (es : List Call) → Foreign n e → come n (e ∷ es) ≡ come n es
 unfolding come
 come-foreign n e es other = fun-ext (λ i. foreign-test (faultOf (e .own) (e .datagram)) (numberIn e) n (eqb (fieldsOf (e .datagram) .index) i)
     (come n es i) other)
 
+-- a call that brings fragment i adds this one to what came, and no other
 pub come-own : (g : Settings) (n : ℕ) (packet : List ℕ) (e : Call) (es : List Call) (i : ℕ) → Brings g n packet e i
     → come n (e ∷ es) ≡ (λ j. eqb i j || come n es j)
 unfolding come
@@ -126,6 +130,7 @@ come-own g n packet e es i b =
     simp (eq-eqb _ _ (b .passes), eq-eqb _ _ (brings-number g n packet e i b))
     (ap (λ (x : ℕ). eqb x j || come n es j) (brings-index g n packet e i b)))
 
+-- after it fragment i has come
 pub come-it : (g : Settings) (n : ℕ) (packet : List ℕ) (e : Call) (es : List Call) (i : ℕ) → Brings g n packet e i → come n (e ∷ es) i ≡ true
 come-it g n packet e es i b =
     ap (λ (came : ℕ → Bool). came i) (come-own g n packet e es i b) ∙ ap (λ (v : Bool). v || come n es i) (eq-eqb i i refl)

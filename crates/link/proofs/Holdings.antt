@@ -185,6 +185,7 @@ at-run r all (next e run m) = let g = good-run r run in at-view g m (at-run r al
 at-reached : {s : State} (c : Reached s) (i : ℕ) → i < four → At (c .calls) s i
 at-reached c = at-run (good-fresh (c .lent) (c .all)) (λ i l n j a b. clash a (none-held i n l)) (c .run)
 
+-- each fragment that a place keeps came since the place was opened for its number, and its payload is held
 pub held-came : HeldCame
 held-came s c i n j l a b =
     let one = at-reached c i l n j a b in
@@ -230,5 +231,6 @@ stays-view {es} {s} {e} r m all (opens passes high settled) i l =
     (λ other.
     spared-stays e i (wrote-spares (wrote-opened (e .own) s r (e .datagram) (e .lent) (m .bytes) passes (e .left) _ settled) i other) (all i l))
 
+-- a kept fragment stays, with its bytes, until its place is opened for another number
 pub stays-kept : StaysKept
 stays-kept s c e m i n j l = let r = good-reached c in stays-view r m (at-reached c) (see r m) i l n j

@@ -70,10 +70,12 @@ stands g n packet came i p b full j below here =
 module _ (g : Settings) (packet : List ℕ) (passed : packetFault g packet ≡ 0) where
   -- ---- where the fragments stand
 
+  -- without FEC the last fragment stands at the end of the place
   pub offset-last : (i : ℕ) → lastIs g packet i ≡ true → offset g packet i ≡ place - length (payloadFor g packet i)
   unfolding offset
   offset-last i e = rw e
 
+  -- any other fragment i stands from i s on
   pub offset-not : (i : ℕ) → lastIs g packet i ≡ false → offset g packet i ≡ i * sizeOf g packet
   unfolding offset
   offset-not i e = rw e
@@ -84,9 +86,7 @@ module _ (g : Settings) (packet : List ℕ) (passed : packetFault g packet ≡ 0
   -- one that is not the last has the size of all
   pub full-size : (i : ℕ) → lastIs g packet i ≡ false → length (payloadFor g packet i) ≡ sizeOf g packet
   full-size i e =
-      either (g .fec)
-      (λ fec. size-fec g packet fec i)
-      (λ fec.
+      either (g .fec) (λ fec. size-fec g packet fec i) (λ fec.
       let less : i + 1 < count g packet = leb-false _ _ (sym (ap (λ (v : Bool). not v && leb (count g packet) (i + 1)) fec) ∙ e) in
       full-plain g packet passed fec i (omega arith))
 
@@ -96,8 +96,7 @@ module _ (g : Settings) (packet : List ℕ) (passed : packetFault g packet ≡ 0
   -- each stands in the place
   pub inside : (j : ℕ) → j < count g packet → offset g packet j + length (payloadFor g packet j) ≤ place
   inside j h =
-      either (lastIs g packet j)
-      (λ e. omega (arith, offset-last j e, size-most g packet passed j, s-placed g packet passed))
+      either (lastIs g packet j) (λ e. omega (arith, offset-last j e, size-most g packet passed j, s-placed g packet passed))
       (λ e. omega (arith, offset-not j e, full-size j e, rows j (count g packet) h, sure g packet passed .placed))
 
   before-last : (j k : ℕ) → j < count g packet → k < count g packet → (j ≡ k → ⊥) → lastIs g packet j ≡ false → lastIs g packet k ≡ true
@@ -124,8 +123,7 @@ module _ (g : Settings) (packet : List ℕ) (passed : packetFault g packet ≡ 0
       → (offset g packet j + length (payloadFor g packet j) ≤ offset g packet k → P)
       → (offset g packet k + length (payloadFor g packet k) ≤ offset g packet j → P) → P
   apart j k a b n p q =
-      either (lastIs g packet j)
-      (λ e.
+      either (lastIs g packet j) (λ e.
       either (lastIs g packet k)
       (λ f. absurd (n (omega (arith, last-one j a e, last-one k b f))))
       (λ f. q (before-last k j b a (λ z. n (sym z)) f e)))
@@ -161,6 +159,7 @@ module _ (g : Settings) (packet : List ℕ) (passed : packetFault g packet ≡ 0
     unfolding openedBy headerFor
     opened-mine = record { number = refl; count = refl; fec = refl; rsk = refl; rsz = refl; size = (false, refl); last = omega arith }
 
+    -- a place that its fragment opens has the figures of the packet, and no fragment yet
     pub opened-full : (at : ℕ) (b : List ℕ) → Full g n packet (λ j. false) at (openedBy h) b
     unfolding openedBy
     opened-full at b =
@@ -193,6 +192,7 @@ module _ (g : Settings) (packet : List ℕ) (passed : packetFault g packet ≡ 0
       unfolding keptIn isLast headerFor
       kept-last-not e = ap (λ (v : Bool). cond v (length (payloadFor g packet i)) (p .last)) e
 
+      -- with FEC the size is known in a place that kept its fragment
       pub kept-sized : SizeKnown g packet (keptIn p h)
       unfolding SizeKnown
       kept-sized e = kept-size (ap (λ (v : Bool). not v && leb (count g packet) (i + 1)) e)
@@ -283,6 +283,7 @@ module _ (g : Settings) (packet : List ℕ) (passed : packetFault g packet ≡ 0
         unfolding keptIn
         same-condition = refl
 
+        -- with fragment i kept, the place holds it beside those that it held, each with its own bytes
         pub kept-full : Full g n packet (λ j. eqb i j || came j) at (keptIn p h) (splice b (at * place + offsetOf h) (payloadFor g packet i))
         kept-full =
             record {

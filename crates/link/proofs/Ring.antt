@@ -27,9 +27,11 @@ use Rattle.link.proofs.Frame.{leftBy, Wrote, wrote-held, wrote-opened, 
 -- ---- opening goes round
 
 module _ (m : ℕ) {s : State} {h : Header} {y : Outcome} (ring : Opened m (s .table)) where
+  -- to keep a fragment in a place that is held is no further opening
   pub ring-kept : {j : ℕ} → Wrote s (s .table) h j y → (placeAt (s .table) j .condition ≡ free → ⊥) → Opened m (y .table)
   ring-kept w held = subst (Opened m) (sym (w .table)) (kept-is-opened m (s .table) _ (w .place-now) ring held (w .some))
 
+  -- to keep one in a place that it opens is one opening more
   pub ring-opened : Wrote s (turned (s .table) (openAt (s .table))) h (openAt (s .table)) y → Opened (m + 1) (y .table)
   ring-opened w = subst (Opened (m + 1)) (sym (w .table)) (next-is-opened m (s .table) (w .place-now) ring (w .some))
 
@@ -90,6 +92,7 @@ standing-run : {s u : State} {es : List Call} → Good s → Standing s → Run 
 standing-run r z start = z
 standing-run r z (next e run m) = let g = good-run r run in standing-view g m (standing-run r z run) (see g m)
 
+-- no place of a fresh table holds a number
 pub none-held : (i n : ℕ) → i < four → holds (placeAt freshTable i) n ≡ false
 unfolding freshTable placeAt holds
 none-held i n l = ap (λ (p : Place). holds p n) (getD-replicate four i freePlace freePlace l)
@@ -100,12 +103,15 @@ standing-fresh b = record { turns = 0; ring = fresh-is-opened; once = λ i j n k
 standing : {s : State} → Reached s → Standing s
 standing c = standing-run (good-fresh (c .lent) (c .all)) (standing-fresh (c .lent)) (c .run)
 
+-- in every reached state the table is in range and the lent bytes are all there
 pub stays-in-range : StaysInRange
 stays-in-range s c = let r = good-reached c in (r .ranged, r .whole)
 
+-- every reached table is one after some count of openings, which go round the four places
 pub goes-round : GoesRound
 goes-round s c = let z = standing c in (z .turns, z .ring)
 
+-- in every reached state no number is held in two places
 pub held-once : HeldOnce
 held-once s c = standing c .once
 
@@ -120,6 +126,7 @@ parts (suc f) s l fits short less =
     let before : (suc f - 1) * s ≡ f * s = ap (λ (x : ℕ). x * s) one in
     same-or-not s 0 (λ e. omega (arith, before, ap (λ (x : ℕ). f * x) e, mul-zero f)) (λ some. omega (arith, before, less some))
 
+-- in every reached state the fragments before the last end before the last begins, at the place's end
 pub parts-apart : PartsApart
 parts-apart s c i l =
     let r = range-from (placeAt (s .table) i) (place-fine (s .table) (good-reached c .ranged) i l) in

@@ -27,6 +27,7 @@ use Rattle.link.specs.Run.{Call, after, start, next}
 use Rattle.link.specs.Demand.{Takes, count}
 use Rattle.link.specs.Examples.{Input, Lawful, SomeRun}
 
+-- from any state there is a run with just these inputs, if they are bytes and lend full room
 pub some-run : SomeRun
 unfolding Lawful
 some-run s [] lawful = ([], s, refl, start)
@@ -98,6 +99,7 @@ module _ (g : Settings) (packet : List ℕ) (b : Bytes packet) where
       (λ e. rw (payload-plain g packet e i) (bytes-take (cut.s g (length packet)) (drop (i * cut.s g (length packet)) packet)
       (bytes-drop (i * cut.s g (length packet)) packet b)))
 
+-- each fragment of a packet that the sender takes is bytes
 pub bytes-fragment : (g : Settings) (n : ℕ) (packet : List ℕ) → Takes g n packet → (i : ℕ) → i < count g packet → Bytes (fragmentFor g n packet i)
 unfolding fragmentFor
 bytes-fragment g n packet takes i below =

@@ -64,16 +64,19 @@ pub record Gone (g : Settings) (n : ℕ) (packet : List ℕ) (es : List Call) (e
 
 -- ---- it is held there
 
+-- while its place is open, the number is held there
 pub open-held : (g : Settings) (n : ℕ) (packet : List ℕ) (came : ℕ → Bool) (s : State) (i : ℕ) → OpenAt g n packet came s i → heldAt (s .table) n ≡ i
 open-held g n packet came s i o =
     held-only (s .table) n i (o .low) (holds-yes _ _ (λ z. omega (arith, o .full .is-open)) (o .full .mine .number)) (o .alone)
 
+-- so it is once the packet was handed out
 pub done-held : (g : Settings) (n : ℕ) (packet : List ℕ) (s : State) (i : ℕ) → DoneAt g n packet s i → heldAt (s .table) n ≡ i
 done-held g n packet s i o =
     held-only (s .table) n i (o .low) (holds-yes _ _ (λ z. omega (arith, o .is-done)) (o .mine .number)) (o .alone)
 
 -- ---- laws of a place and of an answer
 
+-- a place in another condition still has the figures of the packet
 pub mine-closed : (g : Settings) (n : ℕ) (packet : List ℕ) (p : Place) (c : ℕ) → Mine g n packet p → Mine g n packet (inCondition p c)
 unfolding inCondition
 mine-closed g n packet p c m = record {
@@ -87,10 +90,12 @@ mine-closed g n packet p c m = record {
       m .last;
 }
 
+-- and the size, where it was known
 pub sized-closed : (g : Settings) (packet : List ℕ) (p : Place) (c : ℕ) → SizeKnown g packet p → SizeKnown g packet (inCondition p c)
 unfolding inCondition SizeKnown
 sized-closed g packet p c m = m
 
+-- a place that is put in a condition is in it
 pub condition-closed : (p : Place) (c : ℕ) → inCondition p c .condition ≡ c
 unfolding inCondition
 condition-closed p c = refl
@@ -110,9 +115,11 @@ unfolding displacedAt
 displaced-done t i c = ap (λ (v : Bool). cond v (Number (placeAt t i .number)) None) (ne-eqb (placeAt t i .condition) open-now (λ z. omega arith))
 
 module _ (g : Settings) (n : ℕ) (packet : List ℕ) (takes : Takes g n packet) where
+  -- it is enough after the calls just where the fragments that came in them suffice
   pub enough-with : (es : List Call) (came : ℕ → Bool) → come n es ≡ came → enoughAfter g n packet es ≡ suffices g packet came
   enough-with es came e = enough-is g packet (takes .passed) n es ∙ ap (suffices g packet) e
 
+  -- where none of its fragments came it is not enough
   pub enough-none : (es : List Call) → come n es ≡ (λ i. false) → enoughAfter g n packet es ≡ false
   enough-none es e = enough-with es (λ i. false) e ∙ begins g packet (takes .passed)
 
@@ -223,6 +230,7 @@ module _ (g : Settings) (n : ℕ) (packet : List ℕ) (takes : Takes g n packet)
       same-came (inl st) = inl (moved-stage (after e) (come-foreign n e es foreign) st)
       same-came (inr x) = inr x
 
+      -- a foreign call leaves the packet at its stage, or displaces it
       pub foreign-step : Good s → Made s e → Stage g n packet es s → Stage g n packet (e ∷ es) (after e) ⊎ Gone g n packet es e
       unfolding keyOf keepAt
       foreign-step r made st = go (see r made)

@@ -35,6 +35,7 @@ use Rattle.link.proofs.Fitting.{Fits, apart}
 
 -- ---- a fragment that came in the call k, and stands in place i
 
+-- it brought fragment j of number n, held in place i since; it fits p, and its payload stands in b
 pub record Stood (k : Call) (es : List Call) (p : Place) (b : List ℕ) (i n j : ℕ) : Type 0 where
   pub since : HeldSince i n k es
   pub passed : heard k ≡ true
@@ -47,6 +48,7 @@ module _ {k : Call} {es : List Call} {p : Place} {b : List ℕ} {i n j : ℕ} (z
   abbrev f : Header
   f = fieldsOf (k .datagram)
 
+  -- its payload stands in the bytes of the place where its own header says
   pub stands-there : take (f .plen) (drop (offsetOf f) (bytesAt b i)) ≡ payloadOf (k .datagram)
   unfolding bytesAt
   stands-there = ap (take (f .plen)) (drop-drop (offsetOf f) (i * place) b) ∙ z .bytes
@@ -58,6 +60,7 @@ module _ {k : Call} {es : List Call} {p : Place} {b : List ℕ} {i n j : ℕ} (z
       ap (λ (v : Bool). not v && leb (p .count) (j + 1)) (z .fits .fec)
       ∙ ap₂ (λ (c x : ℕ). not (f .fec) && leb c (x + 1)) (z .fits .count) (sym (z .index))
 
+  -- and where the figures of the place say
   pub part-there : partIn p (bytesAt b i) j ≡ payloadOf (k .datagram)
   unfolding partIn
   part-there =
@@ -78,6 +81,7 @@ module _ {k : Call} {es : List Call} {p : Place} {b : List ℕ} {i n j : ℕ} (z
 -- ---- after a call that leaves the place alone
 
 module _ {k : Call} {es : List Call} {s : State} {i n j : ℕ} (e : Call) (spared : Spared s i (e .left)) where
+  -- it still stands there, if the place still holds the number
   pub stood-spared : Stood k es (placeAt (s .table) i) (s .bytes) i n j → holds (placeAt (e .left .table) i) n ≡ true
       → Stood k (e ∷ es) (placeAt (e .left .table) i) (e .left .bytes) i n j
   stood-spared z held =
@@ -93,6 +97,7 @@ module _ {k : Call} {es : List Call} {s : State} {i n j : ℕ} (e : Call) (spare
             ∙ z .bytes;
       }
 
+-- a call that leaves table and lent bytes as they were leaves each place alone
 pub unchanged : {s : State} (i : ℕ) (y : Outcome) → y .table ≡ s .table → y .bytes ≡ s .bytes → Spared s i y
 unchanged i y t b = record { kept-place = ap (λ (x : Table). placeAt x i) t; kept-bytes = λ a n low high. ap (λ (x : List ℕ). take n (drop a x)) b }
 
@@ -104,6 +109,7 @@ pub record Put (e : Call) (s : State) (p : Place) (i : ℕ) : Type 0 where
   pub here : placeAt (e .left .table) i ≡ inCondition (keptIn p (fieldsOf (e .datagram))) condition
   pub bytes : e .left .bytes ≡ splice (s .bytes) (i * place + offsetOf (fieldsOf (e .datagram))) (payloadOf (e .datagram))
 
+-- a call that keeps its fragment in place i puts it there, however it settles
 pub put-in : (e : Call) (s : State) (u : Table) (i : ℕ) (p : Place) (l : Displaced) → length (u .places) ≡ four → i < four
     → (p .condition ≡ free → ⊥) → p .condition ≤ spoiled
     → SettledAfter (keepAt u i p l (fieldsOf (e .datagram)) (s .bytes) (payloadOf (e .datagram))) (e .lent) (e .left) → Put e s p i
@@ -126,6 +132,7 @@ module _ (e : Call) (es : List Call) (s : State) (good : Good s) (bytes : Bytes 
   abbrev h : Header
   h = fieldsOf (e .datagram)
 
+  -- the place has the number that it had
   pub number-here : placeAt (e .left .table) i .number ≡ p .number
   unfolding keptIn inCondition
   number-here = ap (λ (q : Place). q .number) (put .here)
@@ -134,6 +141,7 @@ module _ (e : Call) (es : List Call) (s : State) (good : Good s) (bytes : Bytes 
   unfolding keptIn inCondition
   kept-here j = ap (λ (q : Place). getD (q .kept) j false) (put .here)
 
+  -- any other fragment is kept there just where it was kept before
   pub old-here : (j : ℕ) → (j ≡ h .index → ⊥) → getD (placeAt (e .left .table) i .kept) j false ≡ getD (p .kept) j false
   old-here j other = kept-here j ∙ getD-set-other (p .kept) (h .index) j true false other
 
@@ -176,6 +184,7 @@ module _ (e : Call) (es : List Call) (s : State) (good : Good s) (bytes : Bytes 
           (omega (arith, long)))
           (λ l. spared-before (s .bytes) (i * place + offsetOf h) (payloadOf (e .datagram)) room (i * place + offsetOf o) (o .plen) (omega arith))
 
+      -- a fragment of another index, which fits the place with this one, still stands there
       pub stood-old : holds (placeAt (e .left .table) i) n ≡ true → Stood k (e ∷ es) (placeAt (e .left .table) i) (e .left .bytes) i n j
       stood-old held =
           record {

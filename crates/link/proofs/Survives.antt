@@ -10,6 +10,7 @@ use Rattle.sender_rules.proofs.Checks.{taken}
 use Rattle.link.specs.Run.{lost}
 use Rattle.link.specs.Demand.{count, enoughAfter, T3}
 
+-- with FEC, where at most m fragments are lost, the others are enough
 pub survives : T3
 unfolding enoughAfter cut.assured
 survives g n packet es takes fec few =

@@ -47,6 +47,7 @@ module _ {who : ℕ → ℕ} {m : ℕ} {s : State} (r : Stands who m s) where
       (lastAt m i, j .0, j .1, sym (r .number (lastAt m i) (j .0) (j .1)) ∙ ap (λ (x : ℕ). placeAt (s .table) x .number) (j .2) ∙ holds-number _ n e))
       (λ l. absurd (holds-some _ n e (r .ring .left i h (λ (k : i < m). omega arith))))
 
+-- a fresh table is one after no opening, whatever numbers are to come
 pub stands-fresh : (who : ℕ → ℕ) (b : List ℕ) → Stands who 0 (freshWith b)
 stands-fresh who b = record { ring = fresh-is-opened; number = λ j (h : j < 0) l. absurd (omega arith) }
 
@@ -90,6 +91,7 @@ All-next who m (e ∷ es) = Brings-next who (m + length es) e × All-next who m 
 unfoldable pub Differ : (ℕ → ℕ) → ℕ → Type 0
 Differ who most = (j k : ℕ) → j < k → k ≤ j + 4 → k < most → who j ≡ who k → ⊥
 
+-- calls with numbers that differ from the four before them open one place each, in turn
 pub stands-run : (who : ℕ → ℕ) (most : ℕ) → Differ who most → {m : ℕ} {s u : State} {es : List Call} → Stands who m s → Good s → Run s es u
     → m + length es ≤ most → All-next who m es → Stands who (m + length es) u
 unfolding All-next Differ

@@ -27,6 +27,7 @@ use Rattle.link.proofs.Brought.{Next, own-step}
 
 -- ---- answers that are not a packet handed out
 
+-- the answer of a refusal is not that of a delivery
 pub refused-or-handed : (x length missing : ℕ) (d : Displaced) → numberOf (Refused x) ≡ numberOf (Delivered length missing d) → ⊥
 unfolding numberOf
 refused-or-handed x l m d e = let z : _≡_ {A = ℕ} 0 (length (l ∷ m ∷ displacedValues d)) = ap (λ (a : ℕ × List ℕ). length (a .1)) e in omega arith
@@ -125,6 +126,7 @@ module _ (g : Settings) (n : ℕ) (packet : List ℕ) (takes : Takes g n packet)
   -- ---- the run
 
   module _ (first : State) (reached : Reached first) (absent : Holds first n → ⊥) where
+    -- from a reached state, as long as each call leaves it held, the packet is at one of its stages
     pub standing : {es : List Call} {s : State} → Run first es s → All (Own g n packet) es → All (λ e. Holds (after e) n) es → Stage g n packet es s
     unfolding All
     standing start own held = not-yet (less-or-not (heldAt (first .table) n) four (λ l. absurd (absent l)) (λ l. l)) (come-none n)
@@ -184,6 +186,7 @@ module _ (g : Settings) (n : ℕ) (packet : List ℕ) (takes : Takes g n packet)
               written = h .written;
             }
 
+-- all that is promised holds until it is displaced, and it is handed out once it is enough
 pub until-displaced : T2
 until-displaced g n packet first es now scene held = (
   promised g n packet (scene .takes) first (scene .reached) (scene .free) (scene .run) (scene .own) held,

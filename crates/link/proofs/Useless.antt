@@ -253,6 +253,7 @@ one-fragment S sends bad =
     ∙ ap (λ (h : Header). h .index) (received g 0 packet i None (takes .passed) (takes .number) (takes .address) below refl .1) in
     omega (arith, index 0 (omega arith), index 1 (omega arith), ap (λ (d : List ℕ). fieldsOf d .index) (bad .same g 0 packet 0 1))
 
+-- no useless receiver keeps the promise of receive, and no sender that writes one fragment only keeps its own
 pub falls : Falls
 falls = record {
   refuses-all = refuses-all;
@@ -266,6 +267,7 @@ falls = record {
 
 -- ---- and one that keeps the promise
 
+-- there is a receiver that keeps the promise of receive
 pub some-keep : SomeKeep
 some-keep = (
   λ own s datagram out. some-outcome own s datagram out .0,

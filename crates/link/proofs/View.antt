@@ -53,6 +53,7 @@ is-zero e = ap not (eq-eqb _ _ e)
 not-zero : {n : ℕ} → (n ≡ 0 → ⊥) → not (eqb n 0) ≡ true
 not-zero e = ap not (ne-eqb _ _ e)
 
+-- in a good state, with a packet buffer of 8,192 bytes or more, neither 14 nor 1 is due
 pub no-room-fault : (s : State) → Good s → (room : ℕ) → most-l ≤ room → roomFault (s .table) (length (s .bytes)) room ≡ 0
 no-room-fault s r room h =
     sym (due-none (s .table) _ room (r .ranged) (sym (room-told (length (s .bytes)) room (r .whole)) ∙ le-ltb room most-l h))
@@ -129,6 +130,7 @@ module _ (own : Address) (s : State) (d o : List ℕ) (y : Outcome) where
         let is : fault own s d o ≡ 0 = fault-held own s d o r h e ∙ new-fault (s .table) d l in
         opens e l (subst (λ (k : Keeping). SettledAfter k o y) (new-keeps (s .table) d (s .bytes) l) (kept-by is f))
 
+-- whatever a call with room does from a good state is one of these four cases
 pub view : (own : Address) (s : State) (d o : List ℕ) (y : Outcome) → Good s → most-l ≤ length o → Step own s d o y → View own s d o y
 view own s d o y r h f =
     either (eqb (faultOf own d) 0)

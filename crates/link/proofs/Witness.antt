@@ -69,6 +69,7 @@ module _ (mtu n : ℕ) (packet : List ℕ) (bytes : Bytes packet) (i : ℕ) wher
   header-bytes =
       (lit< tt, (lit< tt, (low _, (low _, (low _, (low _, (low _, (low _, (low _, (low _, (low _, (low _, (low _, (low _, tt))))))))))))))
 
+  -- what is sent of a packet of bytes, without FEC and address, is bytes
   pub fragment-bytes : Bytes (fragmentFor (plainAt mtu) n packet i)
   unfolding fragmentFor payloadFor partOf
   fragment-bytes =
@@ -77,18 +78,22 @@ module _ (mtu n : ℕ) (packet : List ℕ) (bytes : Bytes packet) (i : ℕ) wher
 
 -- ---- in one fragment, or in two
 
+-- at an MTU of 1,400 it has one fragment
 pub in-one : (b : ℕ) → b < 256 → count (plainAt 1400) (packetWith b) ≡ 1
 unfolding cut.f cut.L cut.S cut.h cut.addressBytes ceil
 in-one b byte = ap (cut.f (plainAt 1400)) (size-is b byte)
 
+-- at an MTU of 21 it has two
 pub in-two : (b : ℕ) → b < 256 → count (plainAt 21) (packetWith b) ≡ 2
 unfolding cut.f cut.L cut.S cut.h cut.addressBytes ceil
 in-two b byte = ap (cut.f (plainAt 21)) (size-is b byte)
 
+-- the sender takes it at an MTU of 1,400, under any number
 pub whole : (b : ℕ) → b < 256 → (n : ℕ) → n < 65536 → Takes (plainAt 1400) n (packetWith b)
 unfolding fit cut.f cut.L cut.S cut.h cut.addressBytes ceil
 whole b byte = takes b byte 1400 refl refl
 
+-- and at an MTU of 21, under any number
 pub halved : (b : ℕ) → b < 256 → (n : ℕ) → n < 65536 → Takes (plainAt 21) n (packetWith b)
 unfolding fit cut.f cut.L cut.S cut.h cut.addressBytes ceil
 halved b byte = takes b byte 21 refl refl

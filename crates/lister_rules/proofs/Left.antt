@@ -142,6 +142,7 @@ module _ (s l : List ℕ) where
     pub lays : Lays d at said to e
     pub left-of : Left said w
 
+  -- where a walk opens unrefused its listing begins, with nothing said yet
   pub begins : (d : List ℕ) (at : ℕ) (w : Walker) → w ≡ opens s l → refusal (walkOf s l) ≡ 0 → Place d at w at d
   begins d at w o z = record { said = []; lays = lays-none d at; left-of = opens-left w o z }
 
@@ -158,5 +159,6 @@ module _ (s l : List ℕ) where
         → Lays d at (linesOf (walkOf s l)) r f
     end b q r f line = lays-same d at (tells w x is (p .said) (p .left-of) (handed.End b) q) (lays-more d at (p .said) _ (p .lays) line)
 
+    -- from a place in the listing no step of the walk is refused
     pub never : (n : ℕ) → x .handed ≡ handed.Refused n → ⊥
     never n q = tells w x is (p .said) (p .left-of) (handed.Refused n) q

@@ -23,13 +23,16 @@ module _ (s : List ℕ) (w : Walker) (o : w ≡ opens s containers) where
   unfolding opens
   opened = ap (λ (v : Walker). v .refusal) o
 
+  -- where it opens unrefused, nothing in the payload is refused
   pub walked : w .refusal ≡ 0 → refusal (walkOf s containers) ≡ 0
   walked z = sym opened ∙ z
 
+  -- where it opens refused, the listing is the line of that refusal alone
   pub payload-refused : (front : List ℕ) → (w .refusal ≡ 0 → ⊥) → refusedLine (w .refusal) ≡ payloadLines front (walkOf s containers)
   unfolding payloadLines
   payload-refused front h = ap refusedLine opened ∙ sym (simp (ne-eqb (refusal (walkOf s containers)) 0 (λ z. h (opened ∙ z))))
 
+  -- where it opens unrefused, the listing is the line in front and then those of the walk
   pub payload-walked : (front : List ℕ) → w .refusal ≡ 0 → front ++ linesOf (walkOf s containers) ≡ payloadLines front (walkOf s containers)
   unfolding payloadLines
   payload-walked front z = sym (simp (eq-eqb (refusal (walkOf s containers)) 0 (walked z)))
@@ -47,12 +50,14 @@ granted-tells given (suc fault) values e = let z : _≡_ {A = ℕ} 0 1 = cc in a
 
 -- the listing of a packet, refused or not
 module _ (s : List ℕ) (a : Checked) (said : numberOf a ≡ checkCall s) where
+  -- where the AF checks refuse it, the listing is the line of that refusal alone
   pub packet-refused : (n : ℕ) → a ≡ checked.Refused n → refusedLine n ≡ listingOf s
   unfolding numberOf checkCall listingOf
   packet-refused n q =
       let told = refused-tells n (afFault s) _ (sym (ap numberOf q) ∙ said) in
       ap refusedLine (told .0) ∙ sym (simp (told .1))
 
+  -- where they pass it, the listing is that of its payload, with SEQ, revision and LEN in front
   pub packet-passes : (f : Figures) (payload : List ℕ) → a ≡ checked.Packet f → payload ≡ payloadOf s
       → payloadLines (headLine (f .seq) (f .minor) (f .len)) (walkOf payload containers) ≡ listingOf s
   unfolding numberOf checkCall listingOf

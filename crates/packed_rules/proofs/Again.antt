@@ -96,6 +96,7 @@ module _ (s : List ℕ) (bytes : Bytes s) (none : unpackFault s ≡ 0) where
       place-again (drop i s) (bytes-drop i s bytes) (rw length-drop (omega arith)) (bad-part s i ∙ e)
       ∙ ap packedPlace (place-part s i)
 
+  -- bytes that unpacking takes are packed again as they were
   pub table-again : packedOf (tableFrom s) ≡ s
   unfolding packedOf tableFrom placeAt badRecord
   table-again =

@@ -60,6 +60,7 @@ module _ (s : List ℕ) (i : ℕ) where
   pub first-from : getD (drop i s) 0 0 ≡ getD s i 0
   first-from = getD-drop i s 0 0 ∙ ap (λ (n : ℕ). getD s n 0) (add-zero i)
 
+  -- the place read at byte i is the one read at the start of the part from i on
   pub place-part : placeFrom (drop i s) 0 ≡ placeFrom s i
   unfolding placeFrom
   place-part =
@@ -75,6 +76,7 @@ module _ (s : List ℕ) (i : ℕ) where
         drop-drop 14 i s,
       )
 
+  -- the flags of the place at byte i are at fault just where those at the start of the part from i on are
   pub bad-part : badPlaceAt (drop i s) 0 ≡ badPlaceAt s i
   unfolding badPlaceAt
   bad-part = rw (getD-drop i s 7 0, drop-drop 14 i s)
@@ -191,6 +193,7 @@ module _ (t : Table) (h : TypedTable t) where
   unfolding placeAt
   all-four = four-places (t .places) freePlace (h .places)
 
+  -- a record that was packed is read back as itself
   pub table-back : tableFrom (packedOf t) ≡ t
   unfolding tableFrom
   table-back =
@@ -205,6 +208,7 @@ module _ (t : Table) (h : TypedTable t) where
         oldest,
       )
 
+  -- a record that was packed has no flag other than 0 and 1
   pub table-good : badRecord (packedOf t) ≡ false
   unfolding badRecord
   table-good =
@@ -215,6 +219,7 @@ module _ (t : Table) (h : TypedTable t) where
         good-at 3 (3 * place-bytes) from-4 (lit< tt) at-3,
       )
 
+  -- a packed record has the bytes of four places and one more
   pub table-length : length (packedOf t) ≡ table-bytes
   table-length =
       omega (
@@ -230,6 +235,7 @@ module _ (t : Table) (h : TypedTable t) where
         place-long 3 (lit< tt),
       )
 
+  -- a packed record is bytes throughout, each below 256
   pub table-is-bytes : Bytes (packedOf t)
   table-is-bytes =
       rw at-0

@@ -15,6 +15,7 @@ use Rattle.packed_rules.specs.Packed.{flagBytes, badFlag, badFlags, badP
 -- ---- a list that is filled by a rule over another
 
 module _ {A B : Type 0} (rule : A → B) (xs : List A) (ys : List B) where
+  -- a list filled by the rule up to j, and now at j too, is filled up to j + 1
   pub filled-more : (j : ℕ) (y : B) (d : A) → take j ys ≡ map rule (take j xs) → j < length ys → j < length xs → y ≡ rule (getD xs j d)
       → take (j + 1) (set ys j y) ≡ map rule (take (j + 1) xs)
   filled-more j y d e in-ys in-xs is-y =
@@ -24,6 +25,7 @@ module _ {A B : Type 0} (rule : A → B) (xs : List A) (ys : List B) where
       ∙ sym (map-append rule (take j xs) (getD xs j d ∷ []))
       ∙ ap (map rule) (sym (take-suc xs j d in-xs) ∙ ap (λ (n : ℕ). take n xs) (sym (add-one j)))
 
+-- a list that is filled to its end is all that it was filled with
 pub filled-all : {B : Type 0} (ys zs : List B) (n : ℕ) → length ys ≤ n → take n ys ≡ zs → ys ≡ zs
 filled-all ys zs n h e = sym (take-all n ys h) ∙ e
 
@@ -62,10 +64,12 @@ bad-more s j bits x e h is-x =
 -- ---- a place, by its FEC flag and then by the flags of its fragments
 
 module _ (s : List ℕ) (i : ℕ) where
+  -- a place whose FEC byte is over 1 is at fault
   pub fec-bad : 1 < getD s (i + 7) 0 → true ≡ badPlaceAt s i
   unfolding badPlaceAt
   fec-bad h = rw (lt-ltb 1 (getD s (i + 7) 0) h)
 
+  -- a place whose FEC byte is 0 or 1 is at fault just where one of its fragments' flags is
   pub fec-good : {r : Bool} → getD s (i + 7) 0 ≤ 1 → r ≡ badFlags (flagBytes s (i + 14)) → r ≡ badPlaceAt s i
   unfolding badPlaceAt
   fec-good h e = rw (le-ltb 1 (getD s (i + 7) 0) h) e

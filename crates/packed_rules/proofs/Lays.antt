@@ -23,6 +23,7 @@ use Rattle.packed_rules.specs.Packed.{figuresOf, packedPlace, place-byte
 
 -- ---- the figures
 
+-- the 14 bytes that were worked out, each in its turn, are the figures of the place
 pub figures-are : (p : Place) {n f s l : List ℕ} {fec : ℕ} → n ≡ bytesOf 2 (p .number) → f ≡ bytesOf 4 (p .count) → s ≡ bytesOf 2 (p .size)
     → l ≡ bytesOf 2 (p .last) → fec ≡ bit (p .fec)
     → p .condition ∷ getD n 0 0 ∷ getD n 1 0 ∷ getD f 0 0 ∷ getD f 1 0 ∷ getD f 2 0 ∷ getD f 3 0 ∷ fec ∷ p .rsk ∷ p .rsz
@@ -34,6 +35,7 @@ length-figures : (p : Place) → length (figuresOf p) ≡ 14
 unfolding figuresOf bytesOf
 length-figures p = refl
 
+-- a place with 256 flags is packed into 14 + 256 bytes
 pub length-place : (p : Place) → length (p .kept) ≡ most-f → length (packedPlace p) ≡ place-bytes
 unfolding packedPlace
 length-place p e = omega (arith, length-append (figuresOf p) (map bit (p .kept)), length-figures p, length-map (p .kept) bit)
@@ -69,10 +71,12 @@ next-laid : (out x y a b : List ℕ) (n : ℕ) → length a ≡ n → x ≡ spli
 next-laid out x y a b n long is-x is-y = is-y ∙ ap (λ (l : List ℕ). splice l n b) is-x ∙ splice-next out a b n long
 
 module _ (t : Table) (out : List ℕ) where
+  -- packing into fewer bytes than a record takes is refused as 1 ROOM, and the bytes stay
   pub no-room : length out < table-bytes → outcome (numberOf (Refused 1)) out ≡ packCall t out
   unfolding numberOf packCall
   no-room h = leaves 1 _ _ _ _ (lit< tt) (due 1 _ (lt-ltb (length out) table-bytes h))
 
+  -- with room, the four places one behind another and then the oldest are what packing writes
   pub table-laid : (x₁ x₂ x₃ x₄ y : List ℕ) (w : Written) → table-bytes ≤ length out → Laid t 0 0 out x₁ → Laid t 1 place-bytes x₁ x₂
       → Laid t 2 (2 * place-bytes) x₂ x₃ → Laid t 3 (3 * place-bytes) x₃ x₄
       → outcome (numberOf w) y ≡ putOf x₄ (four * place-bytes) (t .oldest ∷ []) → outcome (numberOf w) y ≡ packCall t out

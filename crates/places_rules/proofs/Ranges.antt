@@ -22,6 +22,7 @@ use Rattle.places_rules.specs.Faults.{badFigures, badCode, badPlace, bad
 abbrev Chunk : ℕ → ℕ → Type 0
 Chunk k z = (0 < k) × (k ≤ most-k) × (z < k)
 
+-- a place in range: a known condition, fragments that fit the place, and with FEC k and z of a chunk
 pub record InRange (p : Place) : Type 0 where
   pub condition : p .condition ≤ spoiled
   pub count : p .count ≤ most-f
@@ -62,6 +63,7 @@ module _ (p : Place) where
       let sized = or-left (badK (p .rsk)) _ e₀ in
       (k-some (p .rsk) sized, k-most (p .rsk) sized, leb-false (p .rsk) (p .rsz) (or-right (badK (p .rsk)) _ e₀))
 
+  -- a place that is not refused with 14 has every field in range
   pub range-from : badPlace p ≡ false → InRange p
   unfolding badFigures
   range-from e =
@@ -78,6 +80,7 @@ module _ (p : Place) where
         coded = chunk-from (code e);
       }
 
+  -- a place with every field in range is not refused with 14
   pub range-to : InRange p → badPlace p ≡ false
   unfolding badPlace badFigures badCode
   range-to r =
@@ -95,6 +98,7 @@ module _ (p : Place) where
 
 -- ---- a fragment that may be kept in a place
 
+-- a fragment that belongs to a place: the same count, and no last fragment longer than the others
 pub record Belongs (p : Place) (h : Header) : Type 0 where
   pub count : p .count ≡ h .count
   pub ends : isLast h ≡ true → (p .size ≡ 0 → ⊥) → h .plen ≤ p .size
@@ -113,6 +117,7 @@ size-told false false size plen last never e =
     ((λ f some. clash f refl), (λ f. ((λ g. clash g refl), (λ g. ltb-false plen last (or-right (not (eqb size 0) && not (eqb size plen)) _ e)))))
 
 module _ (p : Place) (h : Header) where
+  -- a fragment that its place does not refuse is no mismatch
   pub matched : placeFault p h ≡ 0 → mismatch p h ≡ false
   unfolding placeFault
   matched e = clear (mismatch p h) 9 _ (λ z. omega arith) e
@@ -121,6 +126,7 @@ module _ (p : Place) (h : Header) where
   unfolding mismatch
   same-count e = eqb-true (p .count) (h .count) (not-false (eqb (p .count) (h .count)) (or-left (not (eqb (p .count) (h .count))) _ e))
 
+  -- where there is no mismatch, the size can belong
   pub size-fits : mismatch p h ≡ false → badSizeIn p h ≡ false
   unfolding mismatch
   size-fits e =
@@ -132,6 +138,7 @@ module _ (p : Place) (h : Header) where
   unfolding isLast
   never-last e = ap (λ (b : Bool). not b && leb (h .count) (h .index + 1)) e
 
+  -- a sound fragment that a place in range does not refuse belongs to it
   pub belongs : Sound h → InRange p → placeFault p h ≡ 0 → Belongs p h
   unfolding badSizeIn
   belongs s r e =
@@ -158,6 +165,7 @@ module _ (p : Place) (h : Header) (s : Sound h) (r : InRange p) (b : Belongs p h
       let some : 1 * h .plen ≤ h .count * h .plen = mul-le-mul-right (h .plen) (omega (arith, s .below)) in
       omega (arith, s .fits, some)
 
+  -- a place in range that keeps a sound fragment which belongs to it stays in range
   pub range-kept : InRange (keptIn p h)
   unfolding keptIn
   range-kept =
@@ -188,6 +196,7 @@ module _ (p : Place) (h : Header) (s : Sound h) (r : InRange p) (b : Belongs p h
 -- ---- a place that was just opened
 
 module _ (h : Header) where
+  -- a place that a sound fragment opens is in range before it keeps anything
   pub range-opened : Sound h → InRange (openedBy h)
   unfolding openedBy
   range-opened s =
@@ -200,6 +209,7 @@ module _ (h : Header) where
         coded = λ e. let c = s .chunk e in (c .0, c .1, c .2);
       }
 
+  -- a fragment belongs to the place that it opens
   pub belongs-opened : Belongs (openedBy h) h
   unfolding openedBy
   belongs-opened = record { count = refl; ends = λ e some. absurd (some refl); inner = λ e. omega arith }

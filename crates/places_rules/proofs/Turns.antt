@@ -55,6 +55,7 @@ module _ (m : ℕ) (t : Table) (r : Opened m t) where
       (taken 3 (omega arith) (omega arith)))
       ∙ r .oldest .1 (λ l. omega arith)
 
+  -- after m openings the place that is opened next is m mod 4
   pub opens : openAt t ≡ m % four
   opens =
       either (ltb m four)
@@ -93,6 +94,7 @@ module _ (t : Table) (j : ℕ) (p : Place) (size : length (t .places) ≡ four) 
 
 -- ---- none is opened yet
 
+-- a fresh table has had no opening
 pub opened-fresh : Opened 0 freshTable
 unfolding freshTable placeAt
 opened-fresh =
@@ -105,6 +107,7 @@ opened-fresh =
 
 -- ---- a held place is written
 
+-- a held place that is written and stays held leaves the number of openings
 pub opened-kept : (m : ℕ) (t : Table) (j : ℕ) (p : Place) → Opened m t → (placeAt t j .condition ≡ free → ⊥) → (p .condition ≡ free → ⊥)
     → Opened m (withPlace t j p)
 unfolding withPlace
@@ -149,6 +152,7 @@ module _ (m : ℕ) (t : Table) (p : Place) (r : Opened m t) (some : p .condition
   behind : (i : ℕ) → i < four → (i < m + 1 → ⊥) → i ≡ at → ⊥
   behind i a h e = either (ltb i (m + 1)) (λ l. h (ltb-true i (m + 1) l)) (λ l. let q = ltb-false i (m + 1) l in omega (arith, opens m t r))
 
+  -- writing something held into the place whose turn it is makes one opening more
   pub opened-next : Opened (m + 1) (withPlace (turned t (openAt t)) (openAt t) p)
   unfolding turn turned withPlace placeAt
   opened-next =

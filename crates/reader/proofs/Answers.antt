@@ -32,6 +32,7 @@ module _ {M : Type 1} (𝓤 : URA M) (H : Heap 𝓤) (A : Atoms 𝓤) (T : Ended
   Answer κ q u = later (some (λ (x : R .Denot). ((‵ (flft κ q) ⊛ ‵ ftrue) ⊛ ‵ (R .own x (u ∷ []))) ⊛ raw (Ensures x)))
 
 module _ {M : Type 1} {𝓤 : URA M} {H : Heap 𝓤} {A : Atoms 𝓤} {K : Type 0} {W : Given 𝓤 H A} {Γ : List (Item 𝓤)} {G : Goal 𝓤 H} {Q : SProp 𝓤} where
+  -- behind such a call the walk goes on with the result, the fact on it and the token
   pub answers : K → Soaks G → (T : Ended) (κs : Lfts (T .signature .lifetimes)) (a : Args (T .signature) κs) (R : RattleType) (φ : R .Denot
       → Type 0) (κ : Lft) (q : Share) (u : Val)
       → ent 𝓤 Q (mean 𝓤 H A (Answer 𝓤 H A T κs a R φ κ q u))

@@ -28,9 +28,11 @@ use Rattle.reader.proofs.Reader.Laws as T′
 abbrev pub Held : Lfts 1 → RattleType
 Held κs = T.the-row (namedLft 1 0 tt κs)
 
+-- the fields that a reader is declared with
 abbrev pub shape : Lfts 1 → Declared
 shape κs = T.the-type (namedLft 1 0 tt κs)
 
+-- the laws by which it is owned through them
 abbrev pub laws : (κs : Lfts 1) → LL.Laws (shape κs)
 laws κs = T′.the-laws (namedLft 1 0 tt κs)
 
@@ -42,6 +44,7 @@ Own κ d = Held (κ, tt) .own d (T′.lowered d ∷ [])
 abbrev pub fields : (κ : Lft) → Reader → Values (shape (κ, tt) .parts)
 fields κ d = (d .packet, (d .at, (d .refusal, tt)))
 
+-- as machine values: the slice, the position and the number of the refusal
 abbrev pub spelt : Reader → List Val × (List Val × (List Val × Unit {0}))
 spelt d = (sliceVal (d .packet .ptr) (length (d .packet .now)) ∷ [], (vint w64 (d .at) ∷ [], (vint w8 (d .refusal) ∷ [], tt)))
 

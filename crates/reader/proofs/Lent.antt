@@ -20,6 +20,7 @@ use denote.Steps.{nothing}
 abbrev pub lentVal : RefT (List ℕ) → Val
 lentVal s = sliceVal (s .ptr) (length (s .now))
 
+-- what a lent packet owns at its machine value
 abbrev pub Own : Lft → RefT (List ℕ) → Fml
 Own κ s = ShrSlice (named 0) κ u8 .own s (lentVal s ∷ [])
 

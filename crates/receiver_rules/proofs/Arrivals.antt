@@ -27,6 +27,7 @@ use Rattle.receiver_rules.proofs.Ranges.{place-fine, opens-below}
 chosen : {A : Type 0} (B : Type 0) {b : Bool} → b ≡ true → A → cond b A B
 chosen {A} B e x = subst (λ (v : Bool). cond v A B) (sym e) x
 
+-- of two claims chosen by a test that is false, the second is the one to show
 pub left-out : (A : Type 0) {B : Type 0} {b : Bool} → b ≡ false → B → cond b A B
 left-out A {B} e x = subst (λ (v : Bool). cond v A B) (sym e) x
 
@@ -66,9 +67,11 @@ module _ (t : Table) (h : Header) (b payload out : List ℕ) where
       unfolding keepOf
       keeps-there = rw (← is-i, lt-ltb i four below, is-p)
 
+      -- a refusal by the place that holds its number, with nothing changed, is what a fragment is promised
       pub arrives-refused : {y : Outcome} → (n ≡ 0 → ⊥) → y ≡ outcome (Refused n) t b out → Arrives t h b payload out y
       arrives-refused some e = refused fault-there some e
 
+      -- not refused by the place that holds its number, a fragment is kept there, displaces none, and settles
       pub arrives-there : {y : Outcome} → n ≡ 0 → SettledAfter (keepAt t i p None h b payload) out y → Arrives t h b payload out y
       arrives-there none s = kept (sym none ∙ fault-there) (rw keeps-there at s)
 
@@ -83,6 +86,7 @@ module _ (t : Table) (h : Header) (b payload out : List ℕ) where
       unfolding keepOf
       keeps-new is-j is-d is-u is-p = rw (is-d, is-u, is-p, is-j, ← is-i, le-ltb i four none)
 
+      -- a fragment whose number no place holds is kept in the place that it opens, and settles
       pub arrives-new : {j : ℕ} {d : Displaced} {u : Table} {p : Place} (c : Change) (b′ out′ : List ℕ) → j ≡ openAt t → d ≡ displacedAt t j
           → u ≡ turned t j
           → p ≡ openedBy h → SettledAfter (keepAt u j p d h b payload) out (outcome (c .answer) (changed u c) b′ out′)
@@ -95,12 +99,15 @@ module _ (t : Table) (h : Header) (b payload out : List ℕ) where
 -- ---- the place stays in range
 
 module _ (t : Table) (h : Header) (sound : Sound h) where
+  -- the place that holds its number stays in range when it keeps the fragment
   pub there-fine : badTable t ≡ false → {i : ℕ} → i < four → {p : Place} {n : ℕ} → p ≡ placeAt t i → n ≡ placeFault p h → n ≡ 0
       → badPlace (keptIn p h) ≡ false
   there-fine fine {i} below {p} is-p is-n none = kept-in-range p h (ap badPlace is-p ∙ place-fine t fine i below) sound (sym is-n ∙ none)
 
+  -- the place that the fragment opens is in range when it keeps it
   pub new-fine : {p : Place} → p ≡ openedBy h → badPlace (keptIn p h) ≡ false
   new-fine is-p = ap (λ (x : Place). badPlace (keptIn x h)) is-p ∙ opened-in-range h sound
 
+  -- in a record in range the fragment opens one of the four places
   pub new-below : badTable t ≡ false → {j : ℕ} → j ≡ openAt t → j < four
   new-below fine is-j = rw is-j (opens-below t fine)

@@ -27,6 +27,7 @@ either-some : (test : Bool) (P Q : Outcome → Type 0) → (y : Outcome) × P y 
 either-some true P Q p q = p
 either-some false P Q p q = q
 
+-- some outcome fits the promise of `receive`, whatever the record and the inputs
 pub outcome-some : (own : Address) (s : State) (datagram out : List ℕ) → (y : Outcome) × Step own s datagram out y
 unfolding Step
 outcome-some own s datagram out =

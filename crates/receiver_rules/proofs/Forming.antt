@@ -64,14 +64,17 @@ formed-at t i b out {p} {after} {r} {q} is-p is-r f =
 
 module _ (t : Table) (i : ℕ) (d : Displaced) (b out : List ℕ) {after : List ℕ} where
   module _ {u : Table} where
+    -- where forming still waits, the fragment is answered as kept and the record stays
     pub settles-waiting : PlaceFormed (placeAt t i) (bytesAt b i) out after Waits → u ≡ t → Settled t i d b out (outcome (received.Kept d) u b after)
     settles-waiting f is-u = rw (is-u, f .left .1) (waits (f .left .0))
 
+    -- where forming gave a packet, it is delivered and the place becomes delivered
     pub settles-delivered : {n m : ℕ} → PlaceFormed (placeAt t i) (bytesAt b i) out after (Packet n m) → u ≡ closedAt t i delivered
         → Settled t i d b out (outcome (received.Delivered n m d) u b after)
     settles-delivered f is-u =
         let h = f .left .1 in rw (h .told, h .missing, is-u, h .written) (delivers (h .packet) (f .left .0) (h .agrees))
 
+    -- where forming found no packet that agrees, the answer is 13 and the place becomes spoiled
     pub settles-damaged : PlaceFormed (placeAt t i) (bytesAt b i) out after Nothing → u ≡ closedAt t i spoiled
         → Settled t i d b out (outcome (received.Damaged d) u b after)
     settles-damaged f is-u = rw (is-u, f .left .2) (damaged (f .left .0) (f .left .1))
@@ -87,6 +90,7 @@ module _ (t : Table) (i : ℕ) (b out : List ℕ) (below : i < four) (lent : Len
       (rw (le-ltb (length (drop (i * place) b)) place (omega (arith, length-drop (i * place) b, lent .all)), le-ltb (length out) most-l (lent .room)))
       none-due)
 
+  -- forming one of the four places, in range and with the right room lent, is never refused
   pub never-refused : {after : List ℕ} {n : ℕ} → PlaceFormed (placeAt t i) (bytesAt b i) out after (Refused n) → ⊥
   unfolding numberOf valuesOf
   never-refused {after} {n} f =

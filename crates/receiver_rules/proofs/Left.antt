@@ -92,6 +92,7 @@ module _ {t : Table} {i : ℕ} {d : Displaced} {b out : List ℕ} (below : i < f
       subst (Left t i b out _) (received-one (Damaged d) a q) (refl, refl, refl, λ size. closed-condition t i below size spoiled)
 
 module _ (own : Address) (s : State) (datagram out : List ℕ) (y : Outcome) (step : Step own s datagram out y) where
+  -- where a number is due it is the answer, alone, and record, lent bytes and packet buffer stay
   pub refusing : (n : ℕ) → dueFor own s datagram out ≡ n → (n ≡ 0 → ⊥)
       → (y .answer ≡ (n, [])) × (y .table ≡ s .table) × (y .bytes ≡ s .bytes) × (y .out ≡ out)
   unfolding outcome numberOf
@@ -103,6 +104,7 @@ module _ (own : Address) (s : State) (datagram out : List ℕ) (y : Outcome) (st
         ap (λ (o : Outcome). o .out) q,
       )
 
+  -- by the answer: kept leaves the packet buffer, delivered writes a packet there, 13 spoils the place
   pub left-by : (a : Received) → y .answer ≡ numberOf a → Left (keptBy s datagram .table) (keptBy s datagram .at) (keptBy s datagram .bytes) out y a
   unfolding outcome
   left-by a q =

@@ -28,6 +28,7 @@ module _ (h : Header) (s : Sound h) where
       let more : (h .index + 1) * h .plen ≤ h .count * h .plen = mul-le-mul-right (h .plen) (omega (arith, s .below)) in
       omega (arith, s .fits, more)
 
+  -- the payload of a sound fragment ends within its place
   pub offset-fits : offsetOf h + h .plen ≤ place
   offset-fits =
       either (isLast h)

@@ -8,12 +8,15 @@ use Rattle.receiver_rules.proofs.Unique.{received-one, queried-one, out
 use Rattle.receiver_rules.proofs.Exists.{outcome-some}
 use Rattle.receiver_rules.proofs.Left.{keeps-length, refusing, left-by}
 
+-- some outcome fits the promise, whatever the record and the inputs
 pub some-outcome : SomeOutcome
 some-outcome own s datagram out = outcome-some own s datagram out
 
+-- no second outcome fits the promise for the same record and inputs
 pub one-outcome : OneOutcome
 one-outcome own s datagram out y z p q = outcome-one own s datagram out y z p q
 
+-- no second answer of `receive` has the same number and values
 pub one-received : OneReceived
 one-received a b e = received-one a b e
 
@@ -31,8 +34,10 @@ untouched own s datagram out y step d = (
       (l .0, l .1, l .2, λ size. l .3 (keeps-length (s .table) (fieldsOf datagram) (s .bytes) (payloadOf datagram) ∙ size)),
 )
 
+-- a delivery writes as many bytes of the packet buffer as it tells, from its front, and no others
 pub delivery-writes : DeliveryWrites
 delivery-writes own s datagram out y step l m d q = left-by own s datagram out y step (Delivered l m d) q .0
 
+-- the count of missing fragments that a delivery tells is that of its place
 pub count-told : CountTold
 count-told own s datagram out y step l m d q = let r = left-by own s datagram out y step (Delivered l m d) q in (r .1, r .2)

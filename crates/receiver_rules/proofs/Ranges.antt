@@ -20,10 +20,12 @@ use Rattle.receiver_rules.specs.Promise.{all-places, badRoom, roomFault}
 -- ---- the room
 
 module _ (lent room : ℕ) where
+  -- the room is wrong where the lent bytes are not 49,152
   pub room-other : (lent ≡ all-places → ⊥) → true ≡ badRoom lent room
   unfolding badRoom
   room-other e = ap (λ (b : Bool). b || ltb room most-l) (sym (other e))
 
+  -- with 49,152 bytes lent it is wrong just where the packet buffer is under 8,192
   pub room-told : lent ≡ all-places → ltb room most-l ≡ badRoom lent room
   unfolding badRoom
   room-told e = ap (λ (b : Bool). b || ltb room most-l) (sym (same e))
@@ -38,23 +40,28 @@ module _ (lent room : ℕ) where
 -- ---- 14, then 1
 
 module _ (t : Table) (lent room : ℕ) where
+  -- a record out of range gives 14, whatever the room
   pub due-14 : badTable t ≡ true → 14 ≡ roomFault t lent room
   unfolding roomFault
   due-14 e = due 14 _ e
 
   module _ (fine : badTable t ≡ false) where
+    -- a record in range with the wrong room gives 1
     pub due-1 : badRoom lent room ≡ true → 1 ≡ roomFault t lent room
     unfolding roomFault
     due-1 e = skip 14 _ fine (due 1 _ e)
 
+    -- a record in range with the right room gives neither
     pub due-none : badRoom lent room ≡ false → 0 ≡ roomFault t lent room
     unfolding roomFault
     due-none e = skip 14 _ fine (skip 1 _ e none-due)
 
+  -- where neither 14 nor 1 is due, the record is in range
   pub fine-table : roomFault t lent room ≡ 0 → badTable t ≡ false
   unfolding roomFault
   fine-table e = clear (badTable t) 14 _ (λ z. omega arith) e
 
+  -- where neither 14 nor 1 is due, 49,152 bytes and a packet buffer of at least 8,192 are lent
   pub fine-room : roomFault t lent room ≡ 0 → (lent ≡ all-places) × (most-l ≤ room)
   unfolding roomFault
   fine-room e =
@@ -64,6 +71,7 @@ module _ (t : Table) (lent room : ℕ) where
 -- ---- a record in range
 
 module _ (t : Table) (fine : badTable t ≡ false) where
+  -- in a record in range the place to be displaced next is one of the four
   pub turn-fine : t .oldest < four
   unfolding badTable
   turn-fine = leb-false four (t .oldest) (or-left (leb four (t .oldest)) _ fine)
@@ -72,6 +80,7 @@ module _ (t : Table) (fine : badTable t ≡ false) where
   unfolding badTable
   all-fine = or-right (leb four (t .oldest)) _ fine
 
+  -- in a record in range each of the four places is in range
   pub place-fine : (i : ℕ) → i < four → badPlace (placeAt t i) ≡ false
   place-fine zero h = or-left (badPlace (placeAt t 0)) _ all-fine
   place-fine (suc zero) h = or-left (badPlace (placeAt t 1)) _ (or-right (badPlace (placeAt t 0)) _ all-fine)
@@ -86,6 +95,7 @@ module _ (t : Table) (fine : badTable t ≡ false) where
   unfolding badPlace badFigures badCode
   free-fine = refl
 
+  -- in a record of four in range, whatever index is read gives a place in range
   pub any-fine : length (t .places) ≡ four → (i : ℕ) → badPlace (placeAt t i) ≡ false
   any-fine size i =
       either (ltb i four) (λ l. place-fine i (ltb-true i four l))
@@ -102,12 +112,14 @@ module _ (t : Table) (fine : badTable t ≡ false) where
       choice true x y p q = p
       choice false x y p q = q
 
+  -- in a record in range the place that is opened is one of the four
   pub opens-below : openAt t < four
   unfolding openAt
   opens-below = first-below (λ i. eqb (placeAt t i .condition) free)
 
 -- ---- a place that was written
 
+-- one of the four places reads as it was written
 pub written-place : (t : Table) (i : ℕ) (p : Place) → length (t .places) ≡ four → i < four → placeAt (withPlace t i p) i ≡ p
 unfolding placeAt withPlace
 written-place t i p size l = getD-set-same (t .places) i p freePlace (omega (arith, size))

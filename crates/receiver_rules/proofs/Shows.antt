@@ -25,6 +25,7 @@ use Rattle.receiver_rules.specs.declared.Queried.the-variants as queried
 -- ---- one place
 
 module _ (p : Place) where
+  -- a free place is shown as free, without a number
   pub shows-free : p .condition ≡ free → seenValues seen.Free ≡ shownOf p
   unfolding seenValues shownOf
   shows-free e = rw (eq-eqb (p .condition) free e)
@@ -34,14 +35,17 @@ module _ (p : Place) where
   unfolding shownOf
   shows-held n some e = rw (ne-eqb (p .condition) free some, e)
 
+  -- an open place is shown as open, with its number
   pub shows-open : (p .condition ≡ free → ⊥) → p .condition ≡ open-now → seenValues (seen.Open (p .number)) ≡ shownOf p
   unfolding seenValues
   shows-open some e = shows-held open-now some e
 
+  -- a delivered place is shown as delivered, with its number
   pub shows-delivered : (p .condition ≡ free → ⊥) → p .condition ≡ delivered → seenValues (seen.Delivered (p .number)) ≡ shownOf p
   unfolding seenValues
   shows-delivered some e = shows-held delivered some e
 
+  -- a place in range in none of these conditions is shown as spoiled, with its number
   pub shows-spoiled : badPlace p ≡ false → (p .condition ≡ free → ⊥) → (p .condition ≡ open-now → ⊥) → (p .condition ≡ delivered → ⊥)
       → seenValues (seen.Spoiled (p .number)) ≡ shownOf p
   unfolding seenValues
@@ -53,20 +57,24 @@ module _ (p : Place) where
 -- ---- all four, and clearing
 
 module _ (t : Table) (lent : ℕ) (n : ℕ) (is-n : n ≡ roomFault t lent most-l) where
+  -- a query is refused with 14 or 1 where one is due
   pub query-refused : (n ≡ 0 → ⊥) → queriedNumber (queried.Refused n) ≡ queryCall t lent
   unfolding queriedNumber queryCall
   query-refused some = refuses n _ _ (pos-of-ne-zero some) is-n
 
+  -- where neither is due, a query shows each of the four places
   pub query-shown : n ≡ 0 → (s : Shown) → seenValues (s .first) ≡ shownOf (placeAt t 0) → seenValues (s .second) ≡ shownOf (placeAt t 1)
       → seenValues (s .third) ≡ shownOf (placeAt t 2) → seenValues (s .fourth) ≡ shownOf (placeAt t 3)
       → queriedNumber (queried.Places s) ≡ queryCall t lent
   unfolding queriedNumber queryCall
   query-shown none s e₀ e₁ e₂ e₃ = rw (e₀, e₁, e₂, e₃) (grants _ _ (sym none ∙ is-n))
 
+  -- a clearing is refused with 14 or 1 where one is due, and leaves the record
   pub clear-refused : (n ≡ 0 → ⊥) → (numberOf (written.Refused n), t) ≡ clearCall t lent
   unfolding numberOf clearCall
   clear-refused some = rw (← is-n, ne-eqb n 0 some) (ap (λ (a : Answer). (a, t)) (refuses n n _ (pos-of-ne-zero some) refl))
 
+  -- where neither is due, a clearing leaves a fresh table
   pub clear-done : n ≡ 0 → {u : Table} → u ≡ freshTable → (numberOf written.Done, u) ≡ clearCall t lent
   unfolding numberOf clearCall answered
   clear-done none e = rw (← is-n, none, e)

@@ -30,6 +30,7 @@ use Rattle.receiver_rules.proofs.Forming.{rest-part}
 -- ---- what reading the header gave
 
 module _ (own : Address) (s : List ℕ) {x : Parsed} (is-x : x ≡ parsedOf own s) where
+  -- where reading refuses the header, its number is the one of 2 to 8 that is due
   pub header-refused : {n : ℕ} → x ≡ parsed.Refused n → (n ≡ faultOf own s) × (n ≡ 0 → ⊥)
   header-refused {n} e =
       either (eqb (faultOf own s) 0)
@@ -42,6 +43,7 @@ module _ (own : Address) (s : List ℕ) {x : Parsed} (is-x : x ≡ parsedOf own 
       let same-n : n ≡ faultOf own s = cc in
       (same-n, (λ none. eqb-false _ 0 z (sym same-n ∙ none))))
 
+  -- where reading gives a header, none of 2 to 8 is due and its fields are the datagram's
   pub header-passed : {h : Header} → x ≡ parsed.Fragment h → (faultOf own s ≡ 0) × (h ≡ fieldsOf s)
   header-passed {h} e =
       either (eqb (faultOf own s) 0)
@@ -59,6 +61,7 @@ module _ (own : Address) (s : List ℕ) (passed : faultOf own s ≡ 0) {h : Head
   size-is : length s ≡ lengthOf s + h .plen
   size-is = payload-stands own s passed ∙ ap (λ (x : Header). lengthOf s + x .plen) (sym is-h)
 
+  -- the payload of a datagram that passed is no longer than the datagram
   pub payload-within : h .plen ≤ length s
   payload-within = omega (arith, size-is)
 
@@ -68,6 +71,7 @@ module _ (own : Address) (s : List ℕ) (passed : faultOf own s ≡ 0) {h : Head
       let starts : length s - h .plen ≡ lengthOf s = omega (arith, size-is) in
       rest-part (length s - h .plen) s ∙ ap (λ (n : ℕ). drop n s) starts
 
+  -- a datagram that passed has a sound header, and its last Plen bytes are a payload of that size
   pub heard : Bytes s → Heard h (take (length s - (length s - h .plen)) (drop (length s - h .plen) s))
   heard bytes =
       record {
@@ -78,11 +82,13 @@ module _ (own : Address) (s : List ℕ) (passed : faultOf own s ≡ 0) {h : Head
 -- ---- the checks in their order
 
 module _ (own : Address) (t : Table) (lent : ℕ) (s : List ℕ) (room : ℕ) {n : ℕ} (is-n : n ≡ roomFault t lent room) where
+  -- 14 or 1, where one is due, is what the datagram is refused for
   pub room-due : (n ≡ 0 → ⊥) → n ≡ receiveFault own t lent s room
   unfolding receiveFault
   room-due some = is-n ∙ due _ _ (other (λ z. some (is-n ∙ z)))
 
   module _ (none : n ≡ 0) where
+    -- with neither 14 nor 1 due, one of 2 to 8 that is due is what it is refused for
     pub header-due : {m : ℕ} → m ≡ faultOf own s → (m ≡ 0 → ⊥) → m ≡ receiveFault own t lent s room
     unfolding receiveFault
     header-due is-m some = is-m ∙ skip _ _ (same (sym is-n ∙ none)) (due _ _ (other (λ z. some (is-m ∙ z))))
@@ -121,6 +127,7 @@ module _ (own : Address) (t : Table) (b s out : List ℕ) where
           subst (λ (x : ℕ). cond (eqb x 0) (SettledAfter (keepOf t (fieldsOf s) b (payloadOf s)) out y) (y ≡ outcome (Refused x) t b out))
           (held-due own t (length b) s (length out) is-n none passed) arrives
 
+      -- a datagram that passes 14 and 1 to 8 leaves what the arrival of its fragment leaves
       pub step-arrives : (y : Outcome) {h : Header} → (faultOf own s ≡ 0) × (h ≡ fieldsOf s)
           → Arrives t h b (take (length s - (length s - h .plen)) (drop (length s - h .plen) s)) out y
           → Step own (record { table = t; bytes = b }) s out y
@@ -131,6 +138,7 @@ module _ (own : Address) (t : Table) (b s out : List ℕ) where
 
 -- ---- and the record is made anew
 
+-- a record built anew with the changed place and turn is the one that the step leaves
 pub step-changed : (own : Address) (t : Table) (b s out : List ℕ) (c : Change) {u : Table} (b′ out′ : List ℕ)
     → u ≡ withPlace (record { places = t .places; oldest = c .oldest }) (c .at) (c .place)
     → Step own (record { table = t; bytes = b }) s out (outcome (c .answer) (changed t c) b′ out′)

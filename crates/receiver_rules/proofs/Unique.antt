@@ -55,6 +55,7 @@ received-back (Damaged displaced.None) = refl
 received-back (Damaged (displaced.Number n)) = refl
 received-back (Refused n) = refl
 
+-- no two answers of `receive` have the same number and values
 pub received-one : (a b : Received) → numberOf a ≡ numberOf b → a ≡ b
 received-one a b e = sym (received-back a) ∙ ap receivedFrom e ∙ received-back b
 
@@ -102,6 +103,7 @@ shown-back p =
     let v : shownValues p ≡ seenValues (p .first) ++ v₁ = simp (append-assoc, append-nil) in
     ap shownFrom v ∙ simp (seen-back, others-back)
 
+-- no two answers of `query` have the same number and values
 pub queried-one : (a b : Queried) → queriedNumber a ≡ queriedNumber b → a ≡ b
 unfolding queriedNumber
 queried-one (queried.Places p) (queried.Places q) e =
@@ -114,6 +116,7 @@ queried-one (queried.Refused m) (queried.Refused n) e = cc
 -- ---- what is due where nothing is
 
 module _ (own : Address) (t : Table) (lent : ℕ) (datagram : List ℕ) (room : ℕ) (passed : receiveFault own t lent datagram room ≡ 0) where
+  -- a datagram that nothing is due for is not refused with 14 or 1
   pub room-passed : roomFault t lent room ≡ 0
   room-passed =
       either (eqb (roomFault t lent room) 0) (λ z. eqb-true (roomFault t lent room) 0 z)
@@ -186,11 +189,13 @@ module _ (own : Address) (s : State) (datagram out : List ℕ) where
   unfolding Step
   step-settled e step = rw (eq-eqb (dueFor own s datagram out) 0 e) at step
 
+  -- where a number is due, the outcome is that refusal with nothing changed
   pub step-refused : {y : Outcome} → (dueFor own s datagram out ≡ 0 → ⊥) → Step own s datagram out y
       → y ≡ outcome (Refused (dueFor own s datagram out)) (s .table) (s .bytes) out
   unfolding Step
   step-refused e step = rw (ne-eqb (dueFor own s datagram out) 0 e) at step
 
+  -- no two outcomes fit the promise for the same record and inputs
   pub outcome-one : (y z : Outcome) → Step own s datagram out y → Step own s datagram out z → y ≡ z
   outcome-one y z p q =
       either (eqb (dueFor own s datagram out) 0)

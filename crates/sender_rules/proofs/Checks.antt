@@ -33,16 +33,19 @@ use Rattle.sender_rules.specs.inner.Parts.{Figured}
 -- ---- the AF checks, by what was answered
 
 module _ (packet : List ℕ) where
+  -- the number with which the AF check refused is the one that is due
   pub af-refused : (n : ℕ) → calls.numberOf (checked.Refused n) ≡ checkCall packet → n ≡ afFault packet
   unfolding checkCall calls.numberOf
   af-refused n e = refused-by n (afFault packet) _ e .0
 
+  -- where the AF check took the packet, no AF number is due
   pub af-granted : (a : declared.Figures) → calls.numberOf (checked.Packet a) ≡ checkCall packet → 0 ≡ afFault packet
   unfolding checkCall calls.numberOf
   af-granted a e = granted-by (afFault packet) _ _ e .0
 
 -- ---- the settings, by what a plan was answered
 
+-- a refused plan is refused for its settings just where its number is 40
 pub refused-40 : (planned : Planned) (n : ℕ) → planned ≡ Refused n
     → (eqb n 40 ≡ true → planned ≡ Refused 40) × (eqb n 40 ≡ false → planned ≡ Refused 40 → ⊥)
 refused-40 planned n is = (
@@ -52,6 +55,7 @@ refused-40 planned n is = (
       eqb-false n 40 e same),
 )
 
+-- a plan that gave figures is not refused for its settings
 pub cut-no-40 : (planned : Planned) (p : Figures) → planned ≡ Cut p
     → (false ≡ true → planned ≡ Refused 40) × (false ≡ false → planned ≡ Refused 40 → ⊥)
 cut-no-40 planned p is = (
@@ -77,6 +81,7 @@ module _ (g : Settings) (l : ℕ) (planned : Planned) (e : numberOf planned ≡ 
       let fault : 40 ≡ planFault g l = refused-by 40 (planFault g l) _ told .0 in
       either (fit g) (λ (ok : fit g ≡ true). absurd (not-40 _ _ _ (fault ∙ sym (skip 40 _ (rw ok) refl)))) (λ bad. bad)
 
+  -- settings whose plan is answered with anything but 40 fit
   pub fit-else : (planned ≡ Refused 40 → ⊥) → fit g ≡ true
   unfolding numberOf
   fit-else is-not = either (fit g) (λ ok. ok) (λ bad. absurd (is-not (one-planned planned (Refused 40) (e ∙ sym (plan-40 g l bad)))))
@@ -94,6 +99,7 @@ first-more (t ∷ ts) us n h e = go (t .0) (first-more ts us n h) e
     go false more q = more q
 
 module _ (g : Settings) (packet : List ℕ) where
+  -- a number that is due for the packet stays due, whatever is checked behind it
   pub due-more : (n : ℕ) (rest : List (Bool × ℕ)) → 0 < n → n ≡ packetFault g packet → n ≡ first (checks g packet rest)
   unfolding packetFault
   due-more n rest h e = first-more (checks g packet []) rest n h e
@@ -107,6 +113,7 @@ module _ (g : Settings) (packet : List ℕ) where
       ap numberOf is ∙ refuses 40 _ _ (lit< tt) (due 40 _ (rw bad))
 
   module _ (ok : fit g ≡ true) where
+    -- at settings that fit, a packet that fails the AF checks is refused with their number
     pub ready-af : (n : ℕ) → n ≡ afFault packet → (n ≡ 0 → ⊥) → refused n ≡ answered (packetFault g packet) (figuresOf g (length packet))
     unfolding packetFault
     ready-af n e some =
@@ -121,6 +128,7 @@ module _ (g : Settings) (packet : List ℕ) where
         sym (skip 40 _ (rw ok) (skip 20 _ (le-ltb (length packet) least-l (bounds .0)) (skip 22 _ (le-ltb most-l (length packet) (bounds .1)) refl)))
         ∙ skip 40 _ (rw ok) (skip (afFault packet) _ (same sound) refl)
 
+    -- at settings that fit, a packet that passes the AF checks is answered as the plan of its length
     pub ready-plan : (planned : Planned) → numberOf planned ≡ planOf g (length packet) → afFault packet ≡ 0
         → numberOf planned ≡ answered (packetFault g packet) (figuresOf g (length packet))
     unfolding planOf
@@ -133,6 +141,7 @@ module _ (g : Settings) (packet : List ℕ) where
       let both = granted-by (packetFault g packet) _ _ e in
       record { values = both .1; passed = sym (both .0) }
 
+  -- a refusal in place of the figures has the packet's number, which is not 0
   pub unready : (n : ℕ) → numberOf (Refused n) ≡ answered (packetFault g packet) (figuresOf g (length packet)) → (n ≡ packetFault g packet) × (0 < n)
   unfolding numberOf
   unready n e = refused-by n (packetFault g packet) _ e
@@ -154,6 +163,7 @@ module _ (g : Settings) (packet : List ℕ) where
     unfolding packetFault many unsound
     checked-rest = clear-rest (not (fit g)) 40 unsound (λ (e : 40 ≡ 0). omega arith) passed
 
+    -- a packet that is not refused passes the AF checks
     pub sound : afFault packet ≡ 0
     unfolding unsound
     sound = either (eqb (afFault packet) 0) (λ e. eqb-true (afFault packet) 0 e) (λ e. due (afFault packet) many (rw e) ∙ checked-rest)
@@ -163,9 +173,11 @@ module _ (g : Settings) (packet : List ℕ) where
     few = ltb-false most-f (f g (length packet)) (clear _ 41 [] (λ (e : 41 ≡ 0). omega arith) (skip (afFault packet) many (same sound) refl
         ∙ checked-rest))
 
+    -- the length of a packet that is not refused has a plan that is not refused
     pub taken : planFault g (length packet) ≡ 0
     taken = same-fault ok sound ∙ passed
 
+    -- a packet that is not refused has fit settings, 12 to 8,192 bytes and at most 256 fragments
     pub in-bounds : Within g (length packet)
     in-bounds = within g (length packet) taken
 

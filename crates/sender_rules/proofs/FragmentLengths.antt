@@ -24,32 +24,39 @@ use Rattle.sender_rules.proofs.Checks.{in-bounds}
 module _ (g : Settings) (packet : List ℕ) where
   -- ---- one fragment
 
+  -- the header of each fragment has h bytes
   pub header-size : (number i : ℕ) → length (headerBytes (headerFor g number packet i)) ≡ h g
   unfolding headerFor h
   header-size number i = header-lengths (headerFor g number packet i)
 
+  -- a fragment has h bytes and those of its payload
   pub fragment-size : (number i : ℕ) → length (fragmentFor g number packet i) ≡ h g + length (payloadFor g packet i)
   unfolding fragmentFor
   fragment-size number i =
       length-append (headerBytes (headerFor g number packet i)) (payloadFor g packet i)
       ∙ ap (λ (x : ℕ). x + length (payloadFor g packet i)) (header-size number i)
 
+  -- with FEC the payload of fragment i is its share of the block
   pub payload-fec : g .fec ≡ true → (i : ℕ) → payloadFor g packet i ≡ fragmentOf (blockFor packet) (f g (length packet)) (s g (length packet)) i
   unfolding payloadFor
   payload-fec e i = rw e
 
+  -- without FEC the payload of fragment i is its part of the packet
   pub payload-plain : g .fec ≡ false → (i : ℕ) → payloadFor g packet i ≡ partOf packet (s g (length packet)) i
   unfolding payloadFor
   payload-plain e i = rw e
 
+  -- with FEC each payload has s bytes
   pub size-fec : g .fec ≡ true → (i : ℕ) → length (payloadFor g packet i) ≡ s g (length packet)
   size-fec e i = ap length (payload-fec e i) ∙ length-fragment (blockFor packet) (f g (length packet)) (s g (length packet)) i
 
+  -- without FEC a payload has s bytes, or what is left of the packet where that is less
   pub size-plain : g .fec ≡ false → (i : ℕ) → length (payloadFor g packet i) ≡ min (s g (length packet)) (length packet - i * s g (length packet))
   size-plain e i = ap length (payload-plain e i) ∙ length-part packet (s g (length packet)) i
 
   -- ---- one behind the other
 
+  -- a run of no fragments is empty
   pub from-none : (number : ℕ) → fragmentsFrom g number packet 0 0 ≡ []
   unfolding fragmentsFrom
   from-none number = refl
@@ -77,15 +84,18 @@ module _ (g : Settings) (packet : List ℕ) where
   -- ---- of a packet that is not refused
 
   module _ (passed : packetFault g packet ≡ 0) where
+    -- the figures of a packet that is not refused fit: f s bytes hold all that is cut, within a place
     pub sure : Sized g (length packet)
     sure = bearing.sized g (length packet) (in-bounds g packet passed)
 
+    -- a packet that is not refused has at least one fragment
     pub f-some : 0 < f g (length packet)
     f-some = bearing.f-some g (length packet) (in-bounds g packet passed)
 
     pub s-some : 0 < s g (length packet)
     s-some = bearing.s-some g (length packet) (in-bounds g packet passed)
 
+    -- the s bytes of a fragment fit a place
     pub s-placed : s g (length packet) ≤ place
     s-placed = omega (arith, le-mul-of-pos-right (s g (length packet)) f-some, sure .placed)
 
@@ -95,6 +105,7 @@ module _ (g : Settings) (packet : List ℕ) where
         let far : i * s g (length packet) ≤ (f g (length packet) - 1) * s g (length packet) = mul-le-mul-right (s g (length packet)) (omega arith) in
         omega (arith, far, sure .last-held)
 
+    -- without FEC each payload before the last has s bytes
     pub full-plain : g .fec ≡ false → (i : ℕ) → suc i < f g (length packet) → length (payloadFor g packet i) ≡ s g (length packet)
     full-plain plain i less =
         let next : suc i * s g (length packet) < L g (length packet) = starts (suc i) less in
@@ -103,9 +114,11 @@ module _ (g : Settings) (packet : List ℕ) where
     pub full : (i : ℕ) → suc i < f g (length packet) → length (payloadFor g packet i) ≡ s g (length packet)
     full i less = either (g .fec) (λ e. size-fec e i) (λ e. full-plain e i less)
 
+    -- no payload has more than s bytes
     pub size-most : (i : ℕ) → length (payloadFor g packet i) ≤ s g (length packet)
     size-most i = either (g .fec) (λ e. omega (arith, size-fec e i)) (λ e. omega (arith, size-plain e i))
 
+    -- the payload of a fragment below f is not empty
     pub size-some : (i : ℕ) → i < f g (length packet) → 0 < length (payloadFor g packet i)
     size-some i less =
         either (g .fec) (λ e. omega (arith, size-fec e i, s-some))

@@ -28,6 +28,7 @@ module _ (g : Settings) (number : ℕ) (packet : List ℕ) (i : ℕ) (passed : p
   z-most : z (length packet) ≤ most-k
   z-most = let bound = sure g packet passed in omega (arith, bound .z-less, bound .k-most)
 
+  -- where Pseq, Source and Dest fit two bytes, each field of a sent header fits its bytes
   pub header-written : number < 65536 → Fitting (g .address) → Written (headerFor g number packet i)
   unfolding headerFor
   header-written small fitting =
@@ -57,6 +58,7 @@ module _ (g : Settings) (number : ℕ) (packet : List ℕ) (i : ℕ) (passed : p
       let bytes : f g l * length (payloadFor g packet i) ≡ f g l * s g l = ap (λ (x : ℕ). f g l * x) (size-fec g packet fec i) in
       omega (arith, once, bytes, L-fec g l fec, sure g packet passed .all-held)
 
+  -- where Pseq, Source and Dest fit two bytes, the header of each fragment that is sent is sound
   pub header-sound : number < 65536 → Fitting (g .address) → Sound (headerFor g number packet i)
   unfolding headerFor
   header-sound small fitting =

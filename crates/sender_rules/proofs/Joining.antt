@@ -20,6 +20,7 @@ use Rattle.sender_rules.proofs.FragmentLengths.{payload-fec, payload-pl
 module _ (g : Settings) (packet : List ℕ) where
   -- ---- with FEC
 
+  -- with FEC byte q of the block stands in payload q mod f, at q div f
   pub joined : packetFault g packet ≡ 0 → g .fec ≡ true → (q : ℕ) → q < c (length packet) * n (length packet)
       → getD (payloadFor g packet (q % f g (length packet))) (q / f g (length packet)) 0 ≡ getD (blockFor packet) q 0
   joined passed fec q less =
@@ -44,6 +45,7 @@ module _ (g : Settings) (packet : List ℕ) where
         ∙ sym (take-add w (t * w) start)
         ∙ ap (λ (x : ℕ). take x start) (sym more)
 
+    -- without FEC the payloads one behind the other are the packet
     pub joined-plain : packetFault g packet ≡ 0 → payloadsFrom g packet 0 (f g (length packet)) ≡ packet
     joined-plain passed =
         let l : ℕ = length packet in

@@ -98,6 +98,7 @@ module _ (g : Settings) (packet : List ℕ) (p : Figures) (d : Figured g packet 
         (skip 8 _ size-fine (skip 8 _ place-fine (skip 8 _ misfit-fine (skip 1 _ (le-ltb (length out) cells (omega (arith, block-fits))) none-due))))
         (e ∙ ap₂ (λ (x w : ℕ). encodeCall packet x w out) (k-fec g packet p d fec) (c-fec g packet p d fec))
 
+    -- with a place's bytes lent, the first L bytes that encoding leaves are the packet's block
     pub block-laid : (out y : List ℕ) (a : Answer) → place ≤ length out → outcome a y ≡ encodeCall packet (p .k) (p .c) out
         → take (L g (length packet)) y ≡ blockFor packet
     block-laid out y a room e =
@@ -117,6 +118,7 @@ module _ (g : Settings) (packet : List ℕ) (p : Figures) (d : Figured g packet 
     unfolding tooMuch
     much-fine = le-ltb place (f g (length packet) * s g (length packet)) (sure g packet (d .passed) .placed)
 
+    -- with FEC, interleaving the block into a buffer with room lays payload i at its front
     pub interleaved : (block out y : List ℕ) (a : Answer) (i : ℕ) → block ≡ blockFor packet → i < f g (length packet)
         → length (payloadFor g packet i) ≤ length out → outcome a y ≡ interleaveOf block (p .f) (p .s) i out
         → y ≡ splice out 0 (payloadFor g packet i)
@@ -146,6 +148,7 @@ module _ (g : Settings) (packet : List ℕ) (p : Figures) (d : Figured g packet 
       ∙ take-length (take t cut)
       ∙ sym (payload-plain g packet plain i)
 
+  -- without FEC, copying the packet's bytes from i s on into a buffer with room lays payload i at its front
   pub copied : (out y : List ℕ) (a : Answer) (i size : ℕ) → g .fec ≡ false → size ≡ length (payloadFor g packet i)
       → length (payloadFor g packet i) ≤ length out → outcome a y ≡ putOf out 0 (take (i * p .s + size - i * p .s) (drop (i * p .s) packet))
       → y ≡ splice out 0 (payloadFor g packet i)
@@ -171,12 +174,15 @@ module _ (g : Settings) (packet : List ℕ) (p : Figures) (d : Figured g packet 
     same-room : length x ≡ length out
     same-room = ap length header-laid ∙ splice-length out 0 (headerBytes (headerFor g number packet i)) (omega (arith, header-fits))
 
+    -- the buffer with the header in it has at least h bytes
     pub behind-header : p .h ≤ length x
     behind-header = omega (arith, is-h g packet p d, same-room, fragment-size g packet number i)
 
+    -- the part of it behind the header has room for the payload
     pub room-behind : length (payloadFor g packet i) ≤ length (take (length x - p .h) (drop (p .h) x))
     room-behind = omega (arith, is-h g packet p d, same-room, fragment-size g packet number i, length-lent x (p .h))
 
+    -- with the payload laid into that part, the whole fragment stands at the front of the buffer
     pub fragment-laid : (y : List ℕ) → y ≡ splice (take (length x - p .h) (drop (p .h) x)) 0 (payloadFor g packet i)
         → take (p .h) x ++ (y ++ drop (length x - p .h) (drop (p .h) x)) ≡ splice out 0 (fragmentFor g number packet i)
     unfolding fragmentFor

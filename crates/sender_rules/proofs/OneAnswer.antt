@@ -10,6 +10,7 @@ use Rattle.sender_rules.specs.declared.Split.{Split}
 use Rattle.sender_rules.specs.declared.SentAll.{SentAll}
 use Rattle.sender_rules.specs.declared.SentAll.the-variants as all
 
+-- no two answers about one fragment have the same number and values
 pub sent-one : (a b : Sent) → sentNumber a ≡ sentNumber b → a ≡ b
 unfolding sentNumber
 sent-one (sent.Fragment m) (sent.Fragment n) e = cc
@@ -28,6 +29,7 @@ read-back : (p : Split) → splitFrom (splitValues p) ≡ p
 unfolding splitFrom splitValues
 read-back p = refl
 
+-- no two answers about all fragments have the same number and values
 pub all-one : (a b : SentAll) → allNumber a ≡ allNumber b → a ≡ b
 unfolding allNumber splitValues
 all-one (all.Fragments p) (all.Fragments q) e =

@@ -19,10 +19,12 @@ use Rattle.sender_rules.proofs.Checks.{in-bounds}
 use Rattle.sender_rules.proofs.FragmentLengths.{fragment-size, whole-size, sure, s-placed}
 use Rattle.sender_rules.proofs.FragmentLengths as lengths
 
+-- with FEC a figure of the code stays as it is
 pub with-fec : (g : Settings) (x : ℕ) → g .fec ≡ true → withFec g x ≡ x
 unfolding withFec
 with-fec g x e = rw e
 
+-- a figure of the code within a bound stays within it, with FEC and without
 pub with-most : (g : Settings) (x most : ℕ) → x ≤ most → withFec g x ≤ most
 unfolding withFec
 with-most g x most le = either (g .fec) (λ e. rw e le) (λ e. rw e (omega arith))
@@ -40,6 +42,7 @@ module _ (g : Settings) (packet : List ℕ) (p : Figures) (d : Figured g packet 
   unfolding valuesOf figuresOf
   is-z = cc (d .values)
 
+  -- the planned h is the header's length at the settings
   pub is-h : p .h ≡ h g
   unfolding valuesOf figuresOf
   is-h = cc (d .values)
@@ -48,10 +51,12 @@ module _ (g : Settings) (packet : List ℕ) (p : Figures) (d : Figured g packet 
   unfolding valuesOf figuresOf
   is-total = cc (d .values)
 
+  -- the planned f is the count of the packet's fragments
   pub is-f : p .f ≡ f g (length packet)
   unfolding valuesOf figuresOf
   is-f = cc (d .values)
 
+  -- the planned s is that of the packet's cut
   pub is-s : p .s ≡ s g (length packet)
   unfolding valuesOf figuresOf
   is-s = cc (d .values)
@@ -64,6 +69,7 @@ module _ (g : Settings) (packet : List ℕ) (p : Figures) (d : Figured g packet 
   pub c-fec : g .fec ≡ true → p .c ≡ c (length packet)
   c-fec e = is-c ∙ with-fec g _ e
 
+  -- with FEC the planned k is the data bytes of a chunk
   pub k-fec : g .fec ≡ true → p .k ≡ k (length packet)
   k-fec e = is-k ∙ with-fec g _ e
 
@@ -75,6 +81,7 @@ module _ (g : Settings) (packet : List ℕ) (p : Figures) (d : Figured g packet 
         omega (arith, is-z, with-most g (z (length packet)) most-k (omega (arith, bound .z-less, bound .k-most))),
       )
 
+  -- the planned f is at most 256
   pub f-most : p .f ≤ most-f
   f-most = omega (arith, is-f, in-bounds g packet (d .passed) .few)
 
@@ -91,9 +98,11 @@ module _ (g : Settings) (packet : List ℕ) (p : Figures) (d : Figured g packet 
       let fine = fitted g (in-bounds g packet (d .passed) .ok) in
       omega (arith, is-h, fine .room, fine .mtu-most)
 
+  -- the planned s is within a place
   pub s-most : p .s ≤ place
   s-most = omega (arith, is-s, s-placed g packet (d .passed))
 
+  -- the bytes that are planned to be cut are within a place
   pub total-most : p .total ≤ place
   total-most =
       let bound = sure g packet (d .passed) in
@@ -103,6 +112,7 @@ module _ (g : Settings) (packet : List ℕ) (p : Figures) (d : Figured g packet 
   pub step-is : p .h + p .s ≡ h g + s g (length packet)
   step-is = ap₂ (λ (x y : ℕ). x + y) is-h is-s
 
+  -- where a fragment starts among all is at most 256 x (16,384 + 12,288)
   pub starts-most : (i : ℕ) → i ≤ p .f → i * (p .h + p .s) ≤ most-f * (most-mtu + place)
   starts-most i le =
       let few : i ≤ most-f = omega (arith, f-most) in
@@ -122,14 +132,17 @@ module _ (g : Settings) (packet : List ℕ) (p : Figures) (d : Figured g packet 
     last-is : plen ≡ length (payloadFor g packet (f g (length packet) - 1))
     last-is = is-plen ∙ ap (λ (x : ℕ). length (payloadFor g packet (x - 1))) is-f
 
+    -- f - 1 fragments of h + s bytes and the last of h + Plen are as long as all fragments together
     pub whole-is : (number : ℕ) → (p .f - 1) * (p .h + p .s) + (p .h + plen) ≡ length (fragmentsFor g number packet)
     whole-is number =
         ap₂ (λ (x y : ℕ). x + y) (ap₂ (λ (x y : ℕ). (x - 1) * y) is-f step-is) (ap₂ (λ (x y : ℕ). x + y) is-h last-is)
         ∙ sym (whole-size g packet (d .passed) number)
 
+    -- the planned f, h and s, and the last Plen, are the values that all fragments are answered with
     pub split-is : p .f ∷ p .h ∷ p .s ∷ plen ∷ []
         ≡ f g (length packet) ∷ h g ∷ s g (length packet) ∷ length (payloadFor g packet (f g (length packet) - 1)) ∷ []
     split-is = cc (is-f, is-h, is-s, last-is)
 
+  -- the planned f is at least 1
   pub f-some : 0 < p .f
   f-some = omega (arith, is-f, lengths.f-some g packet (d .passed))

@@ -17,6 +17,7 @@ sizes g packet passed =
       last = λ plain. last-plain g packet plain passed;
     }
 
+-- each fragment sent passes the checks 2 to 8 where its address is accepted, and reads as it was meant
 pub received : Received
 unfolding fragmentFor headerFor
 received g number packet i own passed small fitting less owned = (

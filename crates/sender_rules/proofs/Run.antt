@@ -16,9 +16,11 @@ use Rattle.sender_rules.proofs.Laying.{part-lent, length-lent}
 use Rattle.sender_rules.proofs.PlannedFigures.{is-f, step-is}
 
 module _ (g : Settings) (packet : List ℕ) (p : Figures) (d : Figured g packet p) (number : ℕ) (out : List ℕ) where
+  -- before the first fragment the buffer is as it was lent
   pub run-none : out ≡ splice out 0 (fragmentsFrom g number packet 0 0)
   run-none = splice-none out 0 ∙ ap (splice out 0) (sym (from-none g packet number))
 
+  -- once f fragments are laid, the buffer begins with all fragments of the packet
   pub run-whole : (i : ℕ) (x : List ℕ) → i ≤ p .f → p .f ≤ i → x ≡ splice out 0 (fragmentsFrom g number packet 0 i)
       → x ≡ splice out 0 (fragmentsFor g number packet)
   unfolding fragmentsFor
@@ -27,6 +29,7 @@ module _ (g : Settings) (packet : List ℕ) (p : Figures) (d : Figured g packet 
       e ∙ ap (λ (t : ℕ). splice out 0 (fragmentsFrom g number packet 0 t)) all
 
   module _ (room : length (fragmentsFor g number packet) ≤ length out) where
+    -- with room for all fragments, the buffer that begins with them is as long as the one lent
     pub whole-length : (x : List ℕ) → x ≡ splice out 0 (fragmentsFor g number packet) → length x ≡ length out
     whole-length x e = ap length e ∙ splice-length out 0 (fragmentsFor g number packet) (omega arith)
 
@@ -47,12 +50,15 @@ module _ (g : Settings) (packet : List ℕ) (p : Figures) (d : Figured g packet 
       run-length : length x ≡ length out
       run-length = ap length is-x ∙ splice-length out 0 (fragmentsFrom g number packet 0 i) (omega (arith, before, fits))
 
+      -- with room for all fragments, fragment i starts no later than the buffer ends
       pub run-start : at ≤ length x
       run-start = omega (arith, run-length, fits)
 
+      -- with room for all fragments, the rest of the buffer from its start on has room for fragment i
       pub run-room : length (fragmentFor g number packet i) ≤ length (take (length x - at) (drop at x))
       run-room = omega (arith, run-length, fits, length-lent x at)
 
+      -- fragment i laid right behind the i before it makes i + 1
       pub run-more : (y : List ℕ) → y ≡ splice (take (length x - at) (drop at x)) 0 (fragmentFor g number packet i)
           → take at x ++ (y ++ drop (length x - at) (drop at x)) ≡ splice out 0 (fragmentsFrom g number packet 0 (i + 1))
       run-more y e =

@@ -43,6 +43,7 @@ module _ (s : List ℕ) (end : ℕ) where
   pads zero at h = step-by at (λ b l. absurd (omega arith)) (stepIn s at end) refl
   pads (suc f) at h = step-by at (λ b l. pads f b (omega arith)) (stepIn s at end) refl
 
+-- a packet that is not refused ends with END, and 7 or fewer bytes are its padding
 pub ends : Ends
 unfolding checkOf
 ends s q = pads s (length s) (length s - 0) 0 (le-refl _) [] q

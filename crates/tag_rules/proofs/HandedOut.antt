@@ -17,6 +17,7 @@ use Rattle.tag_rules.proofs.Reading.{after-is}
 
 -- a step that does not move the reader is its last: it stays,
 module _ (s : List ℕ) (at refusal : ℕ) (stuck : afterOf s at refusal ≡ at) where
+  -- after any number of steps it stands where it stood
   pub stays : (n : ℕ) → standsAfter n s at refusal ≡ at
   unfolding standsAfter
   stays zero = refl
@@ -53,5 +54,6 @@ module _ (s : List ℕ) where
   hands (suc n) zero at h = absurd (not-suc-le-zero h)
   hands (suc n) (suc m) at h = step-by n m at (le-of-suc-le-suc h) (λ b. hands n (suc m) b (omega arith)) (stepIn s at (length s)) refl
 
+  -- its first n steps are the items from there on, and then END or the refusal again and again
   pub hands-run : (n at : ℕ) → Hands n n at
   hands-run n at = hands n n at (le-refl n)

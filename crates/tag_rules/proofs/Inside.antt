@@ -49,6 +49,7 @@ standing-by true true found.Nothing found.Nothing n m i q = absurd (zero-one (cc
 standing-by true false f g n m i q = absurd (zero-one (cc))
 standing-by false b′ f g n m i q = absurd (zero-one (cc))
 
+-- an item that is found lies in the packet that it was found in, and its value is shown whole
 pub found-in : FoundShown
 unfolding locateOf
 found-in s t name i =

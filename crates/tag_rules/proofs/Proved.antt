@@ -65,6 +65,7 @@ opens-by zero (opened.Refused m) e = (refl, cc)
 opens-by (suc n) (opened.At at) e = (cc, cc)
 opens-by (suc n) (opened.Refused m) e = (refl, cc)
 
+-- whatever answer fits, a reader begins at 0 and keeps the number that the check says
 pub opens : Opens
 unfolding openCall
 opens s o e = opens-by (checkOf s) o e

@@ -21,6 +21,7 @@ stands-by : (b : Bool) (here : Step) (refusal : ℕ) (i : Item) → cond b here 
 stands-by true here refusal i e = e
 stands-by false here refusal i e = absurd (zero-one (cc))
 
+-- an item that is handed out is the one that stands where the reader is
 pub handed-stands : (s : List ℕ) (at refusal : ℕ) (i : Item) → readOf s at refusal ≡ step.Item i → stepIn s at (length s) ≡ step.Item i
 unfolding readOf
 handed-stands s at refusal i e = stands-by (eqb refusal 0) (stepIn s at (length s)) refusal i e
@@ -41,5 +42,6 @@ pub refused-reads : (s : List ℕ) (at refusal : ℕ) → (refusal ≡ 0 → ⊥
 unfolding readOf
 refused-reads s at refusal h = simp (ne-eqb refusal 0 h)
 
+-- a refused reader stays where it is
 pub refused-after : (s : List ℕ) (at refusal : ℕ) → (refusal ≡ 0 → ⊥) → afterOf s at refusal ≡ at
 refused-after s at refusal h = sym (after-is s at refusal (step.Refused refusal) (refused-reads s at refusal h))

@@ -18,6 +18,7 @@ pub letter-low : {x : ℕ} → x < 10 → letterOf x ≡ 48 + x
 unfolding letterOf
 letter-low {x} h = simp (lt-ltb x 10 h)
 
+-- from 10 on a digit is a letter, beginning with `a`
 pub letter-high : {x : ℕ} → 10 ≤ x → letterOf x ≡ 87 + x
 unfolding letterOf
 letter-high {x} h = simp (le-ltb x 10 h)
@@ -43,10 +44,12 @@ enough (suc n) (suc m) x h k =
     ∙ sym (few-more m x more))
     (λ one. few-one n x one ∙ sym (few-one m x one))
 
+-- a number below 10 is written as one digit
 pub decimal-one : (x : ℕ) → x < 10 → decimalOf x ≡ letterOf x ∷ []
 unfolding decimalOf
 decimal-one x h = few-one x x h
 
+-- a number of 10 or more is written as the digits of its tenth, and then its last digit
 pub decimal-more : (x : ℕ) → 10 ≤ x → decimalOf x ≡ decimalOf (x / 10) ++ (letterOf (x % 10) ∷ [])
 unfolding decimalOf
 decimal-more x h =
@@ -70,6 +73,7 @@ number-one : (x y : ℕ) → y < 10 → numberFrom x (letterOf y ∷ []) ≡ x *
 unfolding numberFrom
 number-one x y h = omega (arith, letter-low h)
 
+-- the decimal digits of a number are read back as that number
 pub decimal-back : (x : ℕ) → numberFrom 0 (decimalOf x) ≡ x
 decimal-back =
     by-tenths (λ x. numberFrom 0 (decimalOf x) ≡ x)
@@ -88,6 +92,7 @@ some =
     (λ x h. rw (decimal-one x h) (lit< tt))
     (λ x h ih. omega (arith, ap length (decimal-more x h), length-append (decimalOf (x / 10)) (letterOf (x % 10) ∷ [])))
 
+-- no number above 0 is written with a `0` in front
 pub decimal-front : (x : ℕ) → 0 < x → 48 < getD (decimalOf x) 0 0
 decimal-front =
     by-tenths (λ x. 0 < x → 48 < getD (decimalOf x) 0 0)
@@ -104,6 +109,7 @@ digit-back x =
     (λ h. let e : letterOf x ≡ 87 + x = letter-high h in rw e (simp (le-ltb (87 + x) 97 (omega arith)) (omega arith)))
     (λ h. let e : letterOf x ≡ 48 + x = letter-low h in rw e (simp (lt-ltb (48 + x) 97 (omega arith)) (omega arith)))
 
+-- bytes in hex are read back as those bytes
 pub hex-back : (s : List ℕ) → bytesIn (hexOf s) ≡ s
 unfolding bytesIn hexOf
 hex-back [] = refl
@@ -121,6 +127,7 @@ pub hex-none : [] ≡ hexOf []
 unfolding hexOf
 hex-none = refl
 
+-- the first i bytes in hex, and byte i behind them, are the first i + 1 in hex
 pub hex-next : (s : List ℕ) (i : ℕ) → i < length s → hexOf (take i s) ++ hexOf (getD s i 0 ∷ []) ≡ hexOf (take (i + 1) s)
 hex-next s i h =
     sym (hex-append (take i s) (getD s i 0 ∷ []))

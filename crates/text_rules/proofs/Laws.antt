@@ -52,6 +52,7 @@ module _ (d : List ℕ) (at : ℕ) (t : List ℕ) where
       let none : length d - at ≡ 0 = omega arith in
       ap (λ (n : ℕ). splice d at (take n t)) none ∙ sym (splice-none d at)
 
+  -- from the end on the place behind a text is where it began
   pub behind-past : length d ≤ at → behind d at t ≡ at
   unfolding behind
   behind-past h = omega (arith, min-le-right (length t) (length d - at))
@@ -89,6 +90,7 @@ module _ (d : List ℕ) (at : ℕ) (t : List ℕ) where
       (λ h. splice-front d at (take (length d - at) t) (fitting h))
       (λ h. ap (take at) (laid-past (omega arith)))
 
+  -- what is behind a text that was laid down stays as it was
   pub laid-behind : drop (behind d at t) (laid d at t) ≡ drop (behind d at t) d
   unfolding laid behind
   laid-behind =
@@ -167,6 +169,7 @@ lays-same d at same w = (w .0 ∙ ap (behind d at) same, w .1 ∙ ap (laid d at)
 pub lays-none : (d : List ℕ) (at : ℕ) → Lays d at [] at d
 lays-none d at = (sym (behind-none d at), sym (laid-none d at))
 
+-- where a second writer goes on where the first stopped, the two leave both texts as one
 pub lays-more : (d : List ℕ) (at : ℕ) (t u : List ℕ) {r q : ℕ} {e f : List ℕ} → Lays d at t r e → Lays e r u q f → Lays d at (t ++ u) q f
 lays-more d at t u w v =
     let to = ap₂ (λ (l : List ℕ) (x : ℕ). behind l x u) (w .1) (w .0) ∙ behind-more d at t u in

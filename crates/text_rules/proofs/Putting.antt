@@ -25,6 +25,7 @@ module _ (d t : List ℕ) (at n : ℕ) (fit : n ≡ min (length t) (length d - a
       (λ h. take-all n t (omega (arith, min-eq-left h)) ∙ sym (take-all (length d - at) t h))
       (λ h. ap (λ (x : ℕ). take x t) (fit ∙ min-eq-right (omega arith)))
 
+  -- the copy of as much of a text as fits, from a place in the buffer, lays the text down
   pub put-lays : (y : List ℕ) (r : Written) → at ≤ length d → outcome (numberOf r) y ≡ putOf d at (take n t) → Lays d at t (at + n) y
   unfolding laid behind
   put-lays y r inside e =

@@ -29,6 +29,7 @@ same-item i j n b f l =
 same-visit : (v w : Visit) → v .depth ≡ w .depth → v .item ≡ w .item → v ≡ w
 same-visit v w d i = ap (λ (x : ℕ). record { depth = x; item = v .item }) d ∙ ap (λ (x : Item). record { depth = w .depth; item = x }) i
 
+-- no two things that a step hands out have the same number and values
 pub number-tells : (a b : Handed) → handedNumber a ≡ handedNumber b → a ≡ b
 unfolding handedNumber countOf valueOf
 number-tells (handed.Item v) (handed.Item w) e =

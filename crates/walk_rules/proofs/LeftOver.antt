@@ -41,6 +41,7 @@ then-assoc (stops n) u v = unless-then n u v
 
 -- what is left of a walk at `at`, at depth d, where the packets of the depths end at es
 module _ (s cs : List ℕ) where
+  -- the packet of depth d from `at` on, and then each that it stands in, from the inner one's end on
   unfoldable pub restOf : ℕ → ℕ → List ℕ → Tour
   restOf zero at es = plainAt deepest s cs 0 (runOf s at (endOf s es 0))
   restOf (suc d) at es = andThen (plainAt (deepest - suc d) s cs (suc d) (runOf s at (endOf s es (suc d)))) (restOf d (endOf s es (suc d)) es)
@@ -96,6 +97,7 @@ module _ (s cs : List ℕ) where
     unfolding endOf
     end-here l h = ap (λ (n : ℕ). min n (length s)) (getD-set-same es (suc d) (nextOf i) 0 (rw l (omega arith))) ∙ (let w = within in omega arith)
 
+    -- at a container above the deepest level: the item, and then the walk from its value on, one deeper
     pub rest-into : length es ≡ deepest + 1 → d < deepest → among (i .name) cs ≡ true
         → restOf d at es ≡ visit d i (restOf (d + 1) (i .from) (set es (d + 1) (nextOf i)))
     unfolding restOf contentsOf
@@ -112,6 +114,7 @@ module _ (s cs : List ℕ) where
         ∙ ap (λ (x : ℕ). visit d i (andThen (plainAt (deepest - suc d) s cs (suc d) (runOf s (i .from) x)) (restOf d x es′))) (sym (end-here l h))
         ∙ ap (λ (n : ℕ). visit d i (restOf n (i .from) (set es n (nextOf i)))) (sym (add-one d))
 
+    -- at an item that is no container: the item, and then the walk behind it
     pub rest-behind : among (i .name) cs ≡ false → restOf d at es ≡ visit d i (restOf d (nextOf i) es)
     unfolding contentsOf andThen
     rest-behind a = rest-visit ∙ ap (visit d i) (none (deepest - d))
@@ -120,6 +123,7 @@ module _ (s cs : List ℕ) where
         none zero = refl
         none (suc k) = simp a
 
+    -- at any item on the deepest level: the item, and then the walk behind it
     pub rest-deepest : deepest ≤ d → restOf d at es ≡ visit d i (restOf d (nextOf i) es)
     unfolding contentsOf andThen
     rest-deepest h = rest-visit ∙ ap (λ (k : ℕ). visit d i (andThen (contentsOf s cs k d i) (restOf d (nextOf i) es)))
@@ -127,10 +131,12 @@ module _ (s cs : List ℕ) where
 
   -- where the packet at d ends: the outer one's end is the walk's, behind an inner one the walk above goes on
   module _ (at : ℕ) (es : List ℕ) where
+    -- at the outer packet's padding: only the end, with that padding
     pub rest-end : (p : Bytes) → stepIn s at (endOf s es 0) ≡ step.End p → restOf 0 at es ≡ ends (p .0)
     unfolding restOf
     rest-end p e = ap (plainAt deepest s cs 0) (run-end s at (endOf s es 0) p e) ∙ plain-end s cs deepest 0 (p .0)
 
+    -- at an inner packet's padding: what is left one level up, from the inner packet's end on
     pub rest-up : (d : ℕ) (p : Bytes) → stepIn s at (endOf s es (suc d)) ≡ step.End p → restOf (suc d) at es ≡ restOf d (endOf s es (suc d)) es
     unfolding restOf andThen
     rest-up d p e =
@@ -143,6 +149,7 @@ module _ (s cs : List ℕ) where
     above-stops zero = refl
     above-stops (suc d) = refl
 
+    -- where an item is refused, so is what is left of the walk
     pub rest-refused : (d n : ℕ) → stepIn s at (endOf s es d) ≡ step.Refused n → refusal (restOf d at es) ≡ 0 → ⊥
     rest-refused d n e q =
         eqb-false 30 0 refl

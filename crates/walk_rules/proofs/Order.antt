@@ -183,6 +183,7 @@ opens-stands : (s l : List ℕ) → refusal (walkOf s l) ≡ 0 → Stands s (nam
 unfolding opens
 opens-stands s l z = record { sized = refl; deep = omega arith; open-still = z; sound = sym (ap refusal (opens-whole s l z)) ∙ z }
 
+-- from its opening on, n steps hand out what is due of the whole walk: its items and its end, or its refusal
 pub ordered : (s l : List ℕ) (n : ℕ) → handsOut n s l (opens s l) ≡ due n (walkOf s l)
 unfolding due opens
 ordered s l n =

@@ -35,16 +35,19 @@ module _ (s cs : List ℕ) where
   same true t = refl
   same false t = refl
 
+  -- from an item on: that item, its contents, and then the walk of what is behind it
   pub plain-item : (k d : ℕ) (i : Item) (r : Run) → plainAt k s cs d (item i r) ≡ visit d i (andThen (contentsOf k d i) (plainAt k s cs d r))
   unfolding plainAt plainBy contentsOf
   plain-item zero d i r = ap (λ (t : Tour). visit d i (andThen t (plainBy (λ i. ends 0) cs d r))) (same (among (i .name) cs) (ends 0))
   plain-item (suc k) d i r = refl
 
+  -- from padding on: only the end, with that padding
   pub plain-end : (k d p : ℕ) → plainAt k s cs d (padding p) ≡ ends p
   unfolding plainAt plainBy
   plain-end zero d p = refl
   plain-end (suc k) d p = refl
 
+  -- from a refused item on: only that refusal
   pub plain-refused : (k d n : ℕ) → plainAt k s cs d (refused n) ≡ stops n
   unfolding plainAt plainBy
   plain-refused zero d n = refl
@@ -118,6 +121,7 @@ module _ (s cs : List ℕ) where
   next-level : (d k : ℕ) → d + suc k ≡ deepest → d + 1 + k ≡ deepest
   next-level d k h = omega arith
 
+  -- a walk that is not refused is the one with no fault looked for
   pub plain : (k d : ℕ) (seen : List ℕ) (r : Run) → d + k ≡ deepest → refusal (tourAt (suc k) s cs d seen r) ≡ 0
       → tourAt (suc k) s cs d seen r ≡ plainAt k s cs d r
   unfolding tourAt plainAt andThen

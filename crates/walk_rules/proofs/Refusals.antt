@@ -31,6 +31,7 @@ then-refusal (halts n) u = go (eqb n 0)
     go true = refl
     go false = refl
 
+-- a walk with a test before it is refused with the test's number, or if that is 0 with its own
 pub unless-refusal : (n : ℕ) (t : Tour) → refusal (unless n t) ≡ orElse n (refusal t)
 unfolding refusal
 unless-refusal n t = go (eqb n 0)
@@ -83,6 +84,7 @@ walk-by-item (suc k) s cs d seen i r = by-item (λ i. tourAt k s cs (d + 1) [] (
 
 -- an item's own fault, by the tests, where 31 and 33 are not due
 module _ (cs : List ℕ) (d : ℕ) (b : Bool) (i : Item) (n : ℕ) (q : n ≡ faultOf b i) where
+  -- an item with 31 or 33 due has that number, before the others of a walk
   pub own-first : (n ≡ 0 → ⊥) → n ≡ walkFault cs d b i
   unfolding walkFault
   own-first h = q ∙ sym (simp (ne-eqb (faultOf b i) 0 (λ z. h (q ∙ z))))
@@ -92,20 +94,25 @@ module _ (cs : List ℕ) (d : ℕ) (b : Bool) (i : Item) (n : ℕ) (q : n ≡ fa
     unfolding walkFault
     others m h = h ∙ sym (simp (eq-eqb (faultOf b i) 0 (sym q ∙ z)))
 
+    -- a container that is not whole bytes has 35 WHOLE due, where 31 and 33 are not
     pub not-whole : among (i .name) cs ≡ true → (i .bits .0 % 8 ≡ 0 → ⊥) → 35 ≡ walkFault cs d b i
     not-whole a h = others 35 (due _ _ (simp (a, ne-eqb (i .bits .0 % 8) 0 h)))
 
     module _ (w : among (i .name) cs && not (eqb (i .bits .0 % 8) 0) ≡ false) where
+      -- an item below the deepest level has 32 DEPTH due, where 31, 33 and 35 are not
       pub too-deep : deepest < d → 32 ≡ walkFault cs d b i
       too-deep h = others 32 (skip _ _ w (due _ _ (lt-ltb deepest d h)))
 
+      -- an item no deeper than the deepest level has no fault, where 31, 33 and 35 are not due
       pub no-fault : d ≤ deepest → 0 ≡ walkFault cs d b i
       no-fault h = others 0 (skip _ _ w (skip _ _ (le-ltb deepest d h) none-due))
 
+-- 35 is not due for a container of whole bytes
 pub container-whole : (cs : List ℕ) (i : Item) → among (i .name) cs ≡ true → i .bits .0 % 8 ≡ 0
     → among (i .name) cs && not (eqb (i .bits .0 % 8) 0) ≡ false
 container-whole cs i a h = simp (a, h)
 
+-- 35 is not due for an item that is no container
 pub no-container : (cs : List ℕ) (i : Item) → among (i .name) cs ≡ false → among (i .name) cs && not (eqb (i .bits .0 % 8) 0) ≡ false
 no-container cs i a = simp a
 
@@ -116,17 +123,20 @@ module _ (s cs : List ℕ) (d : ℕ) (b : Bool) (i : Item) where
   decides zero h = refl
   decides (suc k) h = simp (ne-eqb (walkFault cs d b i) 0 h)
 
+  -- an item with a fault of its own has its number, whatever its contents are
   pub own : (k n : ℕ) → n ≡ walkFault cs d b i → (n ≡ 0 → ⊥) → n ≡ itemRefusal k s cs d b i
   own k n q h = q ∙ sym (decides k (λ z. h (q ∙ z)))
 
   level : d ≤ deepest → deepest + 1 - d ≡ suc (deepest - d)
   level h = omega arith
 
+  -- a container with no fault of its own has the number of the walk of its value, one deeper
   pub contents : (m : ℕ) → 0 ≡ walkFault cs d b i → among (i .name) cs ≡ true → d ≤ deepest
       → m ≡ refusal (tourAt (deepest - d) s cs (d + 1) [] (runOf s (i .from) (nextOf i))) → m ≡ itemRefusal (deepest + 1 - d) s cs d b i
   unfolding itemRefusal
   contents m z a l r = rw (level l) (r ∙ sym (simp (eq-eqb (walkFault cs d b i) 0 (sym z), a)))
 
+  -- an item that is no container and has no fault of its own has no number
   pub no-contents : 0 ≡ walkFault cs d b i → among (i .name) cs ≡ false → d ≤ deepest → 0 ≡ itemRefusal (deepest + 1 - d) s cs d b i
   unfolding itemRefusal
   no-contents z a l = rw (level l) (sym (simp (eq-eqb (walkFault cs d b i) 0 (sym z), a)))
@@ -144,9 +154,11 @@ module _ (s l : List ℕ) (n : ℕ) (q : n ≡ namesFault l) where
   unfolding walkOf
   by-list = unless-refusal (namesFault l) (tourAt (deepest + 1) s (namesOf l) 0 [] (runOf s 0 (length s)))
 
+  -- a list of names with a fault refuses the walk with its number, whatever the packet is
   pub list-refused : (n ≡ 0 → ⊥) → n ≡ refusal (walkOf s l)
   list-refused h = q ∙ sym (by-list ∙ simp (ne-eqb (namesFault l) 0 (λ z. h (q ∙ z))))
 
+  -- with a list that has no fault, the number of the outer packet's walk is that of the whole
   pub list-taken : (m : ℕ) → n ≡ 0 → m ≡ refusal (tourAt (deepest + 1) s (namesOf l) 0 [] (runOf s 0 (length s))) → m ≡ refusal (walkOf s l)
   list-taken m z h = h ∙ sym (by-list ∙ simp (eq-eqb (namesFault l) 0 (sym q ∙ z)))
 
@@ -166,18 +178,22 @@ abbrev pub WalkSeen : ℕ → List ℕ → List ℕ → ℕ → ℕ → ℕ → 
 WalkSeen k s cs d from end marks at = Seen (λ seen r. refusal (tourAt k s cs d seen r)) s from end marks at
 
 module _ (k : ℕ) (s cs : List ℕ) (d from end : ℕ) (marks : List Bool) (at : ℕ) (w : WalkSeen k s cs d from end marks at) where
+  -- where the loop comes to padding, the packet has no number due
   pub walk-ends : (p : Bytes) → stepIn s at end ≡ step.End p → 0 ≡ refusal (tourAt k s cs d [] (runOf s from end))
   walk-ends p e = sym (w .rest ∙ ap (λ (r : Run). refusal (tourAt k s cs d (w .names) r)) (run-end s at end p e)
       ∙ tour-end k s cs d (w .names) (p .0))
 
+  -- where the loop comes to a refused item, that number is due for the packet
   pub walk-refused : (n : ℕ) → stepIn s at end ≡ step.Refused n → n ≡ refusal (tourAt k s cs d [] (runOf s from end))
   walk-refused n e = sym (w .rest ∙ ap (λ (r : Run). refusal (tourAt k s cs d (w .names) r)) (run-refused s at end n e)
       ∙ tour-refused k s cs d (w .names) n)
 
   module _ (i : Item) (e : stepIn s at end ≡ step.Item i) (h n : ℕ) (p : h ≡ i .name % slots)
       (q : n ≡ itemRefusal k s cs d (again s from end marks h i) i) where
+    -- after an item with no number due the loop goes on behind it, with the slot of its name marked
     pub walk-turn : n ≡ 0 → WalkSeen k s cs d from end (set marks h true) (nextOf i)
     walk-turn z = turn _ (itemRefusal k s cs d) (walk-by-item k s cs d) s from end marks at i w e h n p q z
 
+    -- where the loop comes to an item with a number due, that number is due for the packet
     pub walk-stops : (n ≡ 0 → ⊥) → n ≡ refusal (tourAt k s cs d [] (runOf s from end))
     walk-stops z = stops _ (itemRefusal k s cs d) (walk-by-item k s cs d) s from end marks at i w e h n p q z

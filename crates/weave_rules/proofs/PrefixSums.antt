@@ -14,6 +14,7 @@ use Rattle.cut_rules.specs.Missing.{count, losses, gone, missing, suffice}
 use Rattle.cut_rules.proofs.LossCounts.{count-le, count-add, upto}
 use Rattle.cut_rules.proofs.Sufficing.{suffice-from, suffice-no}
 
+-- among the first i + 1 numbers as many pass a test as among the first i, and number i if it does
 pub one-more : (p : ℕ → Bool) (i : ℕ) → count p 0 (i + 1) ≡ count p 0 i + bit (p i)
 unfolding count
 one-more p i = omega (arith, count-add p 0 i 1, ap (λ (x : ℕ). bit (p x)) (zero-add i))
@@ -22,6 +23,7 @@ one-more p i = omega (arith, count-add p 0 i 1, ap (λ (x : ℕ). bit (p x)) (ze
 pub record Sums (p : ℕ → Bool) (xs : List ℕ) (i : ℕ) : Type 0 where
   pub at : (k : ℕ) → k ≤ i → getD xs k 0 ≡ count p 0 k
 
+-- with the count up to i + 1 set in its entry, the sums stand one entry further
 pub sums-more : (p : ℕ → Bool) (xs : List ℕ) (i v : ℕ) → Sums p xs i → i + 1 < length xs → v ≡ count p 0 (i + 1) → Sums p (set xs (i + 1) v) (i + 1)
 sums-more p xs i v h l e = record { at = λ k (b : k ≤ i + 1). go k (eq-or-lt-of-le b) }
   where
@@ -29,6 +31,7 @@ sums-more p xs i v h l e = record { at = λ k (b : k ≤ i + 1). go k (eq-or-lt-
     go k (inl s) = subst (λ (x : ℕ). getD (set xs (i + 1) v) x 0 ≡ count p 0 x) (sym s) (getD-set-same xs (i + 1) v 0 l ∙ e)
     go k (inr s) = getD-set-other xs (i + 1) k v 0 (λ (q : k ≡ i + 1). omega arith) ∙ h .at k (omega arith)
 
+-- a list that begins with 0 holds the sums up to 0
 pub sums-none : (p : ℕ → Bool) (xs : List ℕ) → getD xs 0 0 ≡ 0 → Sums p xs 0
 unfolding count
 sums-none p xs e =
@@ -59,14 +62,18 @@ module _ (lost : ℕ → Bool) (f n : ℕ) where
 
   -- so the readings at the ends of the chunks tell whether all suffice
   module _ (some : 0 < f) (xs : List ℕ) (sums : Sums lost xs f) where
+    -- no more than q cells are gone before q, by the reading of the sums
     pub reading-le : (q : ℕ) → reading xs f q ≤ q
     reading-le q = omega (arith, read lost f some xs sums q, count-le (gone lost f) 0 q)
 
+    -- what chunk j misses is the difference of the readings at its ends
     pub misses : (j : ℕ) → reading xs f (j * n + n) ≡ reading xs f (j * n) + missing lost f n j
     misses j = omega (arith, read lost f some xs sums (j * n + n), read lost f some xs sums (j * n), between j)
 
+    -- where the readings at the ends of no chunk are more than 48 apart, the fragments suffice
     pub suffice-read : (c : ℕ) → ((j : ℕ) → j < c → reading xs f (j * n + n) ≤ parity + reading xs f (j * n)) → true ≡ suffice lost f n c
     suffice-read c h = sym (suffice-from lost f n c (λ j (l : j < c). omega (arith, misses j, h j l)))
 
+    -- where the readings at the ends of one chunk are more than 48 apart, the fragments do not suffice
     pub suffice-fails : (c j : ℕ) → j < c → parity + reading xs f (j * n) < reading xs f (j * n + n) → false ≡ suffice lost f n c
     suffice-fails c j l h = sym (suffice-no lost f n c j l (omega (arith, misses j)))

@@ -13,6 +13,7 @@ use Rattle.write_rules.specs.Write.{trimmed, itemBytes}
 use Rattle.write_rules.specs.Claims.{ReadsBack}
 use Rattle.write_rules.proofs.Trimming.{length-trimmed}
 
+-- an item has 8 bytes of head and ceil(bits / 8) bytes of value
 pub length-item : (name bits : ℕ) (v : List ℕ) → length v ≡ bytesFor bits → length (itemBytes name bits v) ≡ head + bytesFor bits
 unfolding itemBytes
 length-item name bits v e =
@@ -25,6 +26,7 @@ number-behind pre rest x h =
     ∙ ap (λ (l : List ℕ). numberAt 4 l 0) (drop-append-seam pre (bytesOf 4 x ++ rest))
     ∙ number-back 4 x rest h
 
+-- an item written anywhere is read back: its name, its bits, and its value with zeros in the unused bits
 pub reads-back : ReadsBack
 unfolding itemBytes
 reads-back pre rest end name bits v hn hb whole fits =

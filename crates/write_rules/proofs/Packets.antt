@@ -79,6 +79,7 @@ no-fault seen at e es fit h =
     (λ t. sym (fault-dmy _ (itemOf at e) (eqb-true _ _ t)))
     (λ t. sym (fault-none _ (itemOf at e) (h (e .name) (eqb-false _ _ t) (simp (eq-eqb (e .name) (e .name) refl))) (fit .ptr-right)))
 
+-- of items that fit none is at fault, where no name but "*dmy" comes twice or was seen before
 pub faults-none : (seen : List ℕ) (at : ℕ) (es : List Entry) (n : ℕ) → AllFit es → Apart es → Unseen seen es → faultsOf seen (entriesRun at es n) ≡ 0
 unfolding entriesRun faultsOf
 faults-none seen at [] n fit apart h = refl
@@ -88,6 +89,7 @@ faults-none seen at (e ∷ es) n fit apart h =
 
 -- ---- the first of its name
 
+-- a packet is the bytes of its first items and then the packet of the others
 pub packet-split : (before es : List Entry) (pad : List ℕ) → packetOf (before ++ es) pad ≡ packetOf before [] ++ packetOf es pad
 unfolding packetOf
 packet-split [] es pad = refl
@@ -95,10 +97,12 @@ packet-split (b ∷ before) es pad =
     let it : List ℕ = itemBytes (b .name) (b .bits) (b .value) in
     ap (λ (l : List ℕ). it ++ l) (packet-split before es pad) ∙ sym (append-assoc it (packetOf before []) (packetOf es pad))
 
+-- where all items fit, each one does
 pub fits-at : (before after : List Entry) (e : Entry) → AllFit (before ++ (e ∷ after)) → Fits e
 fits-at [] after e fit = fit .0
 fits-at (b ∷ before) after e fit = fits-at before after e (fit .1)
 
+-- the first item written under a name is found, right behind the bytes of those before it
 pub first-written : (at : ℕ) (before after : List Entry) (e : Entry) (n : ℕ) → AllFit (before ++ (e ∷ after))
     → among (e .name) (namesOf before) ≡ false
     → firstOf (e .name) (entriesRun at (before ++ (e ∷ after)) n) ≡ found.At (itemOf (at + length (packetOf before [])) e)

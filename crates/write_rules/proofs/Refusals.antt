@@ -11,6 +11,7 @@ use Rattle.item_rules.specs.Run.{badPtr}
 use Rattle.write_rules.specs.Write.{writeFault}
 
 module _ (name bits len room n : ℕ) (q : n ≡ bytesFor bits) where
+  -- a value of other than ceil(bits / 8) bytes is refused with 43
   pub not-bytes : (len ≡ n → ⊥) → 43 ≡ writeFault name bits len room
   unfolding writeFault
   not-bytes h = due 43 _ (simp (← q, ne-eqb len n h))
@@ -18,14 +19,17 @@ module _ (name bits len room n : ℕ) (q : n ≡ bytesFor bits) where
   whole : len ≡ n → not (eqb len (bytesFor bits)) ≡ false
   whole e = simp (← q, eq-eqb len n e)
 
+  -- where the value has these bytes, a "*ptr" that has not 64 bits is refused with 33
   pub not-ptr : len ≡ n → badPtr name bits ≡ true → 33 ≡ writeFault name bits len room
   unfolding writeFault
   not-ptr e p = skip 43 _ (whole e) (due 33 _ p)
 
+  -- where neither is due, too little room for head and value is refused with 1
   pub no-room : len ≡ n → badPtr name bits ≡ false → room < head + n → 1 ≡ writeFault name bits len room
   unfolding writeFault
   no-room e p h = skip 43 _ (whole e) (skip 33 _ p (due 1 _ (lt-ltb _ _ (rw q at h))))
 
+  -- where none of the three is due, nothing is refused
   pub all-right : len ≡ n → badPtr name bits ≡ false → head + n ≤ room → 0 ≡ writeFault name bits len room
   unfolding writeFault
   all-right e p h = skip 43 _ (whole e) (skip 33 _ p (skip 1 _ (le-ltb _ _ (rw q at h)) none-due))

@@ -16,6 +16,7 @@ down p b =
     let e : b - b % p ≡ p * (b / p) = omega (arith, div-add-mod b p) in
     ap (λ (x : ℕ). x % p) e ∙ mul-mod-right p (b / p)
 
+-- a trimmed value is as long as it was
 pub length-trimmed : (bits : ℕ) (v : List ℕ) → length (trimmed bits v) ≡ length v
 unfolding trimmed trimmedBy
 length-trimmed bits v = length-set v _ _
@@ -29,6 +30,7 @@ trimmed-last p (x ∷ v) =
     let a : ℕ = getD (x ∷ v) i 0 - getD (x ∷ v) i 0 % p in
     ap (λ (n : ℕ). getD (set (x ∷ v) i a) (n - 1) 0) (length-set (x ∷ v) i a) ∙ getD-set-same (x ∷ v) i a 0 (omega arith)
 
+-- the last byte of a value that is trimmed by p is a multiple of p
 pub last-down : (p : ℕ) (v : List ℕ) → getD (trimmedBy p v) (length (trimmedBy p v) - 1) 0 % p ≡ 0
 last-down p v = ap (λ (x : ℕ). x % p) (trimmed-last p v) ∙ down p (getD v (length v - 1) 0)
 
@@ -40,6 +42,7 @@ stays p v e =
     let same : b - b % p ≡ b = omega (arith, e) in
     ap (set v (length v - 1)) same ∙ set-getD v (length v - 1) 0
 
+-- a value of whole bytes has no unused bits
 pub unused-none : (bits : ℕ) → bits % 8 ≡ 0 → unusedOf bits ≡ 0
 unfolding unusedOf bytesFor ceil
 unused-none bits e = omega (arith, e)

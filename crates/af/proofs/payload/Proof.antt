@@ -9,14 +9,21 @@ use Rattle.af_rules.specs.Packet.{headerBytes, crcBytes, payloadOf}
 use Rattle.af.proofs.payload.Statement.{statement}
 use Rattle.af.proofs.payload.Tie as tie
 
-slice-aggregate-result : tie.Need-slice-aggregate-result
-slice-aggregate-result c = search needs
-
 returns : tie.Need-returns
 unfolding payloadOf
 returns c =
     let none : length (c .before .before .args .packet .now) - least-l ≡ 0 = omega arith in
     rw none
+
+returns-2 : tie.Need-returns-2
+unfolding payloadOf
+returns-2 c =
+    let s = c .before .before .args .packet .now in
+    let all : length s - crcBytes - headerBytes ≡ length s - least-l = omega arith in
+    ap (λ (n : ℕ). take n (drop headerBytes s)) all
+
+slice-aggregate-result : tie.Need-slice-aggregate-result
+slice-aggregate-result c = search needs
 
 sub-end : tie.Need-sub-end
 sub-end c = search needs
@@ -29,13 +36,6 @@ part-result-start c = search needs
 
 part-result-end : tie.Need-part-result-end
 part-result-end c = search needs
-
-returns-2 : tie.Need-returns-2
-unfolding payloadOf
-returns-2 c =
-    let s = c .before .before .args .packet .now in
-    let all : length s - crcBytes - headerBytes ≡ length s - least-l = omega arith in
-    ap (λ (n : ℕ). take n (drop headerBytes s)) all
 
 pub payload-spec : {M : Type 1} → statement M
 payload-spec =

@@ -13,6 +13,9 @@ Inv-loop line₀ seat₀ used₀ reads₀ line seat used reads = (used ≤ lengt
 abbrev μ-loop : tie.MeasureT-loop
 μ-loop line₀ seat₀ used₀ reads₀ line seat used reads = reads
 
+loop-again : tie.Need-loop-again Inv-loop μ-loop
+loop-again c = search (ap heldOf (c .before .n .given .1), needs)
+
 loop-holds : tie.Need-loop-holds Inv-loop μ-loop
 loop-holds c = search needs
 
@@ -39,9 +42,6 @@ sub-reads c = search needs
 
 loop-less : tie.Need-loop-less Inv-loop μ-loop
 loop-less c = search needs
-
-loop-again : tie.Need-loop-again Inv-loop μ-loop
-loop-again c = search (ap heldOf (c .before .n .given .1), needs)
 
 same-length-3 : tie.Need-same-length-3 Inv-loop μ-loop
 same-length-3 c = search needs

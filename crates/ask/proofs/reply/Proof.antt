@@ -5,23 +5,11 @@ use Rattle.ask.proofs.Parts.{front, closed}
 use Rattle.ask.proofs.reply.Statement.{statement}
 use Rattle.ask.proofs.reply.Tie as tie
 
-room-requires : tie.Need-room-requires
-room-requires c κs = search needs
-
 array-borrow-prefix-out : tie.Need-array-borrow-prefix-out
 array-borrow-prefix-out c = search needs
 
 slice-aggregate-answer : tie.Need-slice-aggregate-answer
 slice-aggregate-answer c = front _ (c .before .before .room .result) (array-borrow-prefix-out (c .before))
-
-answer-requires : tie.Need-answer-requires
-answer-requires c κs = search needs
-
-same-length : tie.Need-same-length
-same-length c = search needs
-
-returns : tie.Need-returns
-returns c = search needs
 
 array-write-out : tie.Need-array-write-out
 array-write-out c =
@@ -39,6 +27,18 @@ array-share-prefix-out c =
 
 slice-aggregate-write-all : tie.Need-slice-aggregate-write-all
 slice-aggregate-write-all c = front _ _ (array-share-prefix-out (c .before))
+
+room-requires : tie.Need-room-requires
+room-requires c κs = search needs
+
+answer-requires : tie.Need-answer-requires
+answer-requires c κs = search needs
+
+same-length : tie.Need-same-length
+same-length c = search needs
+
+returns : tie.Need-returns
+returns c = search needs
 
 write-all-requires : tie.Need-write-all-requires
 write-all-requires c κs = search needs

@@ -14,6 +14,9 @@ Inv-loop chunk line₀ used seat₀ n₀ i₀ line seat n i = (i ≤ length chun
 abbrev μ-loop : tie.MeasureT-loop
 μ-loop chunk line₀ used seat₀ n₀ i₀ line seat n i = length chunk - i
 
+loop-again : tie.Need-loop-again Inv-loop μ-loop
+loop-again c = search (ap heldOf (c .before .more .given .1), needs)
+
 loop-holds : tie.Need-loop-holds Inv-loop μ-loop
 loop-holds c = search needs
 
@@ -43,9 +46,6 @@ add-i c = search needs
 
 loop-less : tie.Need-loop-less Inv-loop μ-loop
 loop-less c = search needs
-
-loop-again : tie.Need-loop-again Inv-loop μ-loop
-loop-again c = search (ap heldOf (c .before .more .given .1), needs)
 
 same-length-3 : tie.Need-same-length-3 Inv-loop μ-loop
 same-length-3 c = search needs

@@ -4,11 +4,14 @@ use Rattle.ask.proofs.Parts.{front, stored}
 use Rattle.ask.proofs.take_byte.Statement.{statement}
 use Rattle.ask.proofs.take_byte.Tie as tie
 
-slice-reshare-prefix-reply : tie.Need-slice-reshare-prefix-reply
-slice-reshare-prefix-reply c = search needs
-
 slice-aggregate-reply : tie.Need-slice-aggregate-reply
 slice-aggregate-reply c = front _ _ (search needs)
+
+returns-3 : tie.Need-returns-3
+returns-3 c = search (stored, needs)
+
+slice-reshare-prefix-reply : tie.Need-slice-reshare-prefix-reply
+slice-reshare-prefix-reply c = search needs
 
 reply-requires : tie.Need-reply-requires
 reply-requires c κs = search needs
@@ -39,9 +42,6 @@ add-t13 c = search needs
 
 same-length-5 : tie.Need-same-length-5
 same-length-5 c = search needs
-
-returns-3 : tie.Need-returns-3
-returns-3 c = search (stored, needs)
 
 returns-4 : tie.Need-returns-4
 returns-4 c = search needs

@@ -4,6 +4,9 @@ use Rattle.ask.proofs.Parts.{front}
 use Rattle.ask.proofs.take_some.Statement.{statement}
 use Rattle.ask.proofs.take_some.Tie as tie
 
+slice-aggregate-reply : tie.Need-slice-aggregate-reply
+slice-aggregate-reply c = front _ _ (search needs)
+
 buffer-requires : tie.Need-buffer-requires
 buffer-requires c κs = search needs
 
@@ -21,9 +24,6 @@ count-requires c κs = search needs
 
 slice-reshare-prefix-reply : tie.Need-slice-reshare-prefix-reply
 slice-reshare-prefix-reply c = search needs
-
-slice-aggregate-reply : tie.Need-slice-aggregate-reply
-slice-aggregate-reply c = front _ _ (search needs)
 
 reply-requires : tie.Need-reply-requires
 reply-requires c κs = search needs

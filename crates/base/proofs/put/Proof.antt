@@ -11,13 +11,18 @@ returns c =
     let a = c .before .before .before .args in
     put-refused (a .d .now) (a .s .now) (a .at) (omega arith)
 
-sub-if2 : tie.Need-sub-if2
-sub-if2 c = search needs
-
 returns-2 : tie.Need-returns-2
 returns-2 c =
     let a = c .before .before .before .before .args in
     put-refused (a .d .now) (a .s .now) (a .at) (omega arith)
+
+returns-3 : tie.Need-returns-3
+returns-3 c =
+    let a = c .before .before .before .before .before .before .before .before .args in
+    put-done (a .d .now) (a .s .now) (a .at) _ (omega arith) (splice-lent (a .d .now) (a .s .now) _ (a .at) (c .before .before .copy .ensures .1))
+
+sub-if2 : tie.Need-sub-if2
+sub-if2 c = search needs
 
 add-end : tie.Need-add-end
 add-end c = search needs
@@ -36,11 +41,6 @@ copy-requires c κs = search needs
 
 same-length : tie.Need-same-length
 same-length c = search needs
-
-returns-3 : tie.Need-returns-3
-returns-3 c =
-    let a = c .before .before .before .before .before .before .before .before .args in
-    put-done (a .d .now) (a .s .now) (a .at) _ (omega arith) (splice-lent (a .d .now) (a .s .now) _ (a .at) (c .before .before .copy .ensures .1))
 
 pub put-spec : {M : Type 1} → statement M
 put-spec =

@@ -4,6 +4,14 @@ use Rattle.base_rules.proofs.Numbers.{number-one, number-more, number-past}
 use Rattle.base.proofs.read2.Statement.{statement}
 use Rattle.base.proofs.read2.Tie as tie
 
+returns : tie.Need-returns
+returns c = number-more 1 _ _ (number-one _ _ (c .before .byte-at .ensures)) (c .byte-at2 .ensures)
+
+returns-2 : tie.Need-returns-2
+returns-2 c =
+    let a = c .before .before .args in
+    number-past 2 (a .s .now) (a .i) (c .if1 .left)
+
 byte-at-requires : tie.Need-byte-at-requires
 byte-at-requires c κs = search needs
 
@@ -24,14 +32,6 @@ cast-result-2 c = search needs
 
 add-result : tie.Need-add-result
 add-result c = search needs
-
-returns : tie.Need-returns
-returns c = number-more 1 _ _ (number-one _ _ (c .before .byte-at .ensures)) (c .byte-at2 .ensures)
-
-returns-2 : tie.Need-returns-2
-returns-2 c =
-    let a = c .before .before .args in
-    number-past 2 (a .s .now) (a .i) (c .if1 .left)
 
 pub read2-spec : {M : Type 1} → statement M
 read2-spec =

@@ -5,6 +5,14 @@ use Rattle.base_rules.proofs.Numbers.{number-more, number-past}
 use Rattle.base.proofs.read3.Statement.{statement}
 use Rattle.base.proofs.read3.Tie as tie
 
+returns : tie.Need-returns
+returns c = (number-more 2 _ _ (c .before .read2 .ensures) (c .byte-at .ensures), omega arith)
+
+returns-2 : tie.Need-returns-2
+returns-2 c =
+    let a = c .before .before .args in
+    (number-past 3 (a .s .now) (a .i) (c .if1 .left), omega arith)
+
 read2-requires : tie.Need-read2-requires
 read2-requires c κs = search needs
 
@@ -25,14 +33,6 @@ cast-result-2 c = search needs
 
 add-result : tie.Need-add-result
 add-result c = search needs
-
-returns : tie.Need-returns
-returns c = (number-more 2 _ _ (c .before .read2 .ensures) (c .byte-at .ensures), omega arith)
-
-returns-2 : tie.Need-returns-2
-returns-2 c =
-    let a = c .before .before .args in
-    (number-past 3 (a .s .now) (a .i) (c .if1 .left), omega arith)
 
 pub read3-spec : {M : Type 1} → statement M
 read3-spec =

@@ -5,20 +5,8 @@ use Rattle.base_rules.proofs.Numbers.{number-more, number-past}
 use Rattle.base.proofs.read4.Statement.{statement}
 use Rattle.base.proofs.read4.Tie as tie
 
-read3-requires : tie.Need-read3-requires
-read3-requires c κs = search needs
-
 mul-result : tie.Need-mul-result
 mul-result c = omega arith
-
-add-byte-at : tie.Need-add-byte-at
-add-byte-at c = search needs
-
-byte-at-requires : tie.Need-byte-at-requires
-byte-at-requires c κs = search needs
-
-cast-result : tie.Need-cast-result
-cast-result c = search needs
 
 add-result : tie.Need-add-result
 add-result c = omega arith
@@ -30,6 +18,18 @@ returns-2 : tie.Need-returns-2
 returns-2 c =
     let a = c .before .before .args in
     number-past 4 (a .s .now) (a .i) (c .if1 .left)
+
+read3-requires : tie.Need-read3-requires
+read3-requires c κs = search needs
+
+add-byte-at : tie.Need-add-byte-at
+add-byte-at c = search needs
+
+byte-at-requires : tie.Need-byte-at-requires
+byte-at-requires c κs = search needs
+
+cast-result : tie.Need-cast-result
+cast-result c = search needs
 
 pub read4-spec : {M : Type 1} → statement M
 read4-spec =

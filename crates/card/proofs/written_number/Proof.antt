@@ -10,12 +10,6 @@ use Rattle.card.proofs.written_number.Tie as tie
 enum-told : tie.Need-enum-told
 enum-told c = search needs
 
-enum-known-w : tie.Need-enum-known-w
-enum-known-w c = search needs
-
-cast-result : tie.Need-cast-result
-cast-result c = search needs
-
 returns : tie.Need-returns
 unfolding refusalIn numberOf
 returns c = sym (ap (λ (w : Written). refusalIn (numberOf w)) (c .enum-told .given .1))
@@ -23,6 +17,12 @@ returns c = sym (ap (λ (w : Written). refusalIn (numberOf w)) (c .enum-told .gi
 returns-2 : tie.Need-returns-2
 unfolding refusalIn numberOf
 returns-2 c = search needs
+
+enum-known-w : tie.Need-enum-known-w
+enum-known-w c = search needs
+
+cast-result : tie.Need-cast-result
+cast-result c = search needs
 
 pub written-number-spec : {M : Type 1} → statement M
 written-number-spec = tie.close (tie.spec enum-told enum-known-w cast-result returns returns-2)

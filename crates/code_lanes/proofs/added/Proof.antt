@@ -23,6 +23,21 @@ abbrev μ-loop : tie.MeasureT-loop
 loop-holds : tie.Need-loop-holds Inv-loop μ-loop
 loop-holds c = (search needs, search needs, search needs, upto-start _ _)
 
+loop-again : tie.Need-loop-again Inv-loop μ-loop
+loop-again c =
+    let L = c .before .before .before .loop in
+    let A = c .before .before .before .before .args in
+    let I = L .inv in
+    let P = plus-at (A .x) (A .t3) (A .t1) (L .m) (I .1 ∙ sym (I .0)) in
+    (I .0, I .1, search needs, upto-more (plus (A .x) (A .t3) (A .t1)) (A .t1) (L .m) (L .n) (c .sum .result) (I .3) (omega arith) (cc P))
+
+returns : tie.Need-returns Inv-loop μ-loop
+returns c =
+    let L = c .before .loop in
+    let A = c .before .before .args in
+    let I = L .inv in
+    upto-end _ (A .t1) (L .m) (L .n) (I .3) (omega arith) (length-plus (A .x) (A .t3) (A .t1) (I .1 ∙ sym (I .0)))
+
 array-read-sum : tie.Need-array-read-sum Inv-loop μ-loop
 array-read-sum c = search needs
 
@@ -43,21 +58,6 @@ add-m c = search needs
 
 loop-less : tie.Need-loop-less Inv-loop μ-loop
 loop-less c = search needs
-
-loop-again : tie.Need-loop-again Inv-loop μ-loop
-loop-again c =
-    let L = c .before .before .before .loop in
-    let A = c .before .before .before .before .args in
-    let I = L .inv in
-    let P = plus-at (A .x) (A .t3) (A .t1) (L .m) (I .1 ∙ sym (I .0)) in
-    (I .0, I .1, search needs, upto-more (plus (A .x) (A .t3) (A .t1)) (A .t1) (L .m) (L .n) (c .sum .result) (I .3) (omega arith) (cc P))
-
-returns : tie.Need-returns Inv-loop μ-loop
-returns c =
-    let L = c .before .loop in
-    let A = c .before .before .args in
-    let I = L .inv in
-    upto-end _ (A .t1) (L .m) (L .n) (I .3) (omega arith) (length-plus (A .x) (A .t3) (A .t1) (I .1 ∙ sym (I .0)))
 
 pub added-spec : {M : Type 1} → statement M
 added-spec =

@@ -5,6 +5,10 @@ use Rattle.code_rules.specs.inner.Kernel.{dotted}
 use Rattle.code_lanes.proofs.dot.Statement.{statement}
 use Rattle.code_lanes.proofs.dot.Tie as tie
 
+returns : tie.Need-returns
+unfolding dotted
+returns c = cc
+
 pick-requires : tie.Need-pick-requires
 pick-requires c κs = search needs
 
@@ -49,10 +53,6 @@ sum-requires-6 c κs = search needs
 
 sum-requires-7 : tie.Need-sum-requires-7
 sum-requires-7 c κs = search needs
-
-returns : tie.Need-returns
-unfolding dotted
-returns c = cc
 
 pub dot-spec : {M : Type 1} → statement M
 dot-spec =

@@ -17,6 +17,14 @@ abbrev μ-loop : tie.MeasureT-loop
 loop-holds : tie.Need-loop-holds Inv-loop μ-loop
 loop-holds c = (search needs, record { size = refl; same = λ i h. absurd (not-suc-le-zero h) })
 
+loop-again : tie.Need-loop-again Inv-loop μ-loop
+loop-again c =
+    let L = c .before .loop in
+    (search needs, copied-more (c .before .before .args .t1) (L .k) (L .j) (omega arith) (L .inv .1))
+
+returns : tie.Need-returns Inv-loop μ-loop
+returns c = (c .before .loop .inv .1 .size, λ i h. c .before .loop .inv .1 .same i (omega arith))
+
 array-read-k : tie.Need-array-read-k Inv-loop μ-loop
 array-read-k c = search needs
 
@@ -28,14 +36,6 @@ add-j c = search needs
 
 loop-less : tie.Need-loop-less Inv-loop μ-loop
 loop-less c = search needs
-
-loop-again : tie.Need-loop-again Inv-loop μ-loop
-loop-again c =
-    let L = c .before .loop in
-    (search needs, copied-more (c .before .before .args .t1) (L .k) (L .j) (omega arith) (L .inv .1))
-
-returns : tie.Need-returns Inv-loop μ-loop
-returns c = (c .before .loop .inv .1 .size, λ i h. c .before .loop .inv .1 .same i (omega arith))
 
 pub first-row-spec : {M : Type 1} → statement M
 first-row-spec =

@@ -22,6 +22,21 @@ abbrev μ-loop : tie.MeasureT-loop
 loop-holds : tie.Need-loop-holds Inv-loop μ-loop
 loop-holds c = (search needs, upto-start _ _)
 
+loop-again : tie.Need-loop-again Inv-loop μ-loop
+loop-again c =
+    let L = c .before .before .before .before .before .before .before .before .before .before .before .loop in
+    let A = c .before .before .before .before .before .before .before .before .before .before .before .before .args in
+    let h : L .m < 48 = search needs in
+    let P = laneBy-at (A .k .now) (A .t2) (A .t3) (L .m) h in
+    let e = c .sum .ensures ∙ ap (λ y. y ⊕ getD (A .t3) (L .m) 0) (c .before .dot .ensures) ∙ sym P in
+    (search needs, upto-more (laneBy (A .k .now) (A .t2) (A .t3)) (replicate 48 0) (L .m) (L .q) (c .sum .result) (L .inv .1) h e)
+
+returns : tie.Need-returns Inv-loop μ-loop
+returns c =
+    let A = c .before .before .args in
+    let L = c .before .loop in
+    upto-end _ (replicate 48 0) (L .m) (L .q) (L .inv .1) (omega arith) (length-laneBy (A .k .now) (A .t2) (A .t3))
+
 array-read-dot : tie.Need-array-read-dot Inv-loop μ-loop
 array-read-dot c = search needs
 
@@ -87,21 +102,6 @@ add-m c = search needs
 
 loop-less : tie.Need-loop-less Inv-loop μ-loop
 loop-less c = search needs
-
-loop-again : tie.Need-loop-again Inv-loop μ-loop
-loop-again c =
-    let L = c .before .before .before .before .before .before .before .before .before .before .before .loop in
-    let A = c .before .before .before .before .before .before .before .before .before .before .before .before .args in
-    let h : L .m < 48 = search needs in
-    let P = laneBy-at (A .k .now) (A .t2) (A .t3) (L .m) h in
-    let e = c .sum .ensures ∙ ap (λ y. y ⊕ getD (A .t3) (L .m) 0) (c .before .dot .ensures) ∙ sym P in
-    (search needs, upto-more (laneBy (A .k .now) (A .t2) (A .t3)) (replicate 48 0) (L .m) (L .q) (c .sum .result) (L .inv .1) h e)
-
-returns : tie.Need-returns Inv-loop μ-loop
-returns c =
-    let A = c .before .before .args in
-    let L = c .before .loop in
-    upto-end _ (replicate 48 0) (L .m) (L .q) (L .inv .1) (omega arith) (length-laneBy (A .k .now) (A .t2) (A .t3))
 
 pub lanes-spec : {M : Type 1} → statement M
 lanes-spec =

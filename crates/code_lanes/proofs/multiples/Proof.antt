@@ -14,29 +14,8 @@ Inv-loop k₀ i₀ k i = (48 ≤ i) × (i ≤ 384) × Doubled k₀ i k
 abbrev μ-loop : tie.MeasureT-loop
 μ-loop k₀ i₀ k i = 384 - i
 
-first-row-requires : tie.Need-first-row-requires Inv-loop μ-loop
-first-row-requires c κs = search needs
-
 loop-holds : tie.Need-loop-holds Inv-loop μ-loop
 loop-holds c = (search needs, search needs, doubled-start (c .first-row .result) (c .first-row .result) (c .first-row .ensures .0) (λ i h. refl))
-
-sub-twice : tie.Need-sub-twice Inv-loop μ-loop
-sub-twice c = search needs
-
-array-read-twice : tie.Need-array-read-twice Inv-loop μ-loop
-array-read-twice c = search needs
-
-twice-requires : tie.Need-twice-requires Inv-loop μ-loop
-twice-requires c κs = search needs
-
-array-write-k : tie.Need-array-write-k Inv-loop μ-loop
-array-write-k c = search needs
-
-add-i : tie.Need-add-i Inv-loop μ-loop
-add-i c = search needs
-
-loop-less : tie.Need-loop-less Inv-loop μ-loop
-loop-less c = search needs
 
 loop-again : tie.Need-loop-again Inv-loop μ-loop
 loop-again c =
@@ -56,6 +35,27 @@ returns c =
     let C = First-row .ensures .1 in
     let M : Multiples (First-row .result) (L .k) = multiples-end (First-row .result) (L .k) (L .i) (omega arith) (I .2) in
     record { firsts = λ i h. M .firsts i h ∙ C i h; twos = M .twos }
+
+first-row-requires : tie.Need-first-row-requires Inv-loop μ-loop
+first-row-requires c κs = search needs
+
+sub-twice : tie.Need-sub-twice Inv-loop μ-loop
+sub-twice c = search needs
+
+array-read-twice : tie.Need-array-read-twice Inv-loop μ-loop
+array-read-twice c = search needs
+
+twice-requires : tie.Need-twice-requires Inv-loop μ-loop
+twice-requires c κs = search needs
+
+array-write-k : tie.Need-array-write-k Inv-loop μ-loop
+array-write-k c = search needs
+
+add-i : tie.Need-add-i Inv-loop μ-loop
+add-i c = search needs
+
+loop-less : tie.Need-loop-less Inv-loop μ-loop
+loop-less c = search needs
 
 pub multiples-spec : {M : Type 1} → statement M
 multiples-spec =

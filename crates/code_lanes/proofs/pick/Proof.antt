@@ -6,9 +6,6 @@ use borrow.Author.Needs.{needs}
 use Rattle.code_lanes.proofs.pick.Statement.{statement}
 use Rattle.code_lanes.proofs.pick.Tie as tie
 
-div-if1 : tie.Need-div-if1
-div-if1 c = search needs
-
 returns : tie.Need-returns
 returns c =
     let a : ℕ = c .before .args .a in
@@ -24,6 +21,9 @@ returns-2 c =
     let v : ℕ = c .before .args .v in
     let e : a / d % 2 ≡ 1 = search needs in
     sym (ap (λ y. y * v) e ∙ one-mul v)
+
+div-if1 : tie.Need-div-if1
+div-if1 c = search needs
 
 pub pick-spec : {M : Type 1} → statement M
 pick-spec = tie.close (tie.spec div-if1 returns returns-2)

@@ -7,6 +7,21 @@ use Rattle.code_rules.proofs.BitLaws.{dot-is}
 use Rattle.code_lanes.proofs.product.Statement.{statement}
 use Rattle.code_lanes.proofs.product.Tie as tie
 
+returns : tie.Need-returns
+returns c =
+    let A = c .before .before .before .before .before .before .before .before .args in
+    let h : A .x < 256 = search needs in
+    c .dot .ensures ∙ dot-is (A .a) (A .x) _ _ _ _ _ _ _ h
+    record {
+      c1 = c .before .before .before .before .before .before .before .twice .ensures;
+      c2 = c .before .before .before .before .before .before .twice2 .ensures;
+      c3 = c .before .before .before .before .before .twice3 .ensures;
+      c4 = c .before .before .before .before .twice4 .ensures;
+      c5 = c .before .before .before .twice5 .ensures;
+      c6 = c .before .before .twice6 .ensures;
+      c7 = c .before .twice7 .ensures;
+    }
+
 twice-requires : tie.Need-twice-requires
 twice-requires c κs = search needs
 
@@ -30,21 +45,6 @@ twice-requires-7 c κs = search needs
 
 dot-requires : tie.Need-dot-requires
 dot-requires c κs = search needs
-
-returns : tie.Need-returns
-returns c =
-    let A = c .before .before .before .before .before .before .before .before .args in
-    let h : A .x < 256 = search needs in
-    c .dot .ensures ∙ dot-is (A .a) (A .x) _ _ _ _ _ _ _ h
-    record {
-      c1 = c .before .before .before .before .before .before .before .twice .ensures;
-      c2 = c .before .before .before .before .before .before .twice2 .ensures;
-      c3 = c .before .before .before .before .before .twice3 .ensures;
-      c4 = c .before .before .before .before .twice4 .ensures;
-      c5 = c .before .before .before .twice5 .ensures;
-      c6 = c .before .before .twice6 .ensures;
-      c7 = c .before .twice7 .ensures;
-    }
 
 pub product-spec : {M : Type 1} → statement M
 product-spec =

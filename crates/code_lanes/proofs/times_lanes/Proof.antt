@@ -23,24 +23,6 @@ loop-holds : tie.Need-loop-holds Inv-loop μ-loop
 loop-holds c =
     (search needs, upto-start _ _)
 
-array-read-product : tie.Need-array-read-product Inv-loop μ-loop
-array-read-product c = search needs
-
-array-read-product-2 : tie.Need-array-read-product-2 Inv-loop μ-loop
-array-read-product-2 c = search needs
-
-product-requires : tie.Need-product-requires Inv-loop μ-loop
-product-requires c κs = search needs
-
-array-write-r : tie.Need-array-write-r Inv-loop μ-loop
-array-write-r c = search needs
-
-add-m : tie.Need-add-m Inv-loop μ-loop
-add-m c = search needs
-
-loop-less : tie.Need-loop-less Inv-loop μ-loop
-loop-less c = search needs
-
 loop-again : tie.Need-loop-again Inv-loop μ-loop
 loop-again c =
     let A = c .before .before .before .args in
@@ -59,6 +41,24 @@ returns c =
     let A = c .before .before .args in
     let L = c .before .loop in
     upto-end (timesAll (A .t1) (A .t2)) (replicate 48 0) (L .m) (L .r) (L .inv .1) (omega arith) (length-timesAll (A .t1) (A .t2))
+
+array-read-product : tie.Need-array-read-product Inv-loop μ-loop
+array-read-product c = search needs
+
+array-read-product-2 : tie.Need-array-read-product-2 Inv-loop μ-loop
+array-read-product-2 c = search needs
+
+product-requires : tie.Need-product-requires Inv-loop μ-loop
+product-requires c κs = search needs
+
+array-write-r : tie.Need-array-write-r Inv-loop μ-loop
+array-write-r c = search needs
+
+add-m : tie.Need-add-m Inv-loop μ-loop
+add-m c = search needs
+
+loop-less : tie.Need-loop-less Inv-loop μ-loop
+loop-less c = search needs
 
 pub times-lanes-spec : {M : Type 1} → statement M
 times-lanes-spec =

@@ -9,15 +9,6 @@ use Rattle.code_rules.proofs.BitLaws.{twice-is}
 use Rattle.code_lanes.proofs.twice.Statement.{statement}
 use Rattle.code_lanes.proofs.twice.Tie as tie
 
-add-result : tie.Need-add-result
-add-result c = search needs
-
-add-sum : tie.Need-add-sum
-add-sum c = search needs
-
-sum-requires : tie.Need-sum-requires
-sum-requires c κs = search needs
-
 returns : tie.Need-returns
 returns c =
     let x : ℕ = c .before .args .x in
@@ -31,6 +22,15 @@ returns-2 c =
     let h : x < 256 = search needs in
     let l : 128 ≤ x = search needs in
     c .sum .ensures ∙ sym (twice-is x h ∙ ap (λ b. cond b (x + x) ((x - 128 + (x - 128)) ⊕ 29)) (le-ltb x 128 l))
+
+add-result : tie.Need-add-result
+add-result c = search needs
+
+add-sum : tie.Need-add-sum
+add-sum c = search needs
+
+sum-requires : tie.Need-sum-requires
+sum-requires c κs = search needs
 
 pub twice-spec : {M : Type 1} → statement M
 twice-spec = tie.close (tie.spec add-result add-sum sum-requires returns returns-2)

@@ -4,6 +4,9 @@ use Rattle.text_rules.proofs.Writing.{next}
 use Rattle.console.proofs.answer.Statement.{statement}
 use Rattle.console.proofs.answer.Tie as tie
 
+returns-4 : tie.Need-returns-4
+returns-4 c = search (next, needs)
+
 returns : tie.Need-returns
 returns c = search needs
 
@@ -33,9 +36,6 @@ same-length-2 c = search needs
 
 same-length-3 : tie.Need-same-length-3
 same-length-3 c = search needs
-
-returns-4 : tie.Need-returns-4
-returns-4 c = search (next, needs)
 
 same-length-4 : tie.Need-same-length-4
 same-length-4 c = search needs

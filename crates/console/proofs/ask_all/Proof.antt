@@ -4,6 +4,9 @@ use Rattle.text_rules.proofs.Writing.{next}
 use Rattle.console.proofs.ask_all.Statement.{statement}
 use Rattle.console.proofs.ask_all.Tie as tie
 
+returns-2 : tie.Need-returns-2
+returns-2 c = search (next, needs)
+
 ask-stateless-requires : tie.Need-ask-stateless-requires
 ask-stateless-requires c κs = search needs
 
@@ -21,9 +24,6 @@ same-length-2 c = search needs
 
 same-length-3 : tie.Need-same-length-3
 same-length-3 c = search needs
-
-returns-2 : tie.Need-returns-2
-returns-2 c = search (next, needs)
 
 pub ask-all-spec : {M : Type 1} → statement M
 ask-all-spec =

@@ -4,6 +4,15 @@ use Rattle.text_rules.proofs.Writing.{next}
 use Rattle.console.proofs.ask_figures.Statement.{statement}
 use Rattle.console.proofs.ask_figures.Tie as tie
 
+returns-2 : tie.Need-returns-2
+returns-2 c = search (next, needs)
+
+returns-3 : tie.Need-returns-3
+returns-3 c = search (next, needs)
+
+returns-4 : tie.Need-returns-4
+returns-4 c = search (next, needs)
+
 answer-requires : tie.Need-answer-requires
 answer-requires c κs = search needs
 
@@ -19,26 +28,17 @@ answer-requires-2 c κs = search needs
 same-length-2 : tie.Need-same-length-2
 same-length-2 c = search needs
 
-returns-2 : tie.Need-returns-2
-returns-2 c = search (next, needs)
-
 answer-requires-3 : tie.Need-answer-requires-3
 answer-requires-3 c κs = search needs
 
 same-length-3 : tie.Need-same-length-3
 same-length-3 c = search needs
 
-returns-3 : tie.Need-returns-3
-returns-3 c = search (next, needs)
-
 answer-requires-4 : tie.Need-answer-requires-4
 answer-requires-4 c κs = search needs
 
 same-length-4 : tie.Need-same-length-4
 same-length-4 c = search needs
-
-returns-4 : tie.Need-returns-4
-returns-4 c = search (next, needs)
 
 pub ask-figures-spec : {M : Type 1} → statement M
 ask-figures-spec =

@@ -4,6 +4,15 @@ use Rattle.text_rules.proofs.Writing.{next}
 use Rattle.console.proofs.ask_stateless.Statement.{statement}
 use Rattle.console.proofs.ask_stateless.Tie as tie
 
+returns-2 : tie.Need-returns-2
+returns-2 c = search (next, needs)
+
+returns-3 : tie.Need-returns-3
+returns-3 c = search (next, needs)
+
+returns-4 : tie.Need-returns-4
+returns-4 c = search (next, needs)
+
 ask-figures-requires : tie.Need-ask-figures-requires
 ask-figures-requires c κs = search needs
 
@@ -19,26 +28,17 @@ answer-requires c κs = search needs
 same-length-2 : tie.Need-same-length-2
 same-length-2 c = search needs
 
-returns-2 : tie.Need-returns-2
-returns-2 c = search (next, needs)
-
 answer-requires-2 : tie.Need-answer-requires-2
 answer-requires-2 c κs = search needs
 
 same-length-3 : tie.Need-same-length-3
 same-length-3 c = search needs
 
-returns-3 : tie.Need-returns-3
-returns-3 c = search (next, needs)
-
 answer-requires-3 : tie.Need-answer-requires-3
 answer-requires-3 c κs = search needs
 
 same-length-4 : tie.Need-same-length-4
 same-length-4 c = search needs
-
-returns-4 : tie.Need-returns-4
-returns-4 c = search (next, needs)
 
 pub ask-stateless-spec : {M : Type 1} → statement M
 ask-stateless-spec =

@@ -30,6 +30,24 @@ abbrev μ-loop : tie.MeasureT-loop
 loop-holds : tie.Need-loop-holds Inv-loop μ-loop
 loop-holds c = (search needs, refl)
 
+eight-requires : tie.Need-eight-requires Inv-loop μ-loop
+eight-requires c κs =
+    let l = c .before .before .loop in
+    let s = c .before .before .before .before in
+    (length-part (l .a) (s .args .bytes .now) (search needs), s .pre)
+
+loop-again : tie.Need-loop-again Inv-loop μ-loop
+loop-again c =
+    let l = c .before .before .before .loop in
+    let s = c .before .before .before .before .before .args .bytes .now in
+    let e = ap (λ r. registerOf r (drop (l .a + 8) s)) (c .eight .ensures) in
+    (search needs, e ∙ part-more s (l .a) (l .a + 8) (l .r) (omega arith) ∙ l .inv .1)
+
+returns : tie.Need-returns Inv-loop μ-loop
+returns c =
+    let l = c .before .before .before .loop in
+    c .by-bytes .ensures ∙ to-end (c .before .before .before .before .before .args .bytes .now) (l .a) (l .r) ∙ l .inv .1
+
 sub-loop : tie.Need-sub-loop Inv-loop μ-loop
 sub-loop c = search needs
 
@@ -45,21 +63,8 @@ part-eight-start c = search needs
 part-eight-end : tie.Need-part-eight-end Inv-loop μ-loop
 part-eight-end c = search needs
 
-eight-requires : tie.Need-eight-requires Inv-loop μ-loop
-eight-requires c κs =
-    let l = c .before .before .loop in
-    let s = c .before .before .before .before in
-    (length-part (l .a) (s .args .bytes .now) (search needs), s .pre)
-
 loop-less : tie.Need-loop-less Inv-loop μ-loop
 loop-less c = search needs
-
-loop-again : tie.Need-loop-again Inv-loop μ-loop
-loop-again c =
-    let l = c .before .before .before .loop in
-    let s = c .before .before .before .before .before .args .bytes .now in
-    let e = ap (λ r. registerOf r (drop (l .a + 8) s)) (c .eight .ensures) in
-    (search needs, e ∙ part-more s (l .a) (l .a + 8) (l .r) (omega arith) ∙ l .inv .1)
 
 sub-by-bytes : tie.Need-sub-by-bytes Inv-loop μ-loop
 sub-by-bytes c = search needs
@@ -72,11 +77,6 @@ part-by-bytes-end c = search needs
 
 by-bytes-requires : tie.Need-by-bytes-requires Inv-loop μ-loop
 by-bytes-requires c κs = search needs
-
-returns : tie.Need-returns Inv-loop μ-loop
-returns c =
-    let l = c .before .before .before .loop in
-    c .by-bytes .ensures ∙ to-end (c .before .before .before .before .before .args .bytes .now) (l .a) (l .r) ∙ l .inv .1
 
 pub by-eights-spec : {M : Type 1} → statement M
 by-eights-spec =

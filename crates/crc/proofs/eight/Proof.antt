@@ -21,23 +21,8 @@ abbrev μ-loop : tie.MeasureT-loop
 loop-holds : tie.Need-loop-holds Inv-loop μ-loop
 loop-holds c = (search needs, refl)
 
-high-requires : tie.Need-high-requires Inv-loop μ-loop
-high-requires c κs = search needs
-
-shared-slice-read-share : tie.Need-shared-slice-read-share Inv-loop μ-loop
-shared-slice-read-share c = search needs
-
 share-requires : tie.Need-share-requires Inv-loop μ-loop
 share-requires c κs = (search needs, c .before .before .before .before .before .pre .1)
-
-mul-r : tie.Need-mul-r Inv-loop μ-loop
-mul-r c = search needs
-
-add-b : tie.Need-add-b Inv-loop μ-loop
-add-b c = search needs
-
-loop-less : tie.Need-loop-less Inv-loop μ-loop
-loop-less c = search needs
 
 loop-again : tie.Need-loop-again Inv-loop μ-loop
 loop-again c =
@@ -56,6 +41,21 @@ returns c =
     let l = c .before .loop in
     let s = c .before .before .before in
     ap (bitXor (l .sum)) (sym (no-more (s .args .p .now) (l .b) (l .r) (omega arith))) ∙ l .inv .1
+
+high-requires : tie.Need-high-requires Inv-loop μ-loop
+high-requires c κs = search needs
+
+shared-slice-read-share : tie.Need-shared-slice-read-share Inv-loop μ-loop
+shared-slice-read-share c = search needs
+
+mul-r : tie.Need-mul-r Inv-loop μ-loop
+mul-r c = search needs
+
+add-b : tie.Need-add-b Inv-loop μ-loop
+add-b c = search needs
+
+loop-less : tie.Need-loop-less Inv-loop μ-loop
+loop-less c = search needs
 
 pub eight-spec : {M : Type 1} → statement M
 eight-spec =

@@ -30,12 +30,20 @@ Inv-loop r b q₀ i₀ q i = (i ≤ 8) × (shifts (8 - i) q ≡ feed r b)
 abbrev μ-loop : tie.MeasureT-loop
 μ-loop r b q₀ i₀ q i = 8 - i
 
-mul-q : tie.Need-mul-q Inv-loop μ-loop
-mul-q c = search needs
-
 loop-holds : tie.Need-loop-holds Inv-loop μ-loop
 unfolding shifts feed shift8
 loop-holds c = (search needs, refl)
+
+loop-again : tie.Need-loop-again Inv-loop μ-loop
+loop-again c =
+    let l = c .before .before .loop in
+    (search needs, one-shift (l .i) _ _ (c .before .loop-test .taken) (c .shifted .ensures) ∙ l .inv .1)
+
+returns : tie.Need-returns Inv-loop μ-loop
+returns c = no-shift _ _ (c .before .loop .inv .0) (c .loop-test .left) ∙ c .before .loop .inv .1
+
+mul-q : tie.Need-mul-q Inv-loop μ-loop
+mul-q c = search needs
 
 shifted-requires : tie.Need-shifted-requires Inv-loop μ-loop
 shifted-requires c κs = search needs
@@ -45,14 +53,6 @@ add-i c = search needs
 
 loop-less : tie.Need-loop-less Inv-loop μ-loop
 loop-less c = search needs
-
-loop-again : tie.Need-loop-again Inv-loop μ-loop
-loop-again c =
-    let l = c .before .before .loop in
-    (search needs, one-shift (l .i) _ _ (c .before .loop-test .taken) (c .shifted .ensures) ∙ l .inv .1)
-
-returns : tie.Need-returns Inv-loop μ-loop
-returns c = no-shift _ _ (c .before .loop .inv .0) (c .loop-test .left) ∙ c .before .loop .inv .1
 
 pub fed-spec : {M : Type 1} → statement M
 fed-spec =

@@ -6,11 +6,11 @@ use Rattle.crc_rules.specs.Crc.{residue}
 use Rattle.crc.proofs.intact.Statement.{statement}
 use Rattle.crc.proofs.intact.Tie as tie
 
-register-requires : tie.Need-register-requires
-register-requires c κs = search needs
-
 returns : tie.Need-returns
 returns c = ap (λ k. eqb k residue) (c .register .ensures)
+
+register-requires : tie.Need-register-requires
+register-requires c κs = search needs
 
 pub intact-spec : {M : Type 1} → statement M
 intact-spec = tie.close (tie.spec register-requires returns)

@@ -6,15 +6,15 @@ use Rattle.crc_rules.proofs.Halves.{halves}
 use Rattle.crc.proofs.register.Statement.{statement}
 use Rattle.crc.proofs.register.Tie as tie
 
+by-eights-requires : tie.Need-by-eights-requires
+unfolding rounds shift8 shift
+by-eights-requires c κs = halves _ tt
+
 by-bytes-requires : tie.Need-by-bytes-requires
 by-bytes-requires c κs = search needs
 
 returns : tie.Need-returns
 returns c = search needs
-
-by-eights-requires : tie.Need-by-eights-requires
-unfolding rounds shift8 shift
-by-eights-requires c κs = halves _ tt
 
 returns-2 : tie.Need-returns-2
 returns-2 c = search needs

@@ -7,6 +7,13 @@ use Rattle.crc_rules.proofs.Halves.{share-law}
 use Rattle.crc.proofs.share.Statement.{statement}
 use Rattle.crc.proofs.share.Tie as tie
 
+returns : tie.Need-returns
+returns c =
+    let s = c .before .before .before in
+    let x = c .before .before .wide in
+    share-law (s .args .t .now) (s .args .b) (x .result) (s .pre .1) (s .pre .0) (search needs)
+    ∙ ap (λ k. rounds (8 - s .args .b) (k * 256)) (x .ensures)
+
 mul-at : tie.Need-mul-at
 mul-at c = search needs
 
@@ -33,13 +40,6 @@ mul-result-2 c = search needs
 
 element-copy-out-result-2 : tie.Need-element-copy-out-result-2
 element-copy-out-result-2 c = search needs
-
-returns : tie.Need-returns
-returns c =
-    let s = c .before .before .before in
-    let x = c .before .before .wide in
-    share-law (s .args .t .now) (s .args .b) (x .result) (s .pre .1) (s .pre .0) (search needs)
-    ∙ ap (λ k. rounds (8 - s .args .b) (k * 256)) (x .ensures)
 
 pub share-spec : {M : Type 1} → statement M
 share-spec =

@@ -5,6 +5,13 @@ use Rattle.field_rules.proofs.Rules.{logged}
 use Rattle.field.proofs.both.Statement.{statement}
 use Rattle.field.proofs.both.Tie as tie
 
+returns : tie.Need-returns
+returns c =
+    let s = c .before .before .before .before in
+    let p = c .wide2 .ensures ∙ c .before .entry2 .ensures in
+    let q = c .before .before .wide .ensures ∙ c .before .before .before .entry .ensures in
+    (logged (s .pre .0) (search needs) q, logged (s .pre .1) (search needs) p)
+
 entry-requires : tie.Need-entry-requires
 entry-requires c κs = search needs
 
@@ -16,13 +23,6 @@ entry-requires-2 c κs = search needs
 
 wide-requires-2 : tie.Need-wide-requires-2
 wide-requires-2 c κs = search needs
-
-returns : tie.Need-returns
-returns c =
-    let s = c .before .before .before .before in
-    let p = c .wide2 .ensures ∙ c .before .entry2 .ensures in
-    let q = c .before .before .wide .ensures ∙ c .before .before .before .entry .ensures in
-    (logged (s .pre .0) (search needs) q, logged (s .pre .1) (search needs) p)
 
 pub both-spec : {M : Type 1} → statement M
 both-spec =

@@ -13,6 +13,11 @@ returns c = sym (ap (λ x. x ⊗ c .before .args .b) (c .if1 .taken) ∙ mul-0-l
 returns-2 : tie.Need-returns-2
 returns-2 c = sym (ap (λ x. c .before .before .args .a ⊗ x) (c .if2 .taken) ∙ mul-0-r (c .before .before .args .a))
 
+returns-3 : tie.Need-returns-3
+returns-3 c =
+    let l = c .before .before .logs .ensures in
+    c .raised .ensures ∙ log-mul _ _ (l .0 .small) (l .1 .small) (l .0 .power) (l .1 .power)
+
 logs-requires : tie.Need-logs-requires
 logs-requires c κs = search needs
 
@@ -21,11 +26,6 @@ add-raised c = search needs
 
 raised-requires : tie.Need-raised-requires
 raised-requires c κs = search needs
-
-returns-3 : tie.Need-returns-3
-returns-3 c =
-    let l = c .before .before .logs .ensures in
-    c .raised .ensures ∙ log-mul _ _ (l .0 .small) (l .1 .small) (l .0 .power) (l .1 .power)
 
 pub product-spec : {M : Type 1} → statement M
 product-spec =

@@ -17,6 +17,12 @@ returns-2 c =
     let e = ap (λ x. x ⊗ inv b) (c .if2 .taken) ∙ mul-0-l (inv b) in
     quotient-given _ b 0 (c .before .if1 .left) (sym e)
 
+returns-3 : tie.Need-returns-3
+returns-3 c =
+    let l = c .before .before .before .logs .ensures in
+    let e = c .raised .ensures ∙ log-div _ _ (l .0 .small) (l .1 .small) (l .0 .power) (l .1 .power) in
+    quotient-given _ _ _ (c .before .before .before .before .before .if1 .left) e
+
 logs-requires : tie.Need-logs-requires
 logs-requires c κs = search needs
 
@@ -28,12 +34,6 @@ sub-raised c = search needs
 
 raised-requires : tie.Need-raised-requires
 raised-requires c κs = search needs
-
-returns-3 : tie.Need-returns-3
-returns-3 c =
-    let l = c .before .before .before .logs .ensures in
-    let e = c .raised .ensures ∙ log-div _ _ (l .0 .small) (l .1 .small) (l .0 .power) (l .1 .power) in
-    quotient-given _ _ _ (c .before .before .before .before .before .if1 .left) e
 
 pub quotient-spec : {M : Type 1} → statement M
 quotient-spec =

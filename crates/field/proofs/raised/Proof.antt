@@ -7,12 +7,12 @@ use Rattle.field_rules.proofs.Rules.{exps-at}
 use Rattle.field.proofs.raised.Statement.{statement}
 use Rattle.field.proofs.raised.Tie as tie
 
-array-read-result : tie.Need-array-read-result
-array-read-result c = search needs
-
 returns : tie.Need-returns
 unfolding powers times2 _⊕_
 returns c = exps-at _ _ refl (search needs)
+
+array-read-result : tie.Need-array-read-result
+array-read-result c = search needs
 
 pub raised-spec : {M : Type 1} → statement M
 raised-spec = tie.close (tie.spec array-read-result returns)

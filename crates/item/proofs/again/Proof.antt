@@ -7,12 +7,6 @@ use Rattle.item.proofs.again.Reads as reads
 use Rattle.item.proofs.again.Lts as lts
 use Rattle.item.proofs.first_in.Reads as first-in-reads
 
-first-in-requires : tie.Need-first-in-requires
-first-in-requires c κs = search needs
-
-enum-known-f : tie.Need-enum-known-f
-enum-known-f c = search needs
-
 enum-told : tie.Need-enum-told
 enum-told c = search needs
 
@@ -23,6 +17,12 @@ returns c =
 
 returns-2 : tie.Need-returns-2
 returns-2 c = sym (simp (c .before .before .before .if1 .taken, sym (c .before .before .first-in .ensures) ∙ c .enum-told .given .1))
+
+first-in-requires : tie.Need-first-in-requires
+first-in-requires c κs = search needs
+
+enum-known-f : tie.Need-enum-known-f
+enum-known-f c = search needs
 
 returns-3 : tie.Need-returns-3
 returns-3 c = search needs

@@ -11,14 +11,8 @@ use Rattle.item.proofs.bad_ptr.Reads as bad-ptr-reads
 returns : tie.Need-returns
 returns c = fault-dmy _ _ (c .if1 .taken)
 
-again-requires : tie.Need-again-requires
-again-requires c κs = search needs
-
 returns-2 : tie.Need-returns-2
 returns-2 c = fault-again _ _ (c .before .before .if1 .left) (sym (c .before .again .ensures) ∙ c .if2 .taken)
-
-bad-ptr-requires : tie.Need-bad-ptr-requires
-bad-ptr-requires c κs = search needs
 
 returns-3 : tie.Need-returns-3
 returns-3 c =
@@ -27,6 +21,12 @@ returns-3 c =
 returns-4 : tie.Need-returns-4
 returns-4 c =
     fault-none _ _ (sym (c .before .before .before .again .ensures) ∙ c .before .before .if2 .left) (sym (c .before .bad-ptr .ensures) ∙ c .if3 .left)
+
+again-requires : tie.Need-again-requires
+again-requires c κs = search needs
+
+bad-ptr-requires : tie.Need-bad-ptr-requires
+bad-ptr-requires c κs = search needs
 
 pub fault-of-spec : {M : Type 1} → statement M
 fault-of-spec =

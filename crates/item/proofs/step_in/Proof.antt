@@ -19,6 +19,17 @@ returns-2 : tie.Need-returns-2
 unfolding stepIn
 returns-2 c = simp (lt-ltb _ _ (c .if2 .taken))
 
+returns-3 : tie.Need-returns-3
+returns-3 c =
+    let h = c .before .before .before .before .before .if2 .left in let f = c .if3 .taken in is-overrun _ _ _ _ _ h
+    (c .before .before .before .read42 .ensures) (c .before .before .bytes-of .ensures) (omega arith)
+
+returns-4 : tie.Need-returns-4
+returns-4 c =
+    let h = c .before .before .before .before .before .if2 .left in let f = c .if3 .left in is-item _ _ _ _ _ _ h
+    (c .before .before .before .before .read4 .ensures) (c .before .before .before .read42 .ensures) (c .before .before .bytes-of .ensures)
+    (omega arith)
+
 read4-requires : tie.Need-read4-requires
 read4-requires c κs = search needs
 
@@ -31,19 +42,8 @@ read4-requires-2 c κs = search needs
 bytes-of-requires : tie.Need-bytes-of-requires
 bytes-of-requires c κs = search needs
 
-returns-3 : tie.Need-returns-3
-returns-3 c =
-    let h = c .before .before .before .before .before .if2 .left in let f = c .if3 .taken in is-overrun _ _ _ _ _ h
-    (c .before .before .before .read42 .ensures) (c .before .before .bytes-of .ensures) (omega arith)
-
 add-t12 : tie.Need-add-t12
 add-t12 c = search needs
-
-returns-4 : tie.Need-returns-4
-returns-4 c =
-    let h = c .before .before .before .before .before .if2 .left in let f = c .if3 .left in is-item _ _ _ _ _ _ h
-    (c .before .before .before .before .read4 .ensures) (c .before .before .before .read42 .ensures) (c .before .before .bytes-of .ensures)
-    (omega arith)
 
 pub step-in-spec : {M : Type 1} → statement M
 step-in-spec =

@@ -5,6 +5,17 @@ use Rattle.lister_rules.specs.Listing.{headLine}
 use Rattle.lister.proofs.head_line.Statement.{statement}
 use Rattle.lister.proofs.head_line.Tie as tie
 
+returns : tie.Need-returns
+unfolding headLine
+returns c =
+    let minor = c .before .before .before .before .before .before .before .before in
+    let major = minor .before .before .before .before .before in
+    let seq = major .before .before .before .before .before in
+    let front = seq .before .before .before .before .before in
+    lays-more _ _ _ _ (front .plain .ensures)
+    (lays-more _ _ _ _ (seq .decimal .ensures)
+    (lays-more _ _ _ _ (major .plain2 .ensures) (lays-more _ _ _ _ (minor .decimal2 .ensures) (c .before .before .number-line .ensures))))
+
 slice-aggregate-plain : tie.Need-slice-aggregate-plain
 slice-aggregate-plain c = search needs
 
@@ -40,17 +51,6 @@ number-line-requires c κs = search needs
 
 same-length : tie.Need-same-length
 same-length c = search needs
-
-returns : tie.Need-returns
-unfolding headLine
-returns c =
-    let minor = c .before .before .before .before .before .before .before .before in
-    let major = minor .before .before .before .before .before in
-    let seq = major .before .before .before .before .before in
-    let front = seq .before .before .before .before .before in
-    lays-more _ _ _ _ (front .plain .ensures)
-    (lays-more _ _ _ _ (seq .decimal .ensures)
-    (lays-more _ _ _ _ (major .plain2 .ensures) (lays-more _ _ _ _ (minor .decimal2 .ensures) (c .before .before .number-line .ensures))))
 
 pub head-line-spec : {M : Type 1} → statement M
 head-line-spec =

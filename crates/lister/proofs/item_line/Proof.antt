@@ -7,6 +7,17 @@ use Rattle.lister_rules.specs.Listing.{itemLine}
 use Rattle.lister.proofs.item_line.Statement.{statement}
 use Rattle.lister.proofs.item_line.Tie as tie
 
+returns : tie.Need-returns
+unfolding itemLine
+returns c =
+    let name = c .before .before .before .before .before .before .before in
+    let blank = name .before .before .before .before .before in
+    let depth = blank .before .before .before .before .before in
+    let raw = depth .before .before .before in
+    lays-more _ _ _ _ (depth .decimal .ensures)
+    (lays-more _ _ _ _ (blank .plain .ensures)
+    (lays-more _ _ _ _ (lays-same _ _ (ap hexOf (raw .bytes4 .ensures)) (name .hex .ensures)) (c .before .before .number-line .ensures)))
+
 bytes4-requires : tie.Need-bytes4-requires
 bytes4-requires c κs = search needs
 
@@ -36,17 +47,6 @@ number-line-requires c κs = search needs
 
 same-length : tie.Need-same-length
 same-length c = search needs
-
-returns : tie.Need-returns
-unfolding itemLine
-returns c =
-    let name = c .before .before .before .before .before .before .before in
-    let blank = name .before .before .before .before .before in
-    let depth = blank .before .before .before .before .before in
-    let raw = depth .before .before .before in
-    lays-more _ _ _ _ (depth .decimal .ensures)
-    (lays-more _ _ _ _ (blank .plain .ensures)
-    (lays-more _ _ _ _ (lays-same _ _ (ap hexOf (raw .bytes4 .ensures)) (name .hex .ensures)) (c .before .before .number-line .ensures)))
 
 pub item-line-spec : {M : Type 1} → statement M
 item-line-spec =

@@ -18,18 +18,6 @@ abbrev μ-loop : tie.MeasureT-loop
 loop-holds : tie.Need-loop-holds Inv-loop μ-loop
 loop-holds c = begins _ _ _ _ _ (c .before .before .pre .0) (c .before .before .pre .1)
 
-slice-aggregate-walk-step : tie.Need-slice-aggregate-walk-step Inv-loop μ-loop
-slice-aggregate-walk-step c = search needs
-
-walk-step-requires : tie.Need-walk-step-requires Inv-loop μ-loop
-walk-step-requires c κs = search needs
-
-enum-known-handed : tie.Need-enum-known-handed Inv-loop μ-loop
-enum-known-handed c = search needs
-
-item-line-requires : tie.Need-item-line-requires Inv-loop μ-loop
-item-line-requires c κs = search needs
-
 loop-less : tie.Need-loop-less Inv-loop μ-loop
 loop-less c =
     let item = c .before .before .before .before .before .before in
@@ -43,15 +31,6 @@ loop-again c =
     let step = item .before .before in
     turn _ _ _ _ _ _ _ (step .before .before .loop .inv) _ (step .walk-step .ensures) _ (item .handed .given .1) _ _
     (c .before .before .before .item-line .ensures) .0
-
-enum-known-handed-2 : tie.Need-enum-known-handed-2 Inv-loop μ-loop
-enum-known-handed-2 c = search needs
-
-slice-aggregate-number-line : tie.Need-slice-aggregate-number-line Inv-loop μ-loop
-slice-aggregate-number-line c = search needs
-
-number-line-requires : tie.Need-number-line-requires Inv-loop μ-loop
-number-line-requires c κs = search needs
 
 returns : tie.Need-returns Inv-loop μ-loop
 returns c =
@@ -75,6 +54,27 @@ returns-2 : tie.Need-returns-2 Inv-loop μ-loop
 returns-2 c =
     let step = c .before .before in
     absurd (never _ _ _ _ _ _ _ (step .before .before .loop .inv) _ (step .walk-step .ensures) _ (c .enum-told .given .1))
+
+slice-aggregate-walk-step : tie.Need-slice-aggregate-walk-step Inv-loop μ-loop
+slice-aggregate-walk-step c = search needs
+
+walk-step-requires : tie.Need-walk-step-requires Inv-loop μ-loop
+walk-step-requires c κs = search needs
+
+enum-known-handed : tie.Need-enum-known-handed Inv-loop μ-loop
+enum-known-handed c = search needs
+
+item-line-requires : tie.Need-item-line-requires Inv-loop μ-loop
+item-line-requires c κs = search needs
+
+enum-known-handed-2 : tie.Need-enum-known-handed-2 Inv-loop μ-loop
+enum-known-handed-2 c = search needs
+
+slice-aggregate-number-line : tie.Need-slice-aggregate-number-line Inv-loop μ-loop
+slice-aggregate-number-line c = search needs
+
+number-line-requires : tie.Need-number-line-requires Inv-loop μ-loop
+number-line-requires c κs = search needs
 
 pub item-lines-spec : {M : Type 1} → statement M
 item-lines-spec =

@@ -5,6 +5,18 @@ use Rattle.lister_rules.proofs.Texts.{packet-refused, packet-passes}
 use Rattle.lister.proofs.list.Statement.{statement}
 use Rattle.lister.proofs.list.Tie as tie
 
+returns : tie.Need-returns
+returns c =
+    let known = c .before .before .before .before .before in
+    lays-same _ _ (packet-refused _ _ (known .before .before .check .ensures) _ (known .checked .given .1)) (c .before .before .refused-line .ensures)
+
+returns-2 : tie.Need-returns-2
+returns-2 c =
+    let known = c .before .before .before .before .before .before in
+    let text = packet-passes _ _ (known .before .before .check .ensures) _ _ (known .checked2 .given .1)
+    (c .before .before .before .before .payload .ensures) in
+    lays-same _ _ text (c .before .before .list-payload .ensures)
+
 check-requires : tie.Need-check-requires
 check-requires c κs = search needs
 
@@ -26,20 +38,8 @@ list-payload-requires c κs = search needs
 same-length : tie.Need-same-length
 same-length c = search needs
 
-returns : tie.Need-returns
-returns c =
-    let known = c .before .before .before .before .before in
-    lays-same _ _ (packet-refused _ _ (known .before .before .check .ensures) _ (known .checked .given .1)) (c .before .before .refused-line .ensures)
-
 same-length-2 : tie.Need-same-length-2
 same-length-2 c = search needs
-
-returns-2 : tie.Need-returns-2
-returns-2 c =
-    let known = c .before .before .before .before .before .before in
-    let text = packet-passes _ _ (known .before .before .check .ensures) _ _ (known .checked2 .given .1)
-    (c .before .before .before .before .payload .ensures) in
-    lays-same _ _ text (c .before .before .list-payload .ensures)
 
 pub list-spec : {M : Type 1} → statement M
 list-spec =

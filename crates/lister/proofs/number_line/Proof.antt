@@ -4,6 +4,13 @@ use Rattle.text_rules.proofs.Laws.{lays-more}
 use Rattle.lister.proofs.number_line.Statement.{statement}
 use Rattle.lister.proofs.number_line.Tie as tie
 
+returns : tie.Need-returns
+returns c =
+    let Before = c .before .before .before .before .before .before .before in
+    let number = Before in
+    lays-more _ _ _ _ (number .before .before .before .before .plain .ensures)
+    (lays-more _ _ _ _ (number .decimal .ensures) (c .before .before .plain2 .ensures))
+
 plain-requires : tie.Need-plain-requires
 plain-requires c κs = search needs
 
@@ -18,13 +25,6 @@ plain-requires-2 c κs = search needs
 
 same-length : tie.Need-same-length
 same-length c = search needs
-
-returns : tie.Need-returns
-returns c =
-    let Before = c .before .before .before .before .before .before .before in
-    let number = Before in
-    lays-more _ _ _ _ (number .before .before .before .before .plain .ensures)
-    (lays-more _ _ _ _ (number .decimal .ensures) (c .before .before .plain2 .ensures))
 
 pub number-line-spec : {M : Type 1} → statement M
 number-line-spec =

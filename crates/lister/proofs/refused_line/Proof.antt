@@ -4,6 +4,10 @@ use Rattle.lister_rules.specs.Listing.{refusedLine}
 use Rattle.lister.proofs.refused_line.Statement.{statement}
 use Rattle.lister.proofs.refused_line.Tie as tie
 
+returns : tie.Need-returns
+unfolding refusedLine
+returns c = c .before .before .number-line .ensures
+
 slice-aggregate-number-line : tie.Need-slice-aggregate-number-line
 slice-aggregate-number-line c = search needs
 
@@ -12,10 +16,6 @@ number-line-requires c κs = search needs
 
 same-length : tie.Need-same-length
 same-length c = search needs
-
-returns : tie.Need-returns
-unfolding refusedLine
-returns c = c .before .before .number-line .ensures
 
 pub refused-line-spec : {M : Type 1} → statement M
 refused-line-spec =

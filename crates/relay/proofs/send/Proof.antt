@@ -5,6 +5,9 @@ use lib.Seq.{length-take-le}
 use Rattle.relay.proofs.send.Statement.{statement}
 use Rattle.relay.proofs.send.Tie as tie
 
+slice-aggregate-arrive : tie.Need-slice-aggregate-arrive
+slice-aggregate-arrive c = sym (length-take-le _ _ (search needs))
+
 house-requires : tie.Need-house-requires
 house-requires c κs = search needs
 
@@ -25,9 +28,6 @@ returns c = search needs
 
 array-share-prefix-datagram : tie.Need-array-share-prefix-datagram
 array-share-prefix-datagram c = search needs
-
-slice-aggregate-arrive : tie.Need-slice-aggregate-arrive
-slice-aggregate-arrive c = sym (length-take-le _ _ (search needs))
 
 arrive-requires : tie.Need-arrive-requires
 arrive-requires c κs = search needs

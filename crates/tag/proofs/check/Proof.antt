@@ -25,26 +25,8 @@ Inv-loop packet end marks₀ at₀ marks at = Seen faultsOf packet 0 (length pac
 abbrev μ-loop : tie.MeasureT-loop
 μ-loop packet end marks₀ at₀ marks at = length packet - at
 
-no-marks-requires : tie.Need-no-marks-requires Inv-loop μ-loop
-no-marks-requires c κs = search needs
-
 loop-holds : tie.Need-loop-holds Inv-loop μ-loop
 loop-holds c = seen-none _ _ _ _ _ (ap length (c .no-marks .ensures) ∙ length-replicate slots false)
-
-step-in-requires : tie.Need-step-in-requires Inv-loop μ-loop
-step-in-requires c κs = search needs
-
-enum-known-step : tie.Need-enum-known-step Inv-loop μ-loop
-enum-known-step c = search needs
-
-slot-requires : tie.Need-slot-requires Inv-loop μ-loop
-slot-requires c κs = search needs
-
-array-read-fault-of : tie.Need-array-read-fault-of Inv-loop μ-loop
-array-read-fault-of c = search needs
-
-fault-of-requires : tie.Need-fault-of-requires Inv-loop μ-loop
-fault-of-requires c κs = search needs
 
 returns : tie.Need-returns Inv-loop μ-loop
 returns c =
@@ -52,9 +34,6 @@ returns c =
     let e = sym (k .before .before .step-in .ensures) ∙ k .step .given .1 in
     check-stops _ _ _ (k .before .before .before .loop .inv) _ e _ _ (c .before .before .slot .ensures .0) (c .before .fault-of .ensures)
     (c .if1 .taken)
-
-array-write-marks : tie.Need-array-write-marks Inv-loop μ-loop
-array-write-marks c = search needs
 
 add-at : tie.Need-add-at Inv-loop μ-loop
 add-at c =
@@ -80,13 +59,34 @@ enum-told c = search needs
 returns-2 : tie.Need-returns-2 Inv-loop μ-loop
 returns-2 c = check-ends _ _ _ (c .before .before .before .loop .inv) _ (sym (c .before .before .step-in .ensures) ∙ c .enum-told .given .1)
 
-enum-known-step-2 : tie.Need-enum-known-step-2 Inv-loop μ-loop
-enum-known-step-2 c = search needs
-
 returns-3 : tie.Need-returns-3 Inv-loop μ-loop
 returns-3 c =
     let k = c .before in
     check-refused _ _ _ (k .before .before .before .loop .inv) _ (sym (k .before .before .step-in .ensures) ∙ k .step2 .given .1)
+
+no-marks-requires : tie.Need-no-marks-requires Inv-loop μ-loop
+no-marks-requires c κs = search needs
+
+step-in-requires : tie.Need-step-in-requires Inv-loop μ-loop
+step-in-requires c κs = search needs
+
+enum-known-step : tie.Need-enum-known-step Inv-loop μ-loop
+enum-known-step c = search needs
+
+slot-requires : tie.Need-slot-requires Inv-loop μ-loop
+slot-requires c κs = search needs
+
+array-read-fault-of : tie.Need-array-read-fault-of Inv-loop μ-loop
+array-read-fault-of c = search needs
+
+fault-of-requires : tie.Need-fault-of-requires Inv-loop μ-loop
+fault-of-requires c κs = search needs
+
+array-write-marks : tie.Need-array-write-marks Inv-loop μ-loop
+array-write-marks c = search needs
+
+enum-known-step-2 : tie.Need-enum-known-step-2 Inv-loop μ-loop
+enum-known-step-2 c = search needs
 
 pub check-spec : {M : Type 1} → statement M
 check-spec =

@@ -9,6 +9,22 @@ use Rattle.tag.proofs.find.Lts as lts
 use Rattle.tag.proofs.locate.Reads as locate-reads
 use Rattle.tag.proofs.value.Reads as value-reads
 
+enum-told : tie.Need-enum-told
+enum-told c = search needs
+
+returns : tie.Need-returns
+returns c =
+    let k = c .before .before in
+    c .value .ensures ∙ sym (ap (shownBy _ _) (sym (k .before .before .locate .ensures) ∙ k .l .given .1))
+
+returns-2 : tie.Need-returns-2
+returns-2 c =
+    let k = c .before .before in
+    c .value2 .ensures ∙ sym (ap (shownBy _ _) (sym (k .before .before .locate .ensures) ∙ k .l2 .given .1))
+
+returns-3 : tie.Need-returns-3
+returns-3 c = sym (ap (shownBy _ _) (sym (c .before .before .before .locate .ensures) ∙ c .before .enum-told .given .1))
+
 locate-requires : tie.Need-locate-requires
 locate-requires c κs = search needs
 
@@ -24,24 +40,8 @@ enum-known-l-2 c = search needs
 value-requires-2 : tie.Need-value-requires-2
 value-requires-2 c κs = search needs
 
-enum-told : tie.Need-enum-told
-enum-told c = search needs
-
 slice-aggregate-result : tie.Need-slice-aggregate-result
 slice-aggregate-result c = search needs
-
-returns : tie.Need-returns
-returns c =
-    let k = c .before .before in
-    c .value .ensures ∙ sym (ap (shownBy _ _) (sym (k .before .before .locate .ensures) ∙ k .l .given .1))
-
-returns-2 : tie.Need-returns-2
-returns-2 c =
-    let k = c .before .before in
-    c .value2 .ensures ∙ sym (ap (shownBy _ _) (sym (k .before .before .locate .ensures) ∙ k .l2 .given .1))
-
-returns-3 : tie.Need-returns-3
-returns-3 c = sym (ap (shownBy _ _) (sym (c .before .before .before .locate .ensures) ∙ c .before .enum-told .given .1))
 
 pub find-spec : {M : Type 1} → statement M
 find-spec =

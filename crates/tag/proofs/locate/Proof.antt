@@ -9,25 +9,13 @@ use Rattle.tag.proofs.locate.Lts as lts
 use Rattle.item.proofs.first_in.Reads as first-in-reads
 use Rattle.tag.proofs.check.Reads as check-reads
 
-check-requires : tie.Need-check-requires
-check-requires c κs = search needs
-
 returns : tie.Need-returns
 returns c = refused-first _ _ _ _ (c .before .check .ensures) (c .if1 .taken)
-
-check-requires-2 : tie.Need-check-requires-2
-check-requires-2 c κs = search needs
 
 returns-2 : tie.Need-returns-2
 returns-2 c =
     let k = c .before in
     refused-second _ _ _ _ _ (k .before .before .check .ensures) (k .before .if1 .left) (k .check2 .ensures) (c .if2 .taken)
-
-first-in-requires : tie.Need-first-in-requires
-first-in-requires c κs = search needs
-
-enum-known-f : tie.Need-enum-known-f
-enum-known-f c = search needs
 
 returns-3 : tie.Need-returns-3
 returns-3 c =
@@ -38,15 +26,6 @@ returns-3 c =
 
 enum-told : tie.Need-enum-told
 enum-told c = search needs
-
-first-in-requires-2 : tie.Need-first-in-requires-2
-first-in-requires-2 c κs = search needs
-
-enum-known-g : tie.Need-enum-known-g
-enum-known-g c = search needs
-
-enum-told-2 : tie.Need-enum-told-2
-enum-told-2 c = search needs
 
 returns-4 : tie.Need-returns-4
 returns-4 c =
@@ -65,6 +44,27 @@ returns-5 c =
     (k .if2 .left)
     (sym (c .before .before .before .before .before .first-in .ensures) ∙ c .before .before .before .enum-told .given .1)
     (sym (c .before .before .first-in2 .ensures) ∙ c .enum-told2 .given .1))
+
+check-requires : tie.Need-check-requires
+check-requires c κs = search needs
+
+check-requires-2 : tie.Need-check-requires-2
+check-requires-2 c κs = search needs
+
+first-in-requires : tie.Need-first-in-requires
+first-in-requires c κs = search needs
+
+enum-known-f : tie.Need-enum-known-f
+enum-known-f c = search needs
+
+first-in-requires-2 : tie.Need-first-in-requires-2
+first-in-requires-2 c κs = search needs
+
+enum-known-g : tie.Need-enum-known-g
+enum-known-g c = search needs
+
+enum-told-2 : tie.Need-enum-told-2
+enum-told-2 c = search needs
 
 pub locate-spec : {M : Type 1} → statement M
 locate-spec =

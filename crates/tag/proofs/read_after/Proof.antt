@@ -9,20 +9,11 @@ use Rattle.tag.proofs.read_after.Reads as reads
 use Rattle.tag.proofs.read_after.Lts as lts
 use Rattle.tag.proofs.read_at.Reads as read-at-reads
 
-read-at-requires : tie.Need-read-at-requires
-read-at-requires c κs = search needs
-
-enum-known-step : tie.Need-enum-known-step
-enum-known-step c = search needs
-
 add-result : tie.Need-add-result
 add-result c = omega (arith, handed-fits _ _ _ _ (sym (c .before .before .before .before .read-at .ensures) ∙ c .before .before .step .given .1))
 
 enum-told : tie.Need-enum-told
 enum-told c = search needs
-
-enum-told-2 : tie.Need-enum-told-2
-enum-told-2 c = search needs
 
 returns : tie.Need-returns
 returns c =
@@ -34,6 +25,15 @@ returns-2 c = after-is _ _ _ _ (sym (c .before .before .read-at .ensures) ∙ c 
 
 returns-3 : tie.Need-returns-3
 returns-3 c = after-is _ _ _ _ (sym (c .before .before .read-at .ensures) ∙ c .enum-told2 .given .1)
+
+read-at-requires : tie.Need-read-at-requires
+read-at-requires c κs = search needs
+
+enum-known-step : tie.Need-enum-known-step
+enum-known-step c = search needs
+
+enum-told-2 : tie.Need-enum-told-2
+enum-told-2 c = search needs
 
 pub read-after-spec : {M : Type 1} → statement M
 read-after-spec =

@@ -12,12 +12,12 @@ returns : tie.Need-returns
 unfolding readOf
 returns c = simp (ne-eqb _ 0 (c .if1 .taken))
 
-step-in-requires : tie.Need-step-in-requires
-step-in-requires c κs = search needs
-
 returns-2 : tie.Need-returns-2
 unfolding readOf
 returns-2 c = simp (c .before .if1 .left) (c .step-in .ensures)
+
+step-in-requires : tie.Need-step-in-requires
+step-in-requires c κs = search needs
 
 pub read-at-spec : {M : Type 1} → statement M
 read-at-spec = tie.close (tie.spec returns step-in-requires returns-2)

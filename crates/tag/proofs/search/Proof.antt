@@ -9,6 +9,22 @@ use Rattle.tag.proofs.search.Lts as lts
 use Rattle.tag.proofs.found.Reads as found-reads
 use Rattle.tag.proofs.locate.Reads as locate-reads
 
+returns : tie.Need-returns
+unfolding searchCall searchAnswer
+returns c =
+    let k = c .before .before in
+    c .found .ensures ∙ sym (ap searchAnswer (sym (k .before .before .locate .ensures) ∙ k .l .given .1))
+
+returns-2 : tie.Need-returns-2
+unfolding searchCall searchAnswer
+returns-2 c =
+    let k = c .before .before in
+    c .found2 .ensures ∙ sym (ap searchAnswer (sym (k .before .before .locate .ensures) ∙ k .l2 .given .1))
+
+returns-3 : tie.Need-returns-3
+unfolding soughtNumber searchCall searchAnswer
+returns-3 c = sym (ap searchAnswer (sym (c .before .before .before .locate .ensures) ∙ c .before .l3 .given .1))
+
 locate-requires : tie.Need-locate-requires
 locate-requires c κs = search needs
 
@@ -26,22 +42,6 @@ found-requires-2 c κs = search needs
 
 enum-known-l-3 : tie.Need-enum-known-l-3
 enum-known-l-3 c = search needs
-
-returns : tie.Need-returns
-unfolding searchCall searchAnswer
-returns c =
-    let k = c .before .before in
-    c .found .ensures ∙ sym (ap searchAnswer (sym (k .before .before .locate .ensures) ∙ k .l .given .1))
-
-returns-2 : tie.Need-returns-2
-unfolding searchCall searchAnswer
-returns-2 c =
-    let k = c .before .before in
-    c .found2 .ensures ∙ sym (ap searchAnswer (sym (k .before .before .locate .ensures) ∙ k .l2 .given .1))
-
-returns-3 : tie.Need-returns-3
-unfolding soughtNumber searchCall searchAnswer
-returns-3 c = sym (ap searchAnswer (sym (c .before .before .before .locate .ensures) ∙ c .before .l3 .given .1))
 
 pub search-spec : {M : Type 1} → statement M
 search-spec =

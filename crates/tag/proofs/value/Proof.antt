@@ -6,11 +6,17 @@ use Rattle.tag.proofs.value.Tie as tie
 use Rattle.tag.proofs.value.Reads as reads
 use Rattle.tag.proofs.value.Lts as lts
 
-slice-aggregate-result : tie.Need-slice-aggregate-result
-slice-aggregate-result c = search needs
-
 returns : tie.Need-returns
 returns c = value-none _ _ (c .before .if1 .taken)
+
+returns-2 : tie.Need-returns-2
+returns-2 c = value-cut _ _ (c .before .if2 .taken)
+
+returns-3 : tie.Need-returns-3
+returns-3 c = value-whole _ _
+
+slice-aggregate-result : tie.Need-slice-aggregate-result
+slice-aggregate-result c = search needs
 
 sub-if2 : tie.Need-sub-if2
 sub-if2 c = search needs
@@ -24,9 +30,6 @@ part-result-start c = search needs
 part-result-end : tie.Need-part-result-end
 part-result-end c = search needs
 
-returns-2 : tie.Need-returns-2
-returns-2 c = value-cut _ _ (c .before .if2 .taken)
-
 add-end : tie.Need-add-end
 add-end c = search needs
 
@@ -38,9 +41,6 @@ part-result-start-2 c = search needs
 
 part-result-end-2 : tie.Need-part-result-end-2
 part-result-end-2 c = search needs
-
-returns-3 : tie.Need-returns-3
-returns-3 c = value-whole _ _
 
 pub value-spec : {M : Type 1} → statement M
 value-spec =

@@ -8,6 +8,14 @@ use Rattle.text_rules.proofs.Laws.{lays-same}
 use Rattle.text.proofs.byte.Statement.{statement}
 use Rattle.text.proofs.byte.Tie as tie
 
+returns : tie.Need-returns
+unfolding hexOf
+returns c =
+    let A = c .before .before .before .before .before .before .before .before .args in
+    let a = A in
+    lays-same (a .out .now) (a .at) (ap₂ (λ (x y : ℕ). x ∷ y ∷ []) (c .before .before .before .before .before .letter .ensures)
+    (c .before .before .before .before .letter2 .ensures)) (c .before .before .plain .ensures)
+
 letter-requires : tie.Need-letter-requires
 letter-requires c κs = search needs
 
@@ -22,14 +30,6 @@ plain-requires c κs = search needs
 
 same-length : tie.Need-same-length
 same-length c = search needs
-
-returns : tie.Need-returns
-unfolding hexOf
-returns c =
-    let A = c .before .before .before .before .before .before .before .before .args in
-    let a = A in
-    lays-same (a .out .now) (a .at) (ap₂ (λ (x y : ℕ). x ∷ y ∷ []) (c .before .before .before .before .before .letter .ensures)
-    (c .before .before .before .before .letter2 .ensures)) (c .before .before .plain .ensures)
 
 pub byte-spec : {M : Type 1} → statement M
 byte-spec =

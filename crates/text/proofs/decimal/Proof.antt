@@ -9,6 +9,15 @@ use Rattle.text_rules.proofs.Laws.{lays-same}
 use Rattle.text.proofs.decimal.Statement.{statement}
 use Rattle.text.proofs.decimal.Tie as tie
 
+returns : tie.Need-returns
+returns c =
+    let a = c .before .before .before .before .before .before .before .before .before .before .args in
+    let digits = c .before .before .before .before .before .before .before .digits-of in
+    let first = digits .result in
+    let s = digits .last .1 .0 in
+    let whole = take-all (20 - first) (drop first s) (omega (arith, length-drop first s)) in
+    lays-same (a .out .now) (a .at) (whole ∙ digits .ensures .1) (c .before .before .plain .ensures)
+
 slice-aggregate-digits-of : tie.Need-slice-aggregate-digits-of
 slice-aggregate-digits-of c = search needs
 
@@ -29,15 +38,6 @@ plain-requires c κs = search needs
 
 same-length : tie.Need-same-length
 same-length c = search needs
-
-returns : tie.Need-returns
-returns c =
-    let a = c .before .before .before .before .before .before .before .before .before .before .args in
-    let digits = c .before .before .before .before .before .before .before .digits-of in
-    let first = digits .result in
-    let s = digits .last .1 .0 in
-    let whole = take-all (20 - first) (drop first s) (omega (arith, length-drop first s)) in
-    lays-same (a .out .now) (a .at) (whole ∙ digits .ensures .1) (c .before .before .plain .ensures)
 
 pub decimal-spec : {M : Type 1} → statement M
 decimal-spec =

@@ -20,20 +20,8 @@ abbrev μ-loop : tie.MeasureT-loop
 loop-holds : tie.Need-loop-holds Inv-loop μ-loop
 loop-holds c = (omega arith, omega arith, search needs, digits-none (c .before .args .value) (c .before .args .digits .now) (search needs))
 
-cast-letter : tie.Need-cast-letter Inv-loop μ-loop
-cast-letter c = search needs
-
-letter-requires : tie.Need-letter-requires Inv-loop μ-loop
-letter-requires c κs = search needs
-
-slice-write-digits : tie.Need-slice-write-digits Inv-loop μ-loop
-slice-write-digits c = search needs
-
 sub-i : tie.Need-sub-i Inv-loop μ-loop
 sub-i c = omega (arith, places-left (c .before .before .loop .i) (c .before .before .loop .rest) (omega arith) (c .before .before .loop .inv .0))
-
-loop-less : tie.Need-loop-less Inv-loop μ-loop
-loop-less c = search needs
 
 loop-again : tie.Need-loop-again Inv-loop μ-loop
 loop-again c =
@@ -48,15 +36,6 @@ loop-again c =
     (c .letter .ensures) in
     (rw back (left .1), omega arith, length-set s i letter ∙ w .2, rw back more)
 
-cast-letter-2 : tie.Need-cast-letter-2 Inv-loop μ-loop
-cast-letter-2 c = search needs
-
-letter-requires-2 : tie.Need-letter-requires-2 Inv-loop μ-loop
-letter-requires-2 c κs = search needs
-
-slice-write-digits-2 : tie.Need-slice-write-digits-2 Inv-loop μ-loop
-slice-write-digits-2 c = search needs
-
 same-length : tie.Need-same-length Inv-loop μ-loop
 same-length c =
     let end = c .before .before .loop in
@@ -70,6 +49,27 @@ returns c =
       digits-all (c .before .before .before .before .args .value) (end .rest) (end .digits) (end .i) (c .letter2 .result) (omega arith)
           (w .3) (omega arith) (c .letter2 .ensures),
     )
+
+cast-letter : tie.Need-cast-letter Inv-loop μ-loop
+cast-letter c = search needs
+
+letter-requires : tie.Need-letter-requires Inv-loop μ-loop
+letter-requires c κs = search needs
+
+slice-write-digits : tie.Need-slice-write-digits Inv-loop μ-loop
+slice-write-digits c = search needs
+
+loop-less : tie.Need-loop-less Inv-loop μ-loop
+loop-less c = search needs
+
+cast-letter-2 : tie.Need-cast-letter-2 Inv-loop μ-loop
+cast-letter-2 c = search needs
+
+letter-requires-2 : tie.Need-letter-requires-2 Inv-loop μ-loop
+letter-requires-2 c κs = search needs
+
+slice-write-digits-2 : tie.Need-slice-write-digits-2 Inv-loop μ-loop
+slice-write-digits-2 c = search needs
 
 pub digits-of-spec : {M : Type 1} → statement M
 digits-of-spec =

@@ -5,6 +5,12 @@ use Rattle.text_rules.proofs.Digits.{letter-low, letter-high}
 use Rattle.text.proofs.letter.Statement.{statement}
 use Rattle.text.proofs.letter.Tie as tie
 
+returns : tie.Need-returns
+returns c = omega (arith, letter-low (c .if1 .taken))
+
+returns-2 : tie.Need-returns-2
+returns-2 c = omega (arith, letter-high (c .if1 .left))
+
 add-result : tie.Need-add-result
 add-result c = search needs
 
@@ -13,12 +19,6 @@ sub-result c = search needs
 
 add-result-2 : tie.Need-add-result-2
 add-result-2 c = search needs
-
-returns : tie.Need-returns
-returns c = omega (arith, letter-low (c .if1 .taken))
-
-returns-2 : tie.Need-returns-2
-returns-2 c = omega (arith, letter-high (c .if1 .left))
 
 pub letter-spec : {M : Type 1} → statement M
 letter-spec = tie.close (tie.spec add-result sub-result add-result-2 returns returns-2)

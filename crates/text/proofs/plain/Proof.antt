@@ -13,17 +13,25 @@ returns c =
     let a = c .before .before .before .args in
     (sym (behind-past (a .out .now) (a .at) (a .letters .now) (omega arith)), sym (laid-past (a .out .now) (a .at) (a .letters .now) (omega arith)))
 
-sub-least : tie.Need-sub-least
-sub-least c = search needs
-
-least-requires : tie.Need-least-requires
-least-requires c κs = search needs
-
 slice-aggregate-put : tie.Need-slice-aggregate-put
 slice-aggregate-put c =
     let least = c .before .before .least in
     let fit = least .ensures in
     sym (length-take-le (least .result) (c .before .before .before .before .before .before .args .letters .now) (omega arith))
+
+returns-2 : tie.Need-returns-2
+returns-2 c =
+    let A = c .before .before .before .before .before .before .before .before .before .args in
+    let Put = c .before .before .put in
+    let a = A in
+    put-lays (a .out .now) (a .letters .now) (a .at) _ (c .before .before .before .before .before .least .ensures) _ (Put .result) (omega arith)
+    (Put .ensures)
+
+sub-least : tie.Need-sub-least
+sub-least c = search needs
+
+least-requires : tie.Need-least-requires
+least-requires c κs = search needs
 
 put-requires : tie.Need-put-requires
 put-requires c κs = search needs
@@ -33,14 +41,6 @@ add-result c = search needs
 
 same-length : tie.Need-same-length
 same-length c = search needs
-
-returns-2 : tie.Need-returns-2
-returns-2 c =
-    let A = c .before .before .before .before .before .before .before .before .before .args in
-    let Put = c .before .before .put in
-    let a = A in
-    put-lays (a .out .now) (a .letters .now) (a .at) _ (c .before .before .before .before .before .least .ensures) _ (Put .result) (omega arith)
-    (Put .ensures)
 
 pub plain-spec : {M : Type 1} → statement M
 plain-spec =

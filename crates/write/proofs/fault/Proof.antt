@@ -8,14 +8,8 @@ use Rattle.write_rules.proofs.Refusals.{not-bytes, not-ptr, no-room, all-right}
 use Rattle.write.proofs.fault.Statement.{statement}
 use Rattle.write.proofs.fault.Tie as tie
 
-bytes-of-requires : tie.Need-bytes-of-requires
-bytes-of-requires c κs = search needs
-
 returns : tie.Need-returns
 returns c = not-bytes _ _ _ _ _ (c .before .before .bytes-of .ensures) (c .if1 .taken)
-
-bad-ptr-requires : tie.Need-bad-ptr-requires
-bad-ptr-requires c κs = search needs
 
 returns-2 : tie.Need-returns-2
 returns-2 c =
@@ -37,6 +31,12 @@ returns-4 c =
     let Bytes-of = c .before .before .before .before .before .before .bytes-of in
     all-right _ _ _ _ _ (Bytes-of .ensures) (c .before .before .before .before .if1 .left)
     (told (c .before .before .before .bad-ptr .ensures) (c .before .before .if2 .left)) (omega arith)
+
+bytes-of-requires : tie.Need-bytes-of-requires
+bytes-of-requires c κs = search needs
+
+bad-ptr-requires : tie.Need-bad-ptr-requires
+bad-ptr-requires c κs = search needs
 
 pub fault-spec : {M : Type 1} → statement M
 fault-spec =

@@ -4,6 +4,14 @@ use Rattle.write_rules.proofs.Puts.{head-put}
 use Rattle.write.proofs.put_head.Statement.{statement}
 use Rattle.write.proofs.put_head.Tie as tie
 
+returns : tie.Need-returns
+returns c =
+    let P = c .before .before .before .before .before .before .before .before .before .before .before .before .before .pre in
+    let Bytes4 = c .before .before .before .before .before .before .before .before .before .before .before .bytes4 in
+    let Bytes42 = c .before .before .before .before .before .before .before .before .before .before .bytes42 in
+    let Put = c .before .before .before .before .before .before .before .put in
+    head-put _ _ _ _ _ _ _ _ _ (P) (Bytes4 .ensures) (Bytes42 .ensures) (Put .ensures) (c .before .before .put2 .ensures)
+
 bytes4-requires : tie.Need-bytes4-requires
 bytes4-requires c κs = search needs
 
@@ -24,14 +32,6 @@ put-requires-2 c κs = search needs
 
 same-length : tie.Need-same-length
 same-length c = search needs
-
-returns : tie.Need-returns
-returns c =
-    let P = c .before .before .before .before .before .before .before .before .before .before .before .before .before .pre in
-    let Bytes4 = c .before .before .before .before .before .before .before .before .before .before .before .bytes4 in
-    let Bytes42 = c .before .before .before .before .before .before .before .before .before .before .bytes42 in
-    let Put = c .before .before .before .before .before .before .before .put in
-    head-put _ _ _ _ _ _ _ _ _ (P) (Bytes4 .ensures) (Bytes42 .ensures) (Put .ensures) (c .before .before .put2 .ensures)
 
 pub put-head-spec : {M : Type 1} → statement M
 put-head-spec =

@@ -7,15 +7,9 @@ use Rattle.write_rules.specs.Write.{unusedOf}
 use Rattle.write.proofs.unused.Statement.{statement}
 use Rattle.write.proofs.unused.Tie as tie
 
-bytes-of-requires : tie.Need-bytes-of-requires
-bytes-of-requires c κs = search needs
-
 mul-result : tie.Need-mul-result
 unfolding bytesFor ceil
 mul-result c = omega arith
-
-cast-result : tie.Need-cast-result
-cast-result c = search needs
 
 sub-result : tie.Need-sub-result
 unfolding bytesFor ceil
@@ -24,6 +18,12 @@ sub-result c = omega arith
 returns : tie.Need-returns
 unfolding unusedOf bytesFor ceil
 returns c = (omega arith, omega arith)
+
+bytes-of-requires : tie.Need-bytes-of-requires
+bytes-of-requires c κs = search needs
+
+cast-result : tie.Need-cast-result
+cast-result c = search needs
 
 pub unused-spec : {M : Type 1} → statement M
 unused-spec = tie.close (tie.spec bytes-of-requires mul-result cast-result sub-result returns)

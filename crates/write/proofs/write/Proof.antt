@@ -11,18 +11,9 @@ use Rattle.write_rules.proofs.Refusals.{taken}
 use Rattle.write.proofs.write.Statement.{statement}
 use Rattle.write.proofs.write.Tie as tie
 
-fault-requires : tie.Need-fault-requires
-fault-requires c κs = search needs
-
 returns : tie.Need-returns
 unfolding numberOf writeCall
 returns c = leaves _ _ _ _ _ (omega arith) (c .before .fault .ensures)
-
-unused-requires : tie.Need-unused-requires
-unused-requires c κs = search needs
-
-power-requires : tie.Need-power-requires
-power-requires c κs = search needs
 
 put-head-requires : tie.Need-put-head-requires
 put-head-requires c κs =
@@ -36,9 +27,6 @@ put-value-requires c κs =
     let fits = taken _ _ _ _ (sym (Fault .ensures) ∙ If1 .left) in
     (omega (arith, fits .0, fits .1), omega (arith, pow-pos (Unused .result)))
 
-same-length : tie.Need-same-length
-same-length c = search needs
-
 returns-2 : tie.Need-returns-2
 unfolding numberOf writeCall
 returns-2 c =
@@ -49,6 +37,18 @@ returns-2 c =
     let Put-head = c .before .before .before .before .before .before .put-head in
     writes _ _ _ _ _ (sym (sym (Fault .ensures) ∙ If1 .left))
     (item-put _ _ _ _ _ _ _ _ (Put-head .ensures) (c .before .before .put-value .ensures) (Power .ensures) (Unused .ensures .0))
+
+fault-requires : tie.Need-fault-requires
+fault-requires c κs = search needs
+
+unused-requires : tie.Need-unused-requires
+unused-requires c κs = search needs
+
+power-requires : tie.Need-power-requires
+power-requires c κs = search needs
+
+same-length : tie.Need-same-length
+same-length c = search needs
 
 pub write-spec : {M : Type 1} → statement M
 write-spec =

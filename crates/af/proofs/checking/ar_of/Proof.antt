@@ -4,11 +4,11 @@ use Rattle.base_rules.proofs.Numbers.{number-one}
 use Rattle.af.proofs.checking.ar_of.Statement.{statement}
 use Rattle.af.proofs.checking.ar_of.Tie as tie
 
-byte-at-requires : tie.Need-byte-at-requires
-byte-at-requires c κs = search needs
-
 returns : tie.Need-returns
 returns c = number-one _ 8 (c .byte-at .ensures)
+
+byte-at-requires : tie.Need-byte-at-requires
+byte-at-requires c κs = search needs
 
 pub ar-of-spec : {M : Type 1} → statement M
 ar-of-spec = tie.close (tie.spec byte-at-requires returns)

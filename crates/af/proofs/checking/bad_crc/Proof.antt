@@ -11,6 +11,15 @@ use Rattle.af_rules.specs.Packet.{crcFor, coveredOf}
 use Rattle.af.proofs.checking.bad_crc.Statement.{statement}
 use Rattle.af.proofs.checking.bad_crc.Tie as tie
 
+slice-aggregate-crc-for : tie.Need-slice-aggregate-crc-for
+slice-aggregate-crc-for c = sym (length-take-le _ (c .before .before .before .before .args .packet .now) (omega arith))
+
+returns : tie.Need-returns
+unfolding badCrc coveredOf
+returns c =
+    ap₂ (λ (a b : ℕ). not (eqb a b)) (c .before .before .before .read2 .ensures) (c .crc-for .ensures
+    ∙ ap (λ (b : Bool). crcFor b (coveredOf (c .before .before .before .before .before .args .packet .now))) (c .before .before .cf-of .ensures))
+
 sub-end : tie.Need-sub-end
 sub-end c = search needs
 
@@ -20,17 +29,8 @@ read2-requires c κs = search needs
 cf-of-requires : tie.Need-cf-of-requires
 cf-of-requires c κs = search needs
 
-slice-aggregate-crc-for : tie.Need-slice-aggregate-crc-for
-slice-aggregate-crc-for c = sym (length-take-le _ (c .before .before .before .before .args .packet .now) (omega arith))
-
 crc-for-requires : tie.Need-crc-for-requires
 crc-for-requires c κs = search needs
-
-returns : tie.Need-returns
-unfolding badCrc coveredOf
-returns c =
-    ap₂ (λ (a b : ℕ). not (eqb a b)) (c .before .before .before .read2 .ensures) (c .crc-for .ensures
-    ∙ ap (λ (b : Bool). crcFor b (coveredOf (c .before .before .before .before .before .args .packet .now))) (c .before .before .cf-of .ensures))
 
 pub bad-crc-spec : {M : Type 1} → statement M
 bad-crc-spec =

@@ -6,11 +6,11 @@ use lib.Dec.{eqb}
 use Rattle.af.proofs.checking.cf_of.Statement.{statement}
 use Rattle.af.proofs.checking.cf_of.Tie as tie
 
-ar-of-requires : tie.Need-ar-of-requires
-ar-of-requires c κs = search needs
-
 returns : tie.Need-returns
 returns c = ap (λ (k : ℕ). eqb (k / 128) 1) (c .ar-of .ensures)
+
+ar-of-requires : tie.Need-ar-of-requires
+ar-of-requires c κs = search needs
 
 pub cf-of-spec : {M : Type 1} → statement M
 cf-of-spec = tie.close (tie.spec ar-of-requires returns)

@@ -42,40 +42,40 @@ on-25 c e =
 returns : tie.Need-returns
 returns c = due 20 _ (lt-ltb _ _ (c .if1 .taken)) ∙ checks.in-order (c .before .before .args .packet .now)
 
-read2-requires : tie.Need-read2-requires
-read2-requires c κs = search needs
-
 returns-2 : tie.Need-returns-2
 returns-2 c = on-21 (c .before .before) (due 21 _ (other (λ e. c .if2 .taken (c .before .read2 .ensures ∙ e))))
-
-bad-length-requires : tie.Need-bad-length-requires
-bad-length-requires c κs = search needs
 
 returns-3 : tie.Need-returns-3
 returns-3 c = on-22 (c .before .before) (due 22 _ (told (c .before .bad-length .ensures) (c .if3 .taken)))
 
-ar-of-requires : tie.Need-ar-of-requires
-ar-of-requires c κs = search needs
-
 returns-4 : tie.Need-returns-4
 returns-4 c = on-23 (c .before .before) (due 23 _ (other (λ e. c .if4 .taken (ap (λ (k : ℕ). k / 16 % 8) (c .before .ar-of .ensures) ∙ e))))
-
-byte-at-requires : tie.Need-byte-at-requires
-byte-at-requires c κs = search needs
 
 returns-5 : tie.Need-returns-5
 returns-5 c =
     let s = seen (c .before .before .before .before .before .before .before .before) in
     on-24 (c .before .before) (due 24 (checks.from-25 s) (other (λ e. c .if5 .taken (number-one s 9 (c .before .byte-at .ensures) ∙ e))))
 
-bad-crc-requires : tie.Need-bad-crc-requires
-bad-crc-requires c κs = search needs
-
 returns-6 : tie.Need-returns-6
 returns-6 c = on-25 (c .before .before) (due 25 _ (told (c .before .bad-crc .ensures) (c .if6 .taken)))
 
 returns-7 : tie.Need-returns-7
 returns-7 c = on-25 (c .before .before) (skip 25 _ (told (c .before .bad-crc .ensures) (c .if6 .left)) none-due)
+
+read2-requires : tie.Need-read2-requires
+read2-requires c κs = search needs
+
+bad-length-requires : tie.Need-bad-length-requires
+bad-length-requires c κs = search needs
+
+ar-of-requires : tie.Need-ar-of-requires
+ar-of-requires c κs = search needs
+
+byte-at-requires : tie.Need-byte-at-requires
+byte-at-requires c κs = search needs
+
+bad-crc-requires : tie.Need-bad-crc-requires
+bad-crc-requires c κs = search needs
 
 pub fault-spec : {M : Type 1} → statement M
 fault-spec =

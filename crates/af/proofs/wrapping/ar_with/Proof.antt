@@ -4,6 +4,14 @@ use Rattle.af_rules.specs.Packet.{arWith}
 use Rattle.af.proofs.wrapping.ar_with.Statement.{statement}
 use Rattle.af.proofs.wrapping.ar_with.Tie as tie
 
+returns : tie.Need-returns
+unfolding arWith
+returns c = rw (c .if1 .taken)
+
+returns-2 : tie.Need-returns-2
+unfolding arWith
+returns-2 c = rw (c .if1 .left)
+
 mul-result : tie.Need-mul-result
 mul-result c = search needs
 
@@ -18,14 +26,6 @@ mul-result-2 c = search needs
 
 add-result-3 : tie.Need-add-result-3
 add-result-3 c = search needs
-
-returns : tie.Need-returns
-unfolding arWith
-returns c = rw (c .if1 .taken)
-
-returns-2 : tie.Need-returns-2
-unfolding arWith
-returns-2 c = rw (c .if1 .left)
 
 pub ar-with-spec : {M : Type 1} → statement M
 ar-with-spec =

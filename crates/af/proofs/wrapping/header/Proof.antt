@@ -4,6 +4,12 @@ use Rattle.af.proofs.wrapping.header.Statement.{statement}
 use Rattle.af_rules.proofs.Wraps.{laid}
 use Rattle.af.proofs.wrapping.header.Tie as tie
 
+returns : tie.Need-returns
+returns c =
+    let A = c .before .before .before .before .args in
+    laid _ _ _ _ (A .seq) (A .len) (A .cf) (c .before .before .before .bytes2 .ensures) (c .before .before .bytes4 .ensures)
+    (c .before .bytes22 .ensures) (c .ar-with .ensures)
+
 bytes2-requires : tie.Need-bytes2-requires
 bytes2-requires c κs = search needs
 
@@ -39,12 +45,6 @@ array-read-t32 c = search needs
 
 ar-with-requires : tie.Need-ar-with-requires
 ar-with-requires c κs = search needs
-
-returns : tie.Need-returns
-returns c =
-    let A = c .before .before .before .before .args in
-    laid _ _ _ _ (A .seq) (A .len) (A .cf) (c .before .before .before .bytes2 .ensures) (c .before .before .bytes4 .ensures)
-    (c .before .bytes22 .ensures) (c .ar-with .ensures)
 
 pub header-spec : {M : Type 1} → statement M
 header-spec =

@@ -10,6 +10,16 @@ use Rattle.af.proofs.wrapping.put_front.Statement.{statement}
 use Rattle.af_rules.proofs.Wraps.{length-header, both-put}
 use Rattle.af.proofs.wrapping.put_front.Tie as tie
 
+returns : tie.Need-returns
+returns c =
+    let d = c .before .before .before .before .before .before in
+    let s = d .before .before .before .before .before .before in
+    let a = s .args in
+    let h = d .before .before .before .header in
+    let long = ap length (h .ensures) ∙ length-header (a .seq) (a .cf) (length (a .payload .now)) in
+    both-put (a .out .now) _ _ (h .result) (a .payload .now) headerBytes _ _ long (s .pre .1) (d .put .ensures) (c .before .before .put2 .ensures)
+    ∙ ap (λ (l : List ℕ). splice (a .out .now) 0 (l ++ a .payload .now)) (h .ensures)
+
 cast-header : tie.Need-cast-header
 cast-header c = search needs
 
@@ -27,16 +37,6 @@ put-requires-2 c κs = search needs
 
 same-length : tie.Need-same-length
 same-length c = search needs
-
-returns : tie.Need-returns
-returns c =
-    let d = c .before .before .before .before .before .before in
-    let s = d .before .before .before .before .before .before in
-    let a = s .args in
-    let h = d .before .before .before .header in
-    let long = ap length (h .ensures) ∙ length-header (a .seq) (a .cf) (length (a .payload .now)) in
-    both-put (a .out .now) _ _ (h .result) (a .payload .now) headerBytes _ _ long (s .pre .1) (d .put .ensures) (c .before .before .put2 .ensures)
-    ∙ ap (λ (l : List ℕ). splice (a .out .now) 0 (l ++ a .payload .now)) (h .ensures)
 
 pub put-front-spec : {M : Type 1} → statement M
 put-front-spec =

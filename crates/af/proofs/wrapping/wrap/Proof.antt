@@ -12,9 +12,6 @@ returns c =
     let a = c .before .before .before .args in
     cases.wrap-22 (a .seq) (a .cf) (a .payload .now) (a .out .now) (c .if1 .taken)
 
-add-if2 : tie.Need-add-if2
-add-if2 c = search needs
-
 returns-2 : tie.Need-returns-2
 unfolding numberOf
 returns-2 c =
@@ -23,15 +20,6 @@ returns-2 c =
 
 put-front-requires : tie.Need-put-front-requires
 put-front-requires c κs = (c .before .before .if1 .left, omega arith)
-
-add-put-crc : tie.Need-add-put-crc
-add-put-crc c = search needs
-
-put-crc-requires : tie.Need-put-crc-requires
-put-crc-requires c κs = search needs
-
-same-length : tie.Need-same-length
-same-length c = search needs
 
 returns-3 : tie.Need-returns-3
 unfolding numberOf
@@ -42,6 +30,18 @@ returns-3 c =
     let a = d .before .before .before .before .args in
     let written = cases.packed (a .seq) (a .cf) (a .payload .now) (a .out .now) _ _ (Put-front .ensures) (c .before .before .put-crc .ensures) in
     cases.wrap-done (a .seq) (a .cf) (a .payload .now) (a .out .now) (d .before .if1 .left) _ (d .if2 .left) written
+
+add-if2 : tie.Need-add-if2
+add-if2 c = search needs
+
+add-put-crc : tie.Need-add-put-crc
+add-put-crc c = search needs
+
+put-crc-requires : tie.Need-put-crc-requires
+put-crc-requires c κs = search needs
+
+same-length : tie.Need-same-length
+same-length c = search needs
 
 pub wrap-spec : {M : Type 1} → statement M
 wrap-spec =

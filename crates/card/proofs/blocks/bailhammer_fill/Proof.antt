@@ -15,6 +15,15 @@ told : (kept : List ℕ) (f s k : ℕ) (block after : List ℕ) (r : ℕ) (x : L
 told kept f s k block after r x a e h n =
     record { answer = a; left = subst (λ (l : List Bool). BlockFilled l f s k block after a) e h; number = n }
 
+returns : tie.Need-returns
+returns c =
+    let A = c .before .before .before .before .before .before .before .before .args in
+    let Kept-of = c .before .before .before .before .before .kept-of in
+    let Fill = c .before .before .before .fill in
+    let g = A in
+    told (g .kept .now) (g .f) (g .s) (g .k) (g .block .now) _ (c .filled-number .result) (Kept-of .result) (Fill .result)
+    (Kept-of .ensures) (Fill .ensures) (c .filled-number .ensures)
+
 kept-of-requires : tie.Need-kept-of-requires
 kept-of-requires c κs = search needs
 
@@ -26,15 +35,6 @@ filled-number-requires c κs = search needs
 
 same-length : tie.Need-same-length
 same-length c = search needs
-
-returns : tie.Need-returns
-returns c =
-    let A = c .before .before .before .before .before .before .before .before .args in
-    let Kept-of = c .before .before .before .before .before .kept-of in
-    let Fill = c .before .before .before .fill in
-    let g = A in
-    told (g .kept .now) (g .f) (g .s) (g .k) (g .block .now) _ (c .filled-number .result) (Kept-of .result) (Fill .result)
-    (Kept-of .ensures) (Fill .ensures) (c .filled-number .ensures)
 
 pub bailhammer-fill-spec : {M : Type 1} → statement M
 bailhammer-fill-spec = tie.close (tie.spec kept-of-requires fill-requires filled-number-requires same-length returns)

@@ -9,18 +9,6 @@ use Rattle.card.proofs.blocks.filled_number.Tie as tie
 enum-told : tie.Need-enum-told
 enum-told c = search needs
 
-enum-told-2 : tie.Need-enum-told-2
-enum-told-2 c = search needs
-
-enum-told-3 : tie.Need-enum-told-3
-enum-told-3 c = search needs
-
-enum-known-a : tie.Need-enum-known-a
-enum-known-a c = search needs
-
-cast-result : tie.Need-cast-result
-cast-result c = search needs
-
 returns : tie.Need-returns
 unfolding oneNumber numberOf valuesOf
 returns c = sym (ap filledNumber (c .enum-told .given .1))
@@ -36,6 +24,18 @@ returns-3 c = sym (ap filledNumber (c .enum-told3 .given .1))
 returns-4 : tie.Need-returns-4
 unfolding oneNumber numberOf
 returns-4 c = search needs
+
+enum-told-2 : tie.Need-enum-told-2
+enum-told-2 c = search needs
+
+enum-told-3 : tie.Need-enum-told-3
+enum-told-3 c = search needs
+
+enum-known-a : tie.Need-enum-known-a
+enum-known-a c = search needs
+
+cast-result : tie.Need-cast-result
+cast-result c = search needs
 
 pub filled-number-spec : {M : Type 1} → statement M
 filled-number-spec =

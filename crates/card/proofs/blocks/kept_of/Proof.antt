@@ -21,12 +21,6 @@ abbrev μ-loop : tie.MeasureT-loop
 loop-holds : tie.Need-loop-holds Inv-loop μ-loop
 loop-holds c = (omega arith, length-replicate most-f false, flags-none (isKept (c .before .args .bytes .now)) (replicate most-f false))
 
-is-kept-requires : tie.Need-is-kept-requires Inv-loop μ-loop
-is-kept-requires c κs = search needs
-
-array-write-kept : tie.Need-array-write-kept Inv-loop μ-loop
-array-write-kept c = search needs
-
 add-i : tie.Need-add-i Inv-loop μ-loop
 add-i c = omega arith
 
@@ -55,6 +49,12 @@ returns c =
     let test = isKept (c .before .before .before .args .bytes .now) in
     flags-all test 0 most-f (d .kept) (d .inv .1)
     (λ q (h : q < most-f). d .inv .2 .at q (omega (arith, c .loop-test .left)) ∙ ap test (sym (zero-add q)))
+
+is-kept-requires : tie.Need-is-kept-requires Inv-loop μ-loop
+is-kept-requires c κs = search needs
+
+array-write-kept : tie.Need-array-write-kept Inv-loop μ-loop
+array-write-kept c = search needs
 
 pub kept-of-spec : {M : Type 1} → statement M
 kept-of-spec =

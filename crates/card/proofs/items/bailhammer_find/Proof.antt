@@ -7,6 +7,14 @@ use borrow.Author.Needs.{needs}
 use Rattle.card.proofs.items.bailhammer_find.Statement.{statement}
 use Rattle.card.proofs.items.bailhammer_find.Tie as tie
 
+returns : tie.Need-returns
+unfolding locateCall
+returns c =
+    let told = c .before .before in
+    let found = told .before .before in
+    let before = found .before .before .before .before .args .told .now in
+    told-as found-widths before (ap locatedNumber (found .locate .ensures)) (told .tell-found .ensures)
+
 locate-requires : tie.Need-locate-requires
 locate-requires c κs = search needs
 
@@ -15,14 +23,6 @@ tell-found-requires c κs = search needs
 
 same-length : tie.Need-same-length
 same-length c = search needs
-
-returns : tie.Need-returns
-unfolding locateCall
-returns c =
-    let told = c .before .before in
-    let found = told .before .before in
-    let before = found .before .before .before .before .args .told .now in
-    told-as found-widths before (ap locatedNumber (found .locate .ensures)) (told .tell-found .ensures)
 
 pub bailhammer-find-spec : {M : Type 1} → statement M
 bailhammer-find-spec = tie.close (tie.spec locate-requires tell-found-requires same-length returns)

@@ -7,12 +7,6 @@ use borrow.Author.Needs.{needs}
 use Rattle.card.proofs.items.bailhammer_walk_open.Statement.{statement}
 use Rattle.card.proofs.items.bailhammer_walk_open.Tie as tie
 
-open-walk-requires : tie.Need-open-walk-requires
-open-walk-requires c κs = search needs
-
-cast-result : tie.Need-cast-result
-cast-result c = search needs
-
 returns : tie.Need-returns
 unfolding refusalIn
 returns c =
@@ -32,12 +26,6 @@ returns-2 c =
     (c .if2 .taken))
     refl
 
-write-walker-requires : tie.Need-write-walker-requires
-write-walker-requires c κs = search needs
-
-same-length : tie.Need-same-length
-same-length c = search needs
-
 returns-3 : tie.Need-returns-3
 unfolding refusalIn
 returns-3 c =
@@ -50,6 +38,18 @@ returns-3 c =
     (sized .if2 .left)
     (written .write-walker .ensures))
     refl
+
+open-walk-requires : tie.Need-open-walk-requires
+open-walk-requires c κs = search needs
+
+cast-result : tie.Need-cast-result
+cast-result c = search needs
+
+write-walker-requires : tie.Need-write-walker-requires
+write-walker-requires c κs = search needs
+
+same-length : tie.Need-same-length
+same-length c = search needs
 
 pub bailhammer-walk-open-spec : {M : Type 1} → statement M
 bailhammer-walk-open-spec =

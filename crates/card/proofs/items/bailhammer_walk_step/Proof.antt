@@ -11,6 +11,33 @@ returns c =
     let a = c .before .before .before .before .before .args in
     step-short (a .packet .now) (a .names .now) (a .walker .now) (a .told .now) (c .if1 .taken)
 
+returns-2 : tie.Need-returns-2
+returns-2 c =
+    let written = c .before .before in
+    let tested = written .before .before .before in
+    let told = tested .before .before .before in
+    let stepped = told .before .before in
+    let read = stepped .before in
+    let sized = read .before .before in
+    let a = sized .before .before .before .before .before .args in
+    step-on (a .packet .now) (a .names .now) (a .walker .now) (a .told .now) (stepped .walk-step .result) (sized .if1 .left)
+    (stepped .walk-step .ensures ∙ ap (walkStep (a .packet .now) (a .names .now)) (read .walker-from .ensures))
+    (told .tell-step .ensures)
+    (tested .if2 .taken)
+    (written .write-walker .ensures)
+
+returns-3 : tie.Need-returns-3
+returns-3 c =
+    let told = c .before .before .before in
+    let stepped = told .before .before in
+    let read = stepped .before in
+    let sized = read .before .before in
+    let a = sized .before .before .before .before .before .args in
+    step-not (a .packet .now) (a .names .now) (a .walker .now) (a .told .now) (stepped .walk-step .result) (sized .if1 .left)
+    (stepped .walk-step .ensures ∙ ap (walkStep (a .packet .now) (a .names .now)) (read .walker-from .ensures))
+    (told .tell-step .ensures)
+    (c .if2 .left)
+
 walker-from-requires : tie.Need-walker-from-requires
 walker-from-requires c κs = search needs
 
@@ -29,38 +56,11 @@ same-length c = search needs
 same-length-2 : tie.Need-same-length-2
 same-length-2 c = search needs
 
-returns-2 : tie.Need-returns-2
-returns-2 c =
-    let written = c .before .before in
-    let tested = written .before .before .before in
-    let told = tested .before .before .before in
-    let stepped = told .before .before in
-    let read = stepped .before in
-    let sized = read .before .before in
-    let a = sized .before .before .before .before .before .args in
-    step-on (a .packet .now) (a .names .now) (a .walker .now) (a .told .now) (stepped .walk-step .result) (sized .if1 .left)
-    (stepped .walk-step .ensures ∙ ap (walkStep (a .packet .now) (a .names .now)) (read .walker-from .ensures))
-    (told .tell-step .ensures)
-    (tested .if2 .taken)
-    (written .write-walker .ensures)
-
 same-length-3 : tie.Need-same-length-3
 same-length-3 c = search needs
 
 same-length-4 : tie.Need-same-length-4
 same-length-4 c = search needs
-
-returns-3 : tie.Need-returns-3
-returns-3 c =
-    let told = c .before .before .before in
-    let stepped = told .before .before in
-    let read = stepped .before in
-    let sized = read .before .before in
-    let a = sized .before .before .before .before .before .args in
-    step-not (a .packet .now) (a .names .now) (a .walker .now) (a .told .now) (stepped .walk-step .result) (sized .if1 .left)
-    (stepped .walk-step .ensures ∙ ap (walkStep (a .packet .now) (a .names .now)) (read .walker-from .ensures))
-    (told .tell-step .ensures)
-    (c .if2 .left)
 
 pub bailhammer-walk-step-spec : {M : Type 1} → statement M
 bailhammer-walk-step-spec =

@@ -5,6 +5,14 @@ use borrow.Author.Needs.{needs}
 use Rattle.card.proofs.items.read8.Statement.{statement}
 use Rattle.card.proofs.items.read8.Tie as tie
 
+returns : tie.Need-returns
+returns c =
+    let a = c .before .before .before .before .args in
+    eight-read (a .s .now) (a .i) (c .before .read4 .ensures) (c .read42 .ensures)
+
+returns-2 : tie.Need-returns-2
+returns-2 c = number-past 8 (c .before .before .args .s .now) (c .before .before .args .i) (c .if1 .left)
+
 read4-requires : tie.Need-read4-requires
 read4-requires c κs = search needs
 
@@ -25,14 +33,6 @@ cast-result-2 c = search needs
 
 add-result : tie.Need-add-result
 add-result c = search needs
-
-returns : tie.Need-returns
-returns c =
-    let a = c .before .before .before .before .args in
-    eight-read (a .s .now) (a .i) (c .before .read4 .ensures) (c .read42 .ensures)
-
-returns-2 : tie.Need-returns-2
-returns-2 c = number-past 8 (c .before .before .args .s .now) (c .before .before .args .i) (c .if1 .left)
 
 pub read8-spec : {M : Type 1} → statement M
 read8-spec =

@@ -9,46 +9,13 @@ use borrow.Author.Needs.{needs}
 use Rattle.card.proofs.items.tell_found.Statement.{statement}
 use Rattle.card.proofs.items.tell_found.Tie as tie
 
-enum-known-l : tie.Need-enum-known-l
-enum-known-l c = search needs
-
-slice-aggregate-tell : tie.Need-slice-aggregate-tell
-slice-aggregate-tell c = search needs
-
-found-values-requires : tie.Need-found-values-requires
-found-values-requires c κs = search needs
-
-slice-aggregate-tell-2 : tie.Need-slice-aggregate-tell-2
-slice-aggregate-tell-2 c = search needs
-
 tell-requires : tie.Need-tell-requires
 unfolding inWidths bytesOf
 tell-requires c κs = rw (c .before .found-values .ensures) (refl, refl)
 
-enum-known-l-2 : tie.Need-enum-known-l-2
-enum-known-l-2 c = search needs
-
-slice-aggregate-tell-3 : tie.Need-slice-aggregate-tell-3
-slice-aggregate-tell-3 c = search needs
-
-found-values-requires-2 : tie.Need-found-values-requires-2
-found-values-requires-2 c κs = search needs
-
-slice-aggregate-tell-4 : tie.Need-slice-aggregate-tell-4
-slice-aggregate-tell-4 c = search needs
-
 tell-requires-2 : tie.Need-tell-requires-2
 unfolding inWidths bytesOf
 tell-requires-2 c κs = rw (c .before .found-values2 .ensures) (refl, refl)
-
-enum-known-l-3 : tie.Need-enum-known-l-3
-enum-known-l-3 c = search needs
-
-cast-result : tie.Need-cast-result
-cast-result c = search needs
-
-same-length : tie.Need-same-length
-same-length c = search needs
 
 returns : tie.Need-returns
 unfolding locatedNumber
@@ -58,9 +25,6 @@ returns c =
     let known = listed .before .before .before .before in
     told-granted found-widths _ (known .before .before .before .args .told .now) (ap locatedNumber (known .l .given .1))
     (listed .found-values .ensures) (said .tell .ensures)
-
-same-length-2 : tie.Need-same-length-2
-same-length-2 c = search needs
 
 returns-2 : tie.Need-returns-2
 unfolding locatedNumber
@@ -74,6 +38,42 @@ returns-2 c =
 returns-3 : tie.Need-returns-3
 unfolding locatedNumber
 returns-3 c = told-refused found-widths (c .before .before .before .before .args .told .now) (ap locatedNumber (c .before .l3 .given .1))
+
+enum-known-l : tie.Need-enum-known-l
+enum-known-l c = search needs
+
+slice-aggregate-tell : tie.Need-slice-aggregate-tell
+slice-aggregate-tell c = search needs
+
+found-values-requires : tie.Need-found-values-requires
+found-values-requires c κs = search needs
+
+slice-aggregate-tell-2 : tie.Need-slice-aggregate-tell-2
+slice-aggregate-tell-2 c = search needs
+
+enum-known-l-2 : tie.Need-enum-known-l-2
+enum-known-l-2 c = search needs
+
+slice-aggregate-tell-3 : tie.Need-slice-aggregate-tell-3
+slice-aggregate-tell-3 c = search needs
+
+found-values-requires-2 : tie.Need-found-values-requires-2
+found-values-requires-2 c κs = search needs
+
+slice-aggregate-tell-4 : tie.Need-slice-aggregate-tell-4
+slice-aggregate-tell-4 c = search needs
+
+enum-known-l-3 : tie.Need-enum-known-l-3
+enum-known-l-3 c = search needs
+
+cast-result : tie.Need-cast-result
+cast-result c = search needs
+
+same-length : tie.Need-same-length
+same-length c = search needs
+
+same-length-2 : tie.Need-same-length-2
+same-length-2 c = search needs
 
 pub tell-found-spec : {M : Type 1} → statement M
 tell-found-spec =

@@ -8,6 +8,32 @@ use borrow.Author.Needs.{needs}
 use Rattle.card.proofs.items.tell_step.Statement.{statement}
 use Rattle.card.proofs.items.tell_step.Tie as tie
 
+tell-requires : tie.Need-tell-requires
+unfolding inWidths bytesOf
+tell-requires c κs = (refl, refl)
+
+tell-requires-2 : tie.Need-tell-requires-2
+unfolding inWidths bytesOf
+tell-requires-2 c κs = (refl, refl)
+
+returns : tie.Need-returns
+unfolding steppedNumber
+returns c =
+    let said = c .before .before in
+    let known = said .before .before .before .before .before .before .before .before in
+    told-granted step-widths _ (known .before .before .before .args .told .now) (ap steppedNumber (known .h .given .1)) refl (said .tell .ensures)
+
+returns-2 : tie.Need-returns-2
+unfolding steppedNumber
+returns-2 c =
+    let said = c .before .before in
+    let known = said .before .before .before .before .before in
+    told-granted step-widths _ (known .before .before .before .args .told .now) (ap steppedNumber (known .h2 .given .1)) refl (said .tell2 .ensures)
+
+returns-3 : tie.Need-returns-3
+unfolding steppedNumber
+returns-3 c = told-refused step-widths (c .before .before .before .before .args .told .now) (ap steppedNumber (c .before .h3 .given .1))
+
 enum-known-h : tie.Need-enum-known-h
 enum-known-h c = search needs
 
@@ -23,10 +49,6 @@ slice-aggregate-tell c = search needs
 slice-aggregate-tell-2 : tie.Need-slice-aggregate-tell-2
 slice-aggregate-tell-2 c = search needs
 
-tell-requires : tie.Need-tell-requires
-unfolding inWidths bytesOf
-tell-requires c κs = (refl, refl)
-
 enum-known-h-2 : tie.Need-enum-known-h-2
 enum-known-h-2 c = search needs
 
@@ -35,10 +57,6 @@ slice-aggregate-tell-3 c = search needs
 
 slice-aggregate-tell-4 : tie.Need-slice-aggregate-tell-4
 slice-aggregate-tell-4 c = search needs
-
-tell-requires-2 : tie.Need-tell-requires-2
-unfolding inWidths bytesOf
-tell-requires-2 c κs = (refl, refl)
 
 enum-known-h-3 : tie.Need-enum-known-h-3
 enum-known-h-3 c = search needs
@@ -49,26 +67,8 @@ cast-result c = search needs
 same-length : tie.Need-same-length
 same-length c = search needs
 
-returns : tie.Need-returns
-unfolding steppedNumber
-returns c =
-    let said = c .before .before in
-    let known = said .before .before .before .before .before .before .before .before in
-    told-granted step-widths _ (known .before .before .before .args .told .now) (ap steppedNumber (known .h .given .1)) refl (said .tell .ensures)
-
 same-length-2 : tie.Need-same-length-2
 same-length-2 c = search needs
-
-returns-2 : tie.Need-returns-2
-unfolding steppedNumber
-returns-2 c =
-    let said = c .before .before in
-    let known = said .before .before .before .before .before in
-    told-granted step-widths _ (known .before .before .before .args .told .now) (ap steppedNumber (known .h2 .given .1)) refl (said .tell2 .ensures)
-
-returns-3 : tie.Need-returns-3
-unfolding steppedNumber
-returns-3 c = told-refused step-widths (c .before .before .before .before .args .told .now) (ap steppedNumber (c .before .h3 .given .1))
 
 pub tell-step-spec : {M : Type 1} → statement M
 tell-step-spec =

@@ -8,6 +8,18 @@ use borrow.Author.Needs.{needs}
 use Rattle.card.proofs.items.write_walker.Statement.{statement}
 use Rattle.card.proofs.items.write_walker.Tie as tie
 
+tell-requires : tie.Need-tell-requires
+unfolding inWidths bytesOf
+tell-requires c κs = (refl, refl)
+
+returns : tie.Need-returns
+returns c =
+    let Before = c .before .before .before .before .before .before .before .before in
+    let start = Before in
+    let w = start .args .w in
+    walker-laid (start .args .d .now) w (start .pre) (as-long (w .ends) _ (start .good .1 .0 .1 .1 .1 .1 .1 .0 .1 .0 .1))
+    (c .before .before .tell .ensures)
+
 array-read-t8 : tie.Need-array-read-t8
 array-read-t8 c = search needs
 
@@ -29,20 +41,8 @@ slice-aggregate-tell c = search needs
 slice-aggregate-tell-2 : tie.Need-slice-aggregate-tell-2
 slice-aggregate-tell-2 c = search needs
 
-tell-requires : tie.Need-tell-requires
-unfolding inWidths bytesOf
-tell-requires c κs = (refl, refl)
-
 same-length : tie.Need-same-length
 same-length c = search needs
-
-returns : tie.Need-returns
-returns c =
-    let Before = c .before .before .before .before .before .before .before .before in
-    let start = Before in
-    let w = start .args .w in
-    walker-laid (start .args .d .now) w (start .pre) (as-long (w .ends) _ (start .good .1 .0 .1 .1 .1 .1 .1 .0 .1 .0 .1))
-    (c .before .before .tell .ensures)
 
 pub write-walker-spec : {M : Type 1} → statement M
 write-walker-spec =

@@ -11,6 +11,25 @@ use borrow.Author.Needs.{needs}
 use Rattle.card.proofs.packets.bailhammer_check.Statement.{statement}
 use Rattle.card.proofs.packets.bailhammer_check.Tie as tie
 
+tell-requires : tie.Need-tell-requires
+unfolding inWidths bytesOf
+tell-requires c κs = (refl, refl)
+
+returns : tie.Need-returns
+unfolding numberOf
+returns c =
+    let said = c .before .before in
+    let listed = said .before .before .before .before .before .before .before in
+    let known = listed .before .before in
+    let given = known .checked .given in
+    let p = given .0 .0 in
+    told-granted check-widths _ _ (sym (known .before .before .check .ensures) ∙ ap numberOf (given .1))
+    (ap (λ (x : ℕ). p .seq ∷ x ∷ p .minor ∷ p .len ∷ []) (listed .cf-number .ensures)) (said .tell .ensures)
+
+returns-2 : tie.Need-returns-2
+unfolding numberOf
+returns-2 c = told-refused check-widths _ (sym (c .before .before .before .check .ensures) ∙ ap numberOf (c .before .checked2 .given .1))
+
 check-requires : tie.Need-check-requires
 check-requires c κs = search needs
 
@@ -35,10 +54,6 @@ slice-aggregate-tell c = search needs
 slice-aggregate-tell-2 : tie.Need-slice-aggregate-tell-2
 slice-aggregate-tell-2 c = search needs
 
-tell-requires : tie.Need-tell-requires
-unfolding inWidths bytesOf
-tell-requires c κs = (refl, refl)
-
 enum-known-checked-2 : tie.Need-enum-known-checked-2
 enum-known-checked-2 c = search needs
 
@@ -47,21 +62,6 @@ cast-result c = search needs
 
 same-length : tie.Need-same-length
 same-length c = search needs
-
-returns : tie.Need-returns
-unfolding numberOf
-returns c =
-    let said = c .before .before in
-    let listed = said .before .before .before .before .before .before .before in
-    let known = listed .before .before in
-    let given = known .checked .given in
-    let p = given .0 .0 in
-    told-granted check-widths _ _ (sym (known .before .before .check .ensures) ∙ ap numberOf (given .1))
-    (ap (λ (x : ℕ). p .seq ∷ x ∷ p .minor ∷ p .len ∷ []) (listed .cf-number .ensures)) (said .tell .ensures)
-
-returns-2 : tie.Need-returns-2
-unfolding numberOf
-returns-2 c = told-refused check-widths _ (sym (c .before .before .before .check .ensures) ∙ ap numberOf (c .before .checked2 .given .1))
 
 pub bailhammer-check-spec : {M : Type 1} → statement M
 bailhammer-check-spec =

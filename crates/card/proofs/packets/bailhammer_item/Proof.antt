@@ -4,6 +4,11 @@ use borrow.Author.Needs.{needs}
 use Rattle.card.proofs.packets.bailhammer_item.Statement.{statement}
 use Rattle.card.proofs.packets.bailhammer_item.Tie as tie
 
+returns : tie.Need-returns
+returns c =
+    let done = c .before .before .before .write in
+    handed-on (done .ensures) (c .written-number .ensures)
+
 write-requires : tie.Need-write-requires
 write-requires c κs = search needs
 
@@ -12,11 +17,6 @@ written-number-requires c κs = search needs
 
 same-length : tie.Need-same-length
 same-length c = search needs
-
-returns : tie.Need-returns
-returns c =
-    let done = c .before .before .before .write in
-    handed-on (done .ensures) (c .written-number .ensures)
 
 pub bailhammer-item-spec : {M : Type 1} → statement M
 bailhammer-item-spec = tie.close (tie.spec write-requires written-number-requires same-length returns)

@@ -4,6 +4,11 @@ use borrow.Author.Needs.{needs}
 use Rattle.card.proofs.packets.bailhammer_wrap.Statement.{statement}
 use Rattle.card.proofs.packets.bailhammer_wrap.Tie as tie
 
+returns : tie.Need-returns
+returns c =
+    let done = c .before .before .before .wrap in
+    handed-on (done .ensures) (c .written-number .ensures)
+
 wrap-requires : tie.Need-wrap-requires
 wrap-requires c κs = search needs
 
@@ -12,11 +17,6 @@ written-number-requires c κs = search needs
 
 same-length : tie.Need-same-length
 same-length c = search needs
-
-returns : tie.Need-returns
-returns c =
-    let done = c .before .before .before .wrap in
-    handed-on (done .ensures) (c .written-number .ensures)
 
 pub bailhammer-wrap-spec : {M : Type 1} → statement M
 bailhammer-wrap-spec = tie.close (tie.spec wrap-requires written-number-requires same-length returns)

@@ -5,6 +5,37 @@ use borrow.Author.Needs.{needs}
 use Rattle.card.proofs.receiving.bailhammer_clear.Statement.{statement}
 use Rattle.card.proofs.receiving.bailhammer_clear.Tie as tie
 
+enum-told : tie.Need-enum-told
+enum-told c = search needs
+
+returns : tie.Need-returns
+returns c =
+    let opened = c .before .before .before in
+    let a = opened .before .before .before .before .args in
+    clear-no-record (a .table .now) (length (a .lent .now)) (opened .unpack .result .answer) (opened .unpack .result .table)
+    (opened .unpack .ensures) _ (c .before .fault .given .1)
+
+returns-2 : tie.Need-returns-2
+returns-2 c =
+    let cleared = c .before .before .before in
+    let opened = cleared .before .before .before in
+    let a = opened .before .before .before .before .args in
+    clear-refused (a .table .now) (length (a .lent .now)) (opened .unpack .result .answer) (opened .unpack .result .table) (opened .unpack .ensures)
+    (cleared .clear .result .answer) (cleared .clear .result .table) (cleared .clear .ensures) (cleared .before .enum-told .given .1) _
+    (c .before .answer .given .1)
+
+returns-3 : tie.Need-returns-3
+returns-3 c =
+    let packed = c .before .before in
+    let done = packed .before .before in
+    let cleared = done .before .before in
+    let opened = cleared .before .before .before in
+    let a = opened .before .before .before .before .args in
+    clear-done (a .table .now) (length (a .lent .now)) (opened .unpack .result .answer) (opened .unpack .result .table) (opened .unpack .ensures)
+    (cleared .clear .result .answer) (cleared .clear .result .table) (cleared .clear .ensures) (cleared .before .enum-told .given .1) _
+    (packed .pack .result)
+    (done .enum-told2 .given .1) (packed .pack .ensures)
+
 unpack-requires : tie.Need-unpack-requires
 unpack-requires c κs = search needs
 
@@ -13,9 +44,6 @@ enum-known-fault c = search needs
 
 cast-result : tie.Need-cast-result
 cast-result c = search needs
-
-enum-told : tie.Need-enum-told
-enum-told c = search needs
 
 clear-requires : tie.Need-clear-requires
 clear-requires c κs = search needs
@@ -35,39 +63,11 @@ pack-requires c κs = search needs
 same-length : tie.Need-same-length
 same-length c = search needs
 
-returns : tie.Need-returns
-returns c =
-    let opened = c .before .before .before in
-    let a = opened .before .before .before .before .args in
-    clear-no-record (a .table .now) (length (a .lent .now)) (opened .unpack .result .answer) (opened .unpack .result .table)
-    (opened .unpack .ensures) _ (c .before .fault .given .1)
-
 same-length-2 : tie.Need-same-length-2
 same-length-2 c = search needs
 
-returns-2 : tie.Need-returns-2
-returns-2 c =
-    let cleared = c .before .before .before in
-    let opened = cleared .before .before .before in
-    let a = opened .before .before .before .before .args in
-    clear-refused (a .table .now) (length (a .lent .now)) (opened .unpack .result .answer) (opened .unpack .result .table) (opened .unpack .ensures)
-    (cleared .clear .result .answer) (cleared .clear .result .table) (cleared .clear .ensures) (cleared .before .enum-told .given .1) _
-    (c .before .answer .given .1)
-
 same-length-3 : tie.Need-same-length-3
 same-length-3 c = search needs
-
-returns-3 : tie.Need-returns-3
-returns-3 c =
-    let packed = c .before .before in
-    let done = packed .before .before in
-    let cleared = done .before .before in
-    let opened = cleared .before .before .before in
-    let a = opened .before .before .before .before .args in
-    clear-done (a .table .now) (length (a .lent .now)) (opened .unpack .result .answer) (opened .unpack .result .table) (opened .unpack .ensures)
-    (cleared .clear .result .answer) (cleared .clear .result .table) (cleared .clear .ensures) (cleared .before .enum-told .given .1) _
-    (packed .pack .result)
-    (done .enum-told2 .given .1) (packed .pack .ensures)
 
 pub bailhammer-clear-spec : {M : Type 1} → statement M
 bailhammer-clear-spec =

@@ -14,32 +14,8 @@ use borrow.Author.Needs.{needs}
 use Rattle.card.proofs.receiving.bailhammer_receive.Statement.{statement}
 use Rattle.card.proofs.receiving.bailhammer_receive.Tie as tie
 
-unpack-requires : tie.Need-unpack-requires
-unpack-requires c κs = search needs
-
-enum-known-fault : tie.Need-enum-known-fault
-enum-known-fault c = search needs
-
-cast-result : tie.Need-cast-result
-cast-result c = search needs
-
 enum-told : tie.Need-enum-told
 enum-told c = search needs
-
-address-of-requires : tie.Need-address-of-requires
-address-of-requires c κs = search needs
-
-receive-requires : tie.Need-receive-requires
-receive-requires c κs = search needs
-
-pack-requires : tie.Need-pack-requires
-pack-requires c κs = search needs
-
-tell-receipt-requires : tie.Need-tell-receipt-requires
-tell-receipt-requires c κs = search needs
-
-same-length : tie.Need-same-length
-same-length c = search needs
 
 returns : tie.Need-returns
 returns c =
@@ -48,18 +24,6 @@ returns c =
     receive-refused (addressOf (a .addressed) (a .source) (a .dest)) (a .datagram .now) _ _ _ (opened .unpack .result .answer)
     (opened .unpack .result .table)
     (opened .unpack .ensures) (c .before .fault .given .1) refl
-
-same-length-2 : tie.Need-same-length-2
-same-length-2 c = search needs
-
-same-length-3 : tie.Need-same-length-3
-same-length-3 c = search needs
-
-same-length-4 : tie.Need-same-length-4
-same-length-4 c = search needs
-
-same-length-5 : tie.Need-same-length-5
-same-length-5 c = search needs
 
 returns-2 : tie.Need-returns-2
 unfolding placeAt
@@ -85,6 +49,42 @@ returns-2 c =
     (opened .unpack .result .table) (opened .unpack .ensures) (addressed .address-of .result) (packed .pack .result) t (got .receive .result .answer)
     (told .enum-told .given .1) (addressed .address-of .ensures) (got .receive .ensures) (packed-length t typed) (packed .pack .ensures)
     (said .tell-receipt .ensures)
+
+unpack-requires : tie.Need-unpack-requires
+unpack-requires c κs = search needs
+
+enum-known-fault : tie.Need-enum-known-fault
+enum-known-fault c = search needs
+
+cast-result : tie.Need-cast-result
+cast-result c = search needs
+
+address-of-requires : tie.Need-address-of-requires
+address-of-requires c κs = search needs
+
+receive-requires : tie.Need-receive-requires
+receive-requires c κs = search needs
+
+pack-requires : tie.Need-pack-requires
+pack-requires c κs = search needs
+
+tell-receipt-requires : tie.Need-tell-receipt-requires
+tell-receipt-requires c κs = search needs
+
+same-length : tie.Need-same-length
+same-length c = search needs
+
+same-length-2 : tie.Need-same-length-2
+same-length-2 c = search needs
+
+same-length-3 : tie.Need-same-length-3
+same-length-3 c = search needs
+
+same-length-4 : tie.Need-same-length-4
+same-length-4 c = search needs
+
+same-length-5 : tie.Need-same-length-5
+same-length-5 c = search needs
 
 pub bailhammer-receive-spec : {M : Type 1} → statement M
 bailhammer-receive-spec =

@@ -8,6 +8,22 @@ use Rattle.card.proofs.receiving.seen_values.Tie as tie
 enum-told : tie.Need-enum-told
 enum-told c = search needs
 
+returns : tie.Need-returns
+unfolding seenTold
+returns c = sym (ap seenTold (c .enum-told .given .1))
+
+returns-2 : tie.Need-returns-2
+unfolding seenTold
+returns-2 c = sym (ap seenTold (c .before .s .given .1))
+
+returns-3 : tie.Need-returns-3
+unfolding seenTold
+returns-3 c = sym (ap seenTold (c .before .s2 .given .1))
+
+returns-4 : tie.Need-returns-4
+unfolding seenTold
+returns-4 c = sym (ap seenTold (c .before .s3 .given .1))
+
 cast-t6 : tie.Need-cast-t6
 cast-t6 c = search needs
 
@@ -37,22 +53,6 @@ cast-t11 c = search needs
 
 cast-t12 : tie.Need-cast-t12
 cast-t12 c = search needs
-
-returns : tie.Need-returns
-unfolding seenTold
-returns c = sym (ap seenTold (c .enum-told .given .1))
-
-returns-2 : tie.Need-returns-2
-unfolding seenTold
-returns-2 c = sym (ap seenTold (c .before .s .given .1))
-
-returns-3 : tie.Need-returns-3
-unfolding seenTold
-returns-3 c = sym (ap seenTold (c .before .s2 .given .1))
-
-returns-4 : tie.Need-returns-4
-unfolding seenTold
-returns-4 c = sym (ap seenTold (c .before .s3 .given .1))
 
 pub seen-values-spec : {M : Type 1} → statement M
 seen-values-spec =

@@ -4,6 +4,14 @@ use borrow.Author.Needs.{needs}
 use Rattle.card.proofs.receiving.shown_values.Statement.{statement}
 use Rattle.card.proofs.receiving.shown_values.Tie as tie
 
+returns : tie.Need-returns
+returns c =
+    let third = c .before in
+    let second = third .before in
+    let first = second .before in
+    eight (first .before .args .p) (first .seen-values .ensures) (second .seen-values2 .ensures) (third .seen-values3 .ensures)
+    (c .seen-values4 .ensures)
+
 seen-values-requires : tie.Need-seen-values-requires
 seen-values-requires c κs = search needs
 
@@ -39,14 +47,6 @@ array-read-t31 c = search needs
 
 array-read-t34 : tie.Need-array-read-t34
 array-read-t34 c = search needs
-
-returns : tie.Need-returns
-returns c =
-    let third = c .before in
-    let second = third .before in
-    let first = second .before in
-    eight (first .before .args .p) (first .seen-values .ensures) (second .seen-values2 .ensures) (third .seen-values3 .ensures)
-    (c .seen-values4 .ensures)
 
 pub shown-values-spec : {M : Type 1} → statement M
 shown-values-spec =

@@ -10,30 +10,9 @@ use borrow.Author.Needs.{needs}
 use Rattle.card.proofs.receiving.tell_places.Statement.{statement}
 use Rattle.card.proofs.receiving.tell_places.Tie as tie
 
-enum-known-q : tie.Need-enum-known-q
-enum-known-q c = search needs
-
-slice-aggregate-tell : tie.Need-slice-aggregate-tell
-slice-aggregate-tell c = search needs
-
-shown-values-requires : tie.Need-shown-values-requires
-shown-values-requires c κs = search needs
-
-slice-aggregate-tell-2 : tie.Need-slice-aggregate-tell-2
-slice-aggregate-tell-2 c = search needs
-
 tell-requires : tie.Need-tell-requires
 unfolding inWidths bytesOf
 tell-requires c κs = as-wide places-widths (c .before .shown-values .result) (search needs)
-
-enum-known-q-2 : tie.Need-enum-known-q-2
-enum-known-q-2 c = search needs
-
-cast-result : tie.Need-cast-result
-cast-result c = search needs
-
-same-length : tie.Need-same-length
-same-length c = search needs
 
 returns : tie.Need-returns
 unfolding queriedIn
@@ -47,6 +26,27 @@ returns c =
 returns-2 : tie.Need-returns-2
 unfolding queriedIn
 returns-2 c = told-refused places-widths (c .before .before .before .before .args .told .now) (ap queriedIn (c .before .q2 .given .1))
+
+enum-known-q : tie.Need-enum-known-q
+enum-known-q c = search needs
+
+slice-aggregate-tell : tie.Need-slice-aggregate-tell
+slice-aggregate-tell c = search needs
+
+shown-values-requires : tie.Need-shown-values-requires
+shown-values-requires c κs = search needs
+
+slice-aggregate-tell-2 : tie.Need-slice-aggregate-tell-2
+slice-aggregate-tell-2 c = search needs
+
+enum-known-q-2 : tie.Need-enum-known-q-2
+enum-known-q-2 c = search needs
+
+cast-result : tie.Need-cast-result
+cast-result c = search needs
+
+same-length : tie.Need-same-length
+same-length c = search needs
 
 pub tell-places-spec : {M : Type 1} → statement M
 tell-places-spec =

@@ -21,62 +21,17 @@ told-in : (handed n missing : ℕ) (d : Displaced) (before after values : List �
     → after ≡ toldIn before (inWidths receipt-widths values) → after ≡ toldIn before (inWidths receipt-widths (receiptTold handed n missing d))
 told-in handed n missing d before after values e h = h ∙ ap (λ (l : List ℕ). toldIn before (inWidths receipt-widths l)) e
 
-enum-known-a : tie.Need-enum-known-a
-enum-known-a c = search needs
-
-slice-aggregate-tell : tie.Need-slice-aggregate-tell
-slice-aggregate-tell c = search needs
-
-receipt-values-requires : tie.Need-receipt-values-requires
-receipt-values-requires c κs = search needs
-
-slice-aggregate-tell-2 : tie.Need-slice-aggregate-tell-2
-slice-aggregate-tell-2 c = search needs
-
 tell-requires : tie.Need-tell-requires
 unfolding inWidths bytesOf
 tell-requires c κs = as-wide receipt-widths (c .before .receipt-values .result) (search needs)
-
-enum-known-a-2 : tie.Need-enum-known-a-2
-enum-known-a-2 c = search needs
-
-slice-aggregate-tell-3 : tie.Need-slice-aggregate-tell-3
-slice-aggregate-tell-3 c = search needs
-
-receipt-values-requires-2 : tie.Need-receipt-values-requires-2
-receipt-values-requires-2 c κs = search needs
-
-slice-aggregate-tell-4 : tie.Need-slice-aggregate-tell-4
-slice-aggregate-tell-4 c = search needs
 
 tell-requires-2 : tie.Need-tell-requires-2
 unfolding inWidths bytesOf
 tell-requires-2 c κs = as-wide receipt-widths (c .before .receipt-values2 .result) (search needs)
 
-enum-known-a-3 : tie.Need-enum-known-a-3
-enum-known-a-3 c = search needs
-
-slice-aggregate-tell-5 : tie.Need-slice-aggregate-tell-5
-slice-aggregate-tell-5 c = search needs
-
-receipt-values-requires-3 : tie.Need-receipt-values-requires-3
-receipt-values-requires-3 c κs = search needs
-
-slice-aggregate-tell-6 : tie.Need-slice-aggregate-tell-6
-slice-aggregate-tell-6 c = search needs
-
 tell-requires-3 : tie.Need-tell-requires-3
 unfolding inWidths bytesOf
 tell-requires-3 c κs = as-wide receipt-widths (c .before .receipt-values3 .result) (search needs)
-
-enum-known-a-4 : tie.Need-enum-known-a-4
-enum-known-a-4 c = search needs
-
-cast-result : tie.Need-cast-result
-cast-result c = search needs
-
-same-length : tie.Need-same-length
-same-length c = search needs
 
 returns : tie.Need-returns
 unfolding numberOf toldAfter
@@ -90,9 +45,6 @@ returns c =
       told-in 0 0 0 _ before _ _ (listed .receipt-values .ensures) (said .tell .ensures) ∙ sym (ap (λ (x : Received). toldAfter x before) (given .1)),
     )
 
-same-length-2 : tie.Need-same-length-2
-same-length-2 c = search needs
-
 returns-2 : tie.Need-returns-2
 unfolding numberOf toldAfter
 returns-2 c =
@@ -105,9 +57,6 @@ returns-2 c =
       told-in 1 (given .0 .0) (given .0 .1 .0) _ before _ _ (listed .receipt-values2 .ensures) (said .tell2 .ensures)
           ∙ sym (ap (λ (x : Received). toldAfter x before) (given .1)),
     )
-
-same-length-3 : tie.Need-same-length-3
-same-length-3 c = search needs
 
 returns-3 : tie.Need-returns-3
 unfolding numberOf toldAfter
@@ -127,6 +76,57 @@ unfolding numberOf toldAfter
 returns-4 c =
     let known = c .before .a4 .given in
     (sym (ap number (known .1)), sym (ap (λ (x : Received). toldAfter x (c .before .before .before .before .args .told .now)) (known .1)))
+
+enum-known-a : tie.Need-enum-known-a
+enum-known-a c = search needs
+
+slice-aggregate-tell : tie.Need-slice-aggregate-tell
+slice-aggregate-tell c = search needs
+
+receipt-values-requires : tie.Need-receipt-values-requires
+receipt-values-requires c κs = search needs
+
+slice-aggregate-tell-2 : tie.Need-slice-aggregate-tell-2
+slice-aggregate-tell-2 c = search needs
+
+enum-known-a-2 : tie.Need-enum-known-a-2
+enum-known-a-2 c = search needs
+
+slice-aggregate-tell-3 : tie.Need-slice-aggregate-tell-3
+slice-aggregate-tell-3 c = search needs
+
+receipt-values-requires-2 : tie.Need-receipt-values-requires-2
+receipt-values-requires-2 c κs = search needs
+
+slice-aggregate-tell-4 : tie.Need-slice-aggregate-tell-4
+slice-aggregate-tell-4 c = search needs
+
+enum-known-a-3 : tie.Need-enum-known-a-3
+enum-known-a-3 c = search needs
+
+slice-aggregate-tell-5 : tie.Need-slice-aggregate-tell-5
+slice-aggregate-tell-5 c = search needs
+
+receipt-values-requires-3 : tie.Need-receipt-values-requires-3
+receipt-values-requires-3 c κs = search needs
+
+slice-aggregate-tell-6 : tie.Need-slice-aggregate-tell-6
+slice-aggregate-tell-6 c = search needs
+
+enum-known-a-4 : tie.Need-enum-known-a-4
+enum-known-a-4 c = search needs
+
+cast-result : tie.Need-cast-result
+cast-result c = search needs
+
+same-length : tie.Need-same-length
+same-length c = search needs
+
+same-length-2 : tie.Need-same-length-2
+same-length-2 c = search needs
+
+same-length-3 : tie.Need-same-length-3
+same-length-3 c = search needs
 
 pub tell-receipt-spec : {M : Type 1} → statement M
 tell-receipt-spec =

@@ -8,6 +8,16 @@ use borrow.Author.Needs.{needs}
 use Rattle.card.proofs.sending.bailhammer_fragment.Statement.{statement}
 use Rattle.card.proofs.sending.bailhammer_fragment.Tie as tie
 
+returns : tie.Need-returns
+returns c =
+    let said = c .before .before in
+    let sent = said .before .before .before .before in
+    let set = sent .before .before in
+    let a = set .before .before .before .before .args in
+    sent-as (twos 1) (a .told .now) (sent .fragment .ensures
+    ∙ ap (λ (x : Settings). fragmentCall x (a .number) (a .packet .now) (a .index) (a .out .now)) (set .settings-of .ensures))
+    (said .tell-length .ensures)
+
 settings-of-requires : tie.Need-settings-of-requires
 settings-of-requires c κs = search needs
 
@@ -22,16 +32,6 @@ same-length c = search needs
 
 same-length-2 : tie.Need-same-length-2
 same-length-2 c = search needs
-
-returns : tie.Need-returns
-returns c =
-    let said = c .before .before in
-    let sent = said .before .before .before .before in
-    let set = sent .before .before in
-    let a = set .before .before .before .before .args in
-    sent-as (twos 1) (a .told .now) (sent .fragment .ensures
-    ∙ ap (λ (x : Settings). fragmentCall x (a .number) (a .packet .now) (a .index) (a .out .now)) (set .settings-of .ensures))
-    (said .tell-length .ensures)
 
 pub bailhammer-fragment-spec : {M : Type 1} → statement M
 bailhammer-fragment-spec =

@@ -8,6 +8,15 @@ use borrow.Author.Needs.{needs}
 use Rattle.card.proofs.sending.bailhammer_fragments.Statement.{statement}
 use Rattle.card.proofs.sending.bailhammer_fragments.Tie as tie
 
+returns : tie.Need-returns
+returns c =
+    let said = c .before .before in
+    let sent = said .before .before .before .before in
+    let set = sent .before .before in
+    let a = set .before .before .before .before .args in
+    sent-as (twos 4) (a .told .now) (sent .fragments .ensures
+    ∙ ap (λ (x : Settings). fragmentsCall x (a .number) (a .packet .now) (a .out .now)) (set .settings-of .ensures)) (said .tell-split .ensures)
+
 settings-of-requires : tie.Need-settings-of-requires
 settings-of-requires c κs = search needs
 
@@ -22,15 +31,6 @@ same-length c = search needs
 
 same-length-2 : tie.Need-same-length-2
 same-length-2 c = search needs
-
-returns : tie.Need-returns
-returns c =
-    let said = c .before .before in
-    let sent = said .before .before .before .before in
-    let set = sent .before .before in
-    let a = set .before .before .before .before .args in
-    sent-as (twos 4) (a .told .now) (sent .fragments .ensures
-    ∙ ap (λ (x : Settings). fragmentsCall x (a .number) (a .packet .now) (a .out .now)) (set .settings-of .ensures)) (said .tell-split .ensures)
 
 pub bailhammer-fragments-spec : {M : Type 1} → statement M
 bailhammer-fragments-spec =

@@ -8,6 +8,15 @@ use borrow.Author.Needs.{needs}
 use Rattle.card.proofs.sending.bailhammer_plan.Statement.{statement}
 use Rattle.card.proofs.sending.bailhammer_plan.Tie as tie
 
+returns : tie.Need-returns
+returns c =
+    let said = c .before .before in
+    let planned = said .before .before in
+    let set = planned .before in
+    let a = set .before .before .args in
+    told-as (twos 10) (a .told .now) (planned .plan .ensures ∙ ap (λ (x : Settings). planOf x (a .l)) (set .settings-of .ensures))
+    (said .tell-plan .ensures)
+
 settings-of-requires : tie.Need-settings-of-requires
 settings-of-requires c κs = search needs
 
@@ -19,15 +28,6 @@ tell-plan-requires c κs = search needs
 
 same-length : tie.Need-same-length
 same-length c = search needs
-
-returns : tie.Need-returns
-returns c =
-    let said = c .before .before in
-    let planned = said .before .before in
-    let set = planned .before in
-    let a = set .before .before .args in
-    told-as (twos 10) (a .told .now) (planned .plan .ensures ∙ ap (λ (x : Settings). planOf x (a .l)) (set .settings-of .ensures))
-    (said .tell-plan .ensures)
 
 pub bailhammer-plan-spec : {M : Type 1} → statement M
 bailhammer-plan-spec =

@@ -13,14 +13,14 @@ use Rattle.card.proofs.sending.settings_of.Tie as tie
 abbrev withAddress : ℕ → ℕ → ℕ → Address → Settings
 withAddress fec m mtu a = record { fec = not (eqb fec 0); m = m; mtu = mtu; address = a }
 
-address-of-requires : tie.Need-address-of-requires
-address-of-requires c κs = search needs
-
 returns : tie.Need-returns
 unfolding settingsOf
 returns c =
     let a = c .before .args in
     ap (withAddress (a .fec) (a .m) (a .mtu)) (c .address-of .ensures)
+
+address-of-requires : tie.Need-address-of-requires
+address-of-requires c κs = search needs
 
 pub settings-of-spec : {M : Type 1} → statement M
 settings-of-spec = tie.close (tie.spec address-of-requires returns)

@@ -23,9 +23,6 @@ loop-holds c = (omega arith, refl, refl)
 sub-left : tie.Need-sub-left Inv-loop μ-loop
 sub-left c = omega arith
 
-cast-d : tie.Need-cast-d Inv-loop μ-loop
-cast-d c = search needs
-
 slice-write-d : tie.Need-slice-write-d Inv-loop μ-loop
 slice-write-d c = omega (arith, c .before .before .pre, c .before .loop .inv .1)
 
@@ -48,6 +45,9 @@ returns : tie.Need-returns Inv-loop μ-loop
 returns c =
     let turn = c .before .loop in
     bytes-put (turn .d) (c .before .before .args .from) (turn .left) (turn .rest) (omega arith) ∙ turn .inv .2
+
+cast-d : tie.Need-cast-d Inv-loop μ-loop
+cast-d c = search needs
 
 pub put-number-spec : {M : Type 1} → statement M
 put-number-spec =

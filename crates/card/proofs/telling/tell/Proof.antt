@@ -24,21 +24,12 @@ loop-holds c =
     let start = c .before .before .before .before in
     tells-none (start .args .widths .now) (start .args .values .now) (start .args .told .now) (start .args .n) (start .pre .1)
 
-mul-end : tie.Need-mul-end Inv-loop μ-loop
-mul-end c = search needs
-
-shared-slice-read-end : tie.Need-shared-slice-read-end Inv-loop μ-loop
-shared-slice-read-end c = search needs
-
 add-end : tie.Need-add-end Inv-loop μ-loop
 add-end c =
     let turn = c .before .before .loop in
     let start = c .before .before .before .before .before .before .before in
     let room = tells-room _ _ _ _ (start .pre .1) (turn .inv) (omega arith) (omega arith) (omega (arith, start .pre .0)) in
     search needs
-
-mul-put-number : tie.Need-mul-put-number Inv-loop μ-loop
-mul-put-number c = search needs
 
 shared-slice-read-put-number : tie.Need-shared-slice-read-put-number Inv-loop μ-loop
 shared-slice-read-put-number c = omega (arith, c .before .before .before .before .before .before .before .before .before .pre .0)
@@ -48,9 +39,6 @@ put-number-requires c κs =
     let turn = c .before .before .before .before .loop in
     let start = c .before .before .before .before .before .before .before .before .before in
     (omega arith, tells-room _ _ _ _ (start .pre .1) (turn .inv) (omega arith) (omega arith) (omega (arith, start .pre .0)))
-
-add-i : tie.Need-add-i Inv-loop μ-loop
-add-i c = search needs
 
 loop-less : tie.Need-loop-less Inv-loop μ-loop
 loop-less c = omega arith
@@ -71,6 +59,18 @@ returns-2 : tie.Need-returns-2 Inv-loop μ-loop
 returns-2 c =
     let start = c .before .before .before .before .before .before in
     tells-all _ _ _ _ (start .pre .1) (c .before .loop .inv) (omega arith) (omega arith)
+
+mul-end : tie.Need-mul-end Inv-loop μ-loop
+mul-end c = search needs
+
+shared-slice-read-end : tie.Need-shared-slice-read-end Inv-loop μ-loop
+shared-slice-read-end c = search needs
+
+mul-put-number : tie.Need-mul-put-number Inv-loop μ-loop
+mul-put-number c = search needs
+
+add-i : tie.Need-add-i Inv-loop μ-loop
+add-i c = search needs
 
 pub tell-spec : {M : Type 1} → statement M
 tell-spec =

@@ -10,12 +10,6 @@ use Rattle.code_rules.proofs.BlockLaws.{ready-open, block-found, block-failed}
 use Rattle.code_decoder.proofs.block.fill_block.Statement.{statement}
 use Rattle.code_decoder.proofs.block.fill_block.Tie as tie
 
-clear-requires : tie.Need-clear-requires
-clear-requires c κs = search needs
-
-array-borrow-prefix-ans : tie.Need-array-borrow-prefix-ans
-array-borrow-prefix-ans c = search needs
-
 slice-aggregate-fill-classes : tie.Need-slice-aggregate-fill-classes
 slice-aggregate-fill-classes c =
     let S = c .before .before .before .before .before .before .before .before in
@@ -28,21 +22,12 @@ fill-classes-requires c κs =
     let P = E .before .before .before .before .pre in
     (ready-open (P .0) (E .clear .ensures), P .1)
 
-same-length : tie.Need-same-length
-same-length c = search needs
-
 returns : tie.Need-returns
 returns c =
     let F = c .before .before .before .before .fill-classes in
     let found = subst (FoundTest (F .last .1 .1 .1 .1 .0)) (c .if1 .taken) (F .ensures .told) in
     let E = c .before .before .before .before .before .before .before .before .before in
     block-found _ _ _ _ _ _ _ (E .before .before .before .before .pre .0) (E .clear .ensures) (F .ensures .later) found
-
-clear-requires-2 : tie.Need-clear-requires-2
-clear-requires-2 c κs = search needs
-
-same-length-2 : tie.Need-same-length-2
-same-length-2 c = search needs
 
 returns-2 : tie.Need-returns-2
 returns-2 c =
@@ -52,6 +37,21 @@ returns-2 c =
     let B = E .before .before .before .before .before in
     let P = B .before .before .before .before .pre in
     block-failed _ _ _ _ _ _ _ (P .0) (B .clear .ensures) (F .ensures .later) _ (F .ensures .done) left (c .before .before .clear2 .ensures)
+
+clear-requires : tie.Need-clear-requires
+clear-requires c κs = search needs
+
+array-borrow-prefix-ans : tie.Need-array-borrow-prefix-ans
+array-borrow-prefix-ans c = search needs
+
+same-length : tie.Need-same-length
+same-length c = search needs
+
+clear-requires-2 : tie.Need-clear-requires-2
+clear-requires-2 c κs = search needs
+
+same-length-2 : tie.Need-same-length-2
+same-length-2 c = search needs
 
 pub fill-block-spec : {M : Type 1} → statement M
 fill-block-spec =

@@ -15,12 +15,6 @@ Inv-loop k mask hop block₀ ans₀ t rk n i₀ block ans i = (i ≤ n) × Later
 abbrev μ-loop : tie.MeasureT-loop
 μ-loop k mask hop block₀ ans₀ t rk n i₀ block ans i = n - i
 
-make-table-requires : tie.Need-make-table-requires Inv-loop μ-loop
-make-table-requires c κs = search needs
-
-make-roots-requires : tie.Need-make-roots-requires Inv-loop μ-loop
-make-roots-requires c κs = search needs
-
 loop-holds : tie.Need-loop-holds Inv-loop μ-loop
 loop-holds c =
     let A = c .before .before .before .before .before .before .args in
@@ -35,20 +29,11 @@ fill-class-requires c κs =
     let M = L .before .before in
     ((ready-later (P .0) (I .1), omega (arith, T .taken, I .1 .asize), P .1), (M .make-table .ensures, L .before .make-roots .ensures))
 
-add-i : tie.Need-add-i Inv-loop μ-loop
-add-i c = search needs
-
-loop-less : tie.Need-loop-less Inv-loop μ-loop
-loop-less c = search needs
-
 loop-again : tie.Need-loop-again Inv-loop μ-loop
 loop-again c =
     let F = c .before .before .before .before .fill-class .ensures in
     let L = c .before .before .before .before .before .before .before .before .before .before .loop in
     (search needs, later-trans (L .inv .1) (F .later), done-more (L .i) (F .later) (L .inv .2) (F .done))
-
-all-found-requires : tie.Need-all-found-requires Inv-loop μ-loop
-all-found-requires c κs = search needs
 
 same-length : tie.Need-same-length Inv-loop μ-loop
 same-length c = c .before .before .before .loop .inv .1 .size
@@ -61,6 +46,21 @@ returns c =
     let L = c .before .before .before .loop in
     let all : L .i ≡ length (L .ans) = omega (arith, c .before .before .loop-test .left, L .inv .0, L .inv .1 .asize) in
     record { later = L .inv .1; done = subst (AllDone (L .ans)) all (L .inv .2); told = c .all-found .ensures }
+
+make-table-requires : tie.Need-make-table-requires Inv-loop μ-loop
+make-table-requires c κs = search needs
+
+make-roots-requires : tie.Need-make-roots-requires Inv-loop μ-loop
+make-roots-requires c κs = search needs
+
+add-i : tie.Need-add-i Inv-loop μ-loop
+add-i c = search needs
+
+loop-less : tie.Need-loop-less Inv-loop μ-loop
+loop-less c = search needs
+
+all-found-requires : tie.Need-all-found-requires Inv-loop μ-loop
+all-found-requires c κs = search needs
 
 pub fill-classes-spec : {M : Type 1} → statement M
 fill-classes-spec =

@@ -11,21 +11,6 @@ use Rattle.code_rules.proofs.LostLaws.{lost-front}
 use Rattle.code_decoder.proofs.block.fill_lost.Statement.{statement}
 use Rattle.code_decoder.proofs.block.fill_lost.Tie as tie
 
-add-all : tie.Need-add-all
-add-all c = search needs
-
-mul-all : tie.Need-mul-all
-mul-all c = search needs
-
-slice-aggregate-mark-lost : tie.Need-slice-aggregate-mark-lost
-slice-aggregate-mark-lost c = search needs
-
-mark-lost-requires : tie.Need-mark-lost-requires
-mark-lost-requires c κs = search needs
-
-array-share-prefix-mask : tie.Need-array-share-prefix-mask
-array-share-prefix-mask c = search needs
-
 slice-aggregate-fill-block : tie.Need-slice-aggregate-fill-block
 slice-aggregate-fill-block c =
     let A = c .before .before .before .before .before .args in
@@ -44,9 +29,6 @@ fill-block-requires c κs =
     ap (take all) (M .ensures) ∙ lost-front (A .kept) (A .f) all (replicate 12288 0) (P .some) (P .most) (omega (arith, P .within)) in
     (ready-by (A .kept) (A .f) (A .k) (A .c) _ masks (A .block .now) P, P .some)
 
-same-length : tie.Need-same-length
-same-length c = search needs
-
 returns : tie.Need-returns
 returns c =
     let A = c .before .before .before .before .before .before .before .before .before .args in
@@ -59,6 +41,24 @@ returns c =
     let F = c .before .before .fill-block in
     let new = F .last .1 .1 .1 .1 .0 in
     tried-by (A .kept) (A .f) (A .k) (A .c) _ masks (A .block .now) new (F .result) (F .ensures)
+
+add-all : tie.Need-add-all
+add-all c = search needs
+
+mul-all : tie.Need-mul-all
+mul-all c = search needs
+
+slice-aggregate-mark-lost : tie.Need-slice-aggregate-mark-lost
+slice-aggregate-mark-lost c = search needs
+
+mark-lost-requires : tie.Need-mark-lost-requires
+mark-lost-requires c κs = search needs
+
+array-share-prefix-mask : tie.Need-array-share-prefix-mask
+array-share-prefix-mask c = search needs
+
+same-length : tie.Need-same-length
+same-length c = search needs
 
 pub fill-lost-spec : {M : Type 1} → statement M
 fill-lost-spec =

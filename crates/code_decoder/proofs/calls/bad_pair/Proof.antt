@@ -9,9 +9,6 @@ use Rattle.code_rules.specs.Calls.{badPair}
 use Rattle.code_decoder.proofs.calls.bad_pair.Statement.{statement}
 use Rattle.code_decoder.proofs.calls.bad_pair.Tie as tie
 
-bad-size-requires : tie.Need-bad-size-requires
-bad-size-requires c κs = search needs
-
 returns : tie.Need-returns
 unfolding badPair
 returns c = rw (told (c .before .bad-size .ensures) (c .if1 .taken))
@@ -25,14 +22,17 @@ returns-2 c =
     let A = c .before .before .before .args in
     rw (told (c .before .before .bad-size .ensures) (c .before .if1 .left), ne-eqb (A .mask) (A .k + 48) (c .if2 .taken))
 
-add-result : tie.Need-add-result
-add-result c = search needs
-
 returns-3 : tie.Need-returns-3
 unfolding badPair
 returns-3 c =
     let A = c .before .before .before .args in
     rw (told (c .before .before .bad-size .ensures) (c .before .if1 .left), eq-eqb (A .mask) (A .k + 48) (c .if2 .left))
+
+bad-size-requires : tie.Need-bad-size-requires
+bad-size-requires c κs = search needs
+
+add-result : tie.Need-add-result
+add-result c = search needs
 
 pub bad-pair-spec : {M : Type 1} → statement M
 bad-pair-spec =

@@ -7,12 +7,6 @@ use Rattle.code_rules.proofs.CellLaws.{standing, fill-refused}
 use Rattle.code_decoder.proofs.calls.fill.Statement.{statement}
 use Rattle.code_decoder.proofs.calls.fill.Tie as tie
 
-enough-requires : tie.Need-enough-requires
-enough-requires c κs = search needs
-
-enum-known-held : tie.Need-enum-known-held
-enum-known-held c = search needs
-
 enum-told : tie.Need-enum-told
 enum-told c = search needs
 
@@ -22,9 +16,6 @@ fill-cells-requires c κs =
     let A = c .before .before .before .before .before .args in
     let E = c .before .before .before .enough .ensures in
     standing (A .kept) (A .f) (A .s) (A .k) true (sym (ap numberOf (c .before .enum-told .given .1)) ∙ E)
-
-enum-told-2 : tie.Need-enum-told-2
-enum-told-2 c = search needs
 
 fill-cells-requires-2 : tie.Need-fill-cells-requires-2
 unfolding numberOf
@@ -39,6 +30,15 @@ returns c =
     let A = c .before .before .before .before .before .args in
     let E = c .before .before .before .enough .ensures in
     fill-refused (A .kept) (A .f) (A .s) (A .k) _ (A .block .now) (sym (ap numberOf (c .before .held .given .1)) ∙ E)
+
+enough-requires : tie.Need-enough-requires
+enough-requires c κs = search needs
+
+enum-known-held : tie.Need-enum-known-held
+enum-known-held c = search needs
+
+enum-told-2 : tie.Need-enum-told-2
+enum-told-2 c = search needs
 
 same-length : tie.Need-same-length
 same-length c = search needs

@@ -19,9 +19,6 @@ add-n c = omega (arith, chunk-some (c .before .args .f) (c .before .args .s) (c 
 mul-c : tie.Need-mul-c
 mul-c c = omega (arith, fits-place (c .before .args .f) (c .before .args .s) (c .before .pre .placed))
 
-div-c : tie.Need-div-c
-div-c c = search needs
-
 mul-all : tie.Need-mul-all
 mul-all c =
     let A = c .before .args in
@@ -31,9 +28,6 @@ returns : tie.Need-returns
 returns c =
     let A = c .before .before .args in
     laws.fill-room (A .kept) (A .f) (A .s) (A .k) (A .block .now) (A .enough) (c .before .before .pre) (c .if1 .taken)
-
-slice-relend-prefix-fill-lost : tie.Need-slice-relend-prefix-fill-lost
-slice-relend-prefix-fill-lost c = search needs
 
 slice-aggregate-fill-lost : tie.Need-slice-aggregate-fill-lost
 slice-aggregate-fill-lost c =
@@ -53,9 +47,6 @@ fill-lost-requires c κs =
       enough = P .told ∙ c .before .if2 .taken;
     }
 
-same-length : tie.Need-same-length
-same-length c = search needs
-
 returns-2 : tie.Need-returns-2
 returns-2 c =
     let F = c .before .before .before .fill-lost in
@@ -71,9 +62,6 @@ returns-2 c =
     let tried = subst (BlockTried (A .k) cells (A .f * A .s / n) (take all old) new) (c .if3 .taken) (F .ensures) in
     laws.fill-done (A .kept) (A .f) (A .s) (A .k) old (A .enough) (E .before .before .before .pre) whole new _
     (same ∙ length-take-le all old whole) refl (E .if2 .taken) tried
-
-same-length-2 : tie.Need-same-length-2
-same-length-2 c = search needs
 
 returns-3 : tie.Need-returns-3
 returns-3 c =
@@ -96,6 +84,18 @@ returns-4 c =
     let E = c .before in
     let A = E .before .before .args in
     laws.fill-not-enough (A .kept) (A .f) (A .s) (A .k) (A .block .now) (A .enough) (E .before .before .pre) (E .if1 .left) (c .if2 .left)
+
+div-c : tie.Need-div-c
+div-c c = search needs
+
+slice-relend-prefix-fill-lost : tie.Need-slice-relend-prefix-fill-lost
+slice-relend-prefix-fill-lost c = search needs
+
+same-length : tie.Need-same-length
+same-length c = search needs
+
+same-length-2 : tie.Need-same-length-2
+same-length-2 c = search needs
 
 pub fill-cells-spec : {M : Type 1} → statement M
 fill-cells-spec =

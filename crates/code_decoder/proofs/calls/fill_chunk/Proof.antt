@@ -11,16 +11,10 @@ use Rattle.code_rules.proofs.CallCases as cases
 use Rattle.code_decoder.proofs.calls.fill_chunk.Statement.{statement}
 use Rattle.code_decoder.proofs.calls.fill_chunk.Tie as tie
 
-bad-pair-requires : tie.Need-bad-pair-requires
-bad-pair-requires c κs = search needs
-
 returns : tie.Need-returns
 returns c =
     let A = c .before .before .before .before .args in
     cases.chunk-refused (A .k) (A .mask .now) (A .chunk .now) (told (c .before .bad-pair .ensures) (c .if1 .taken))
-
-missing-count-requires : tie.Need-missing-count-requires
-missing-count-requires c κs = search needs
 
 returns-2 : tie.Need-returns-2
 returns-2 c =
@@ -36,9 +30,6 @@ fill-block-requires c κs =
     let few : count (marks (A .mask .now)) ≤ 48 = omega (arith, c .before .if2 .left, c .before .before .missing-count .ensures) in
     (cases.chunk-ready (A .k) (A .mask .now) (A .chunk .now) fine few, search needs)
 
-same-length : tie.Need-same-length
-same-length c = search needs
-
 returns-3 : tie.Need-returns-3
 returns-3 c =
     let F = c .before .before .before .fill-block in
@@ -51,9 +42,6 @@ returns-3 c =
     let tried = subst (BlockTried (A .k) (A .mask .now) 1 (A .chunk .now) new) (c .if3 .taken) (F .ensures) in
     cases.chunk-done (A .k) (A .mask .now) (A .chunk .now) fine few new size tried
 
-same-length-2 : tie.Need-same-length-2
-same-length-2 c = search needs
-
 returns-4 : tie.Need-returns-4
 returns-4 c =
     let F = c .before .before .before .fill-block in
@@ -64,6 +52,18 @@ returns-4 c =
     let new = F .last .1 .1 .1 .1 .0 in
     let tried = subst (BlockTried (A .k) (A .mask .now) 1 (A .chunk .now) new) (c .if3 .left) (F .ensures) in
     cases.chunk-nothing (A .k) (A .mask .now) (A .chunk .now) fine few new tried
+
+bad-pair-requires : tie.Need-bad-pair-requires
+bad-pair-requires c κs = search needs
+
+missing-count-requires : tie.Need-missing-count-requires
+missing-count-requires c κs = search needs
+
+same-length : tie.Need-same-length
+same-length c = search needs
+
+same-length-2 : tie.Need-same-length-2
+same-length-2 c = search needs
 
 pub fill-chunk-spec : {M : Type 1} → statement M
 fill-chunk-spec =

@@ -10,18 +10,6 @@ use Rattle.code_rules.proofs.ChunkLaws.{tried-with}
 use Rattle.code_decoder.proofs.chunk.fill_chunk_by.Statement.{statement}
 use Rattle.code_decoder.proofs.chunk.fill_chunk_by.Tie as tie
 
-remainder-of-requires : tie.Need-remainder-of-requires
-remainder-of-requires c κs = search needs
-
-syndromes-at-requires : tie.Need-syndromes-at-requires
-syndromes-at-requires c κs = search needs
-
-solve-requires : tie.Need-solve-requires
-solve-requires c κs = search needs
-
-array-share-prefix-y : tie.Need-array-share-prefix-y
-array-share-prefix-y c = search needs
-
 slice-aggregate-fill-in : tie.Need-slice-aggregate-fill-in
 slice-aggregate-fill-in c =
     let A = c .before .before .before .before .before .before .before .args in
@@ -30,18 +18,6 @@ slice-aggregate-fill-in c =
     let size : length (Y .result) ≡ 48 = search needs in
     let room : A .miss ≤ length (Y .result) = omega (arith, few, size) in
     sym (length-take-le (A .miss) (Y .result) room)
-
-fill-in-requires : tie.Need-fill-in-requires
-fill-in-requires c κs = search needs
-
-remainder-of-requires-2 : tie.Need-remainder-of-requires-2
-remainder-of-requires-2 c κs = search needs
-
-is-zero-requires : tie.Need-is-zero-requires
-is-zero-requires c κs = search needs
-
-same-length : tie.Need-same-length
-same-length c = search needs
 
 returns : tie.Need-returns
 returns c =
@@ -54,6 +30,30 @@ returns c =
     let size : length (F .last .1 .1 .0) ≡ length (A .chunk .now) = search needs in
     tried-with (A .chunk .now) _ _ _ _ _ (c .is-zero .result) (P .0) (P .1) old new size (E .before .before .remainder-of .ensures)
     (E .before .syndromes-at .ensures) (E .solve .ensures) (F .ensures) (c .before .remainder-of2 .ensures) (c .is-zero .ensures)
+
+remainder-of-requires : tie.Need-remainder-of-requires
+remainder-of-requires c κs = search needs
+
+syndromes-at-requires : tie.Need-syndromes-at-requires
+syndromes-at-requires c κs = search needs
+
+solve-requires : tie.Need-solve-requires
+solve-requires c κs = search needs
+
+array-share-prefix-y : tie.Need-array-share-prefix-y
+array-share-prefix-y c = search needs
+
+fill-in-requires : tie.Need-fill-in-requires
+fill-in-requires c κs = search needs
+
+remainder-of-requires-2 : tie.Need-remainder-of-requires-2
+remainder-of-requires-2 c κs = search needs
+
+is-zero-requires : tie.Need-is-zero-requires
+is-zero-requires c κs = search needs
+
+same-length : tie.Need-same-length
+same-length c = search needs
 
 pub fill-chunk-by-spec : {M : Type 1} → statement M
 fill-chunk-by-spec =

@@ -20,21 +20,12 @@ loop-holds : tie.Need-loop-holds Inv-loop μ-loop
 loop-holds c =
     (search needs, search needs, zero-start (c .args .t1))
 
-array-read-if1 : tie.Need-array-read-if1 Inv-loop μ-loop
-array-read-if1 c = search needs
-
 returns : tie.Need-returns Inv-loop μ-loop
 returns c =
     let r = c .before .before .before .args .t1 in
     let L = c .before .before .loop in
     let h : getD r (L .j) 0 ≡ 0 → ⊥ = λ e. omega arith in
     zero-not r (L .j) h
-
-add-j : tie.Need-add-j Inv-loop μ-loop
-add-j c = search needs
-
-loop-less : tie.Need-loop-less Inv-loop μ-loop
-loop-less c = search needs
 
 loop-again : tie.Need-loop-again Inv-loop μ-loop
 loop-again c =
@@ -48,6 +39,15 @@ returns-2 c =
     let L = c .before .loop in
     let h : 48 ≤ L .j = search needs in
     zero-end (c .before .before .args .t1) (L .j) (L .inv .0) h (L .inv .2)
+
+array-read-if1 : tie.Need-array-read-if1 Inv-loop μ-loop
+array-read-if1 c = search needs
+
+add-j : tie.Need-add-j Inv-loop μ-loop
+add-j c = search needs
+
+loop-less : tie.Need-loop-less Inv-loop μ-loop
+loop-less c = search needs
 
 pub is-zero-spec : {M : Type 1} → statement M
 is-zero-spec =

@@ -17,16 +17,10 @@ Inv-loop t rk k mask block₀ ans₀ from hop n a e miss q sc c j₀ block ans j
 abbrev μ-loop : tie.MeasureT-loop
 μ-loop t rk k mask block₀ ans₀ from hop n a e miss q sc c j₀ block ans j = c - j
 
-slice-read-if1 : tie.Need-slice-read-if1 Inv-loop μ-loop
-slice-read-if1 c = search needs
-
 returns : tie.Need-returns Inv-loop μ-loop
 returns c =
     let A = c .before .before .before .before .before .args in
     record { later = later-refl (A .k) (A .mask .now) (A .block .now) (A .ans .now); done = search needs }
-
-add-n : tie.Need-add-n Inv-loop μ-loop
-add-n c = search needs
 
 mul-a : tie.Need-mul-a Inv-loop μ-loop
 mul-a c =
@@ -38,36 +32,15 @@ add-e c =
     let S = c .before .before .before .before .before in
     omega (arith, in-mask (S .args .from) (S .pre .0 .0) (S .pre .0 .1))
 
-sub-missing-count : tie.Need-sub-missing-count Inv-loop μ-loop
-sub-missing-count c = search needs
-
-part-missing-count-start : tie.Need-part-missing-count-start Inv-loop μ-loop
-part-missing-count-start c = search needs
-
 part-missing-count-end : tie.Need-part-missing-count-end Inv-loop μ-loop
 part-missing-count-end c =
     let S = c .before .before .before .before .before in
     omega (arith, in-mask (S .args .from) (S .pre .0 .0) (S .pre .0 .1))
 
-missing-count-requires : tie.Need-missing-count-requires Inv-loop μ-loop
-missing-count-requires c κs = search needs
-
-sub-locators-of : tie.Need-sub-locators-of Inv-loop μ-loop
-sub-locators-of c = search needs
-
-part-locators-of-start : tie.Need-part-locators-of-start Inv-loop μ-loop
-part-locators-of-start c = search needs
-
 part-locators-of-end : tie.Need-part-locators-of-end Inv-loop μ-loop
 part-locators-of-end c =
     let S = c .before .before .before .before .before .before .before in
     omega (arith, in-mask (S .args .from) (S .pre .0 .0) (S .pre .0 .1))
-
-locators-of-requires : tie.Need-locators-of-requires Inv-loop μ-loop
-locators-of-requires c κs = search needs
-
-pattern-requires : tie.Need-pattern-requires Inv-loop μ-loop
-pattern-requires c κs = search needs
 
 loop-holds : tie.Need-loop-holds Inv-loop μ-loop
 loop-holds c =
@@ -95,9 +68,6 @@ next-in-class-requires c κs =
     let L = c .before .before .before .before .before .before .before .before .before in
     (L .loop-test .taken, L .before .before .before .before .before .before .before .before .before .before .before .before .before .pre .0 .2)
 
-loop-less : tie.Need-loop-less Inv-loop μ-loop
-loop-less c = search needs
-
 loop-again : tie.Need-loop-again Inv-loop μ-loop
 loop-again c =
     let F = c .before .before .before .before .before .fill-if-same .ensures in
@@ -122,6 +92,36 @@ returns-2 c =
     let I = c .before .loop .inv in
     let within = c .before .before .before .before .before .before .before .before .before .before .before .before .before .pre .0 .1 in
     record { later = I .2; done = I .3 (omega (arith, c .loop-test .left, within)) }
+
+slice-read-if1 : tie.Need-slice-read-if1 Inv-loop μ-loop
+slice-read-if1 c = search needs
+
+add-n : tie.Need-add-n Inv-loop μ-loop
+add-n c = search needs
+
+sub-missing-count : tie.Need-sub-missing-count Inv-loop μ-loop
+sub-missing-count c = search needs
+
+part-missing-count-start : tie.Need-part-missing-count-start Inv-loop μ-loop
+part-missing-count-start c = search needs
+
+missing-count-requires : tie.Need-missing-count-requires Inv-loop μ-loop
+missing-count-requires c κs = search needs
+
+sub-locators-of : tie.Need-sub-locators-of Inv-loop μ-loop
+sub-locators-of c = search needs
+
+part-locators-of-start : tie.Need-part-locators-of-start Inv-loop μ-loop
+part-locators-of-start c = search needs
+
+locators-of-requires : tie.Need-locators-of-requires Inv-loop μ-loop
+locators-of-requires c κs = search needs
+
+pattern-requires : tie.Need-pattern-requires Inv-loop μ-loop
+pattern-requires c κs = search needs
+
+loop-less : tie.Need-loop-less Inv-loop μ-loop
+loop-less c = search needs
 
 pub fill-class-spec : {M : Type 1} → statement M
 fill-class-spec =

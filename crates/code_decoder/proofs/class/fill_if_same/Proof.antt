@@ -11,12 +11,6 @@ use Rattle.code_rules.proofs.ClassLaws.{in-mask, in-block, chunk-long, shared-s
 use Rattle.code_decoder.proofs.class.fill_if_same.Statement.{statement}
 use Rattle.code_decoder.proofs.class.fill_if_same.Tie as tie
 
-slice-read-if1 : tie.Need-slice-read-if1
-slice-read-if1 c = search needs
-
-add-n : tie.Need-add-n
-add-n c = search needs
-
 mul-a : tie.Need-mul-a
 mul-a c =
     let S = c .before .before .before .before .before in
@@ -38,22 +32,10 @@ same-mask-requires c κs =
     let P = S .pre .0 in
     (in-mask (S .args .from) (P .0) (P .1), in-mask (S .args .j) (P .0) (P .2))
 
-sub-fill-chunk-by : tie.Need-sub-fill-chunk-by
-sub-fill-chunk-by c = search needs
-
-part-fill-chunk-by-start : tie.Need-part-fill-chunk-by-start
-part-fill-chunk-by-start c = search needs
-
 part-fill-chunk-by-end : tie.Need-part-fill-chunk-by-end
 part-fill-chunk-by-end c =
     let S = c .before .before .before .before .before .before .before in
     omega (arith, in-mask (S .args .j) (S .pre .0 .0) (S .pre .0 .2))
-
-sub-fill-chunk-by-2 : tie.Need-sub-fill-chunk-by-2
-sub-fill-chunk-by-2 c = search needs
-
-part-fill-chunk-by-start-2 : tie.Need-part-fill-chunk-by-start-2
-part-fill-chunk-by-start-2 c = search needs
 
 part-fill-chunk-by-end-2 : tie.Need-part-fill-chunk-by-end-2
 part-fill-chunk-by-end-2 c =
@@ -68,18 +50,6 @@ fill-chunk-by-requires c κs =
     let at : ℕ → List ℕ = λ i. take n (drop (i * n) (A .mask .now)) in
     let same = subst (λ b. SameTest b (at (A .from)) (at (A .j))) (c .before .before .if2 .taken) (c .before .before .before .same-mask .ensures) in
     (shared-same (A .mask .now) (A .from) (A .j) (P .1) same, chunk-long (A .j) (P .0 .0) (P .0 .2))
-
-answer-requires : tie.Need-answer-requires
-answer-requires c κs = search needs
-
-slice-write-ans : tie.Need-slice-write-ans
-slice-write-ans c = search needs
-
-same-length : tie.Need-same-length
-same-length c = search needs
-
-same-length-2 : tie.Need-same-length-2
-same-length-2 c = search needs
 
 returns : tie.Need-returns
 returns c =
@@ -105,6 +75,36 @@ returns-3 : tie.Need-returns-3
 returns-3 c =
     let A = c .before .before .before .before .before .args in
     record { later = later-refl (A .k) (A .mask .now) (A .block .now) (A .ans .now); done = λ _. search needs }
+
+slice-read-if1 : tie.Need-slice-read-if1
+slice-read-if1 c = search needs
+
+add-n : tie.Need-add-n
+add-n c = search needs
+
+sub-fill-chunk-by : tie.Need-sub-fill-chunk-by
+sub-fill-chunk-by c = search needs
+
+part-fill-chunk-by-start : tie.Need-part-fill-chunk-by-start
+part-fill-chunk-by-start c = search needs
+
+sub-fill-chunk-by-2 : tie.Need-sub-fill-chunk-by-2
+sub-fill-chunk-by-2 c = search needs
+
+part-fill-chunk-by-start-2 : tie.Need-part-fill-chunk-by-start-2
+part-fill-chunk-by-start-2 c = search needs
+
+answer-requires : tie.Need-answer-requires
+answer-requires c κs = search needs
+
+slice-write-ans : tie.Need-slice-write-ans
+slice-write-ans c = search needs
+
+same-length : tie.Need-same-length
+same-length c = search needs
+
+same-length-2 : tie.Need-same-length-2
+same-length-2 c = search needs
 
 pub fill-if-same-spec : {M : Type 1} → statement M
 fill-if-same-spec =

@@ -27,12 +27,6 @@ encode-one-requires : tie.Need-encode-one-requires Inv-loop μ-loop
 encode-one-requires c κs =
     (c .before .before .loop .inv .0, search needs, c .before .before .loop .inv .3)
 
-add-j : tie.Need-add-j Inv-loop μ-loop
-add-j c = search needs
-
-loop-less : tie.Need-loop-less Inv-loop μ-loop
-loop-less c = search needs
-
 loop-again : tie.Need-loop-again Inv-loop μ-loop
 loop-again c =
     let L = c .before .before .before .before .before .loop in
@@ -53,6 +47,12 @@ returns c =
     let A = c .before .before .before .before .args in
     let h : L .j ≡ A .c = search needs in
     subst (λ n. Encoded (A .k) n (A .src .now) (L .out)) h (L .inv .4)
+
+add-j : tie.Need-add-j Inv-loop μ-loop
+add-j c = search needs
+
+loop-less : tie.Need-loop-less Inv-loop μ-loop
+loop-less c = search needs
 
 pub encode-block-spec : {M : Type 1} → statement M
 encode-block-spec =

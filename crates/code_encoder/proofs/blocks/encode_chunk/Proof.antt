@@ -10,21 +10,6 @@ use Rattle.code_rules.proofs.TableLaws.{parity-by}
 use Rattle.code_encoder.proofs.blocks.encode_chunk.Statement.{statement}
 use Rattle.code_encoder.proofs.blocks.encode_chunk.Tie as tie
 
-parity-of-requires : tie.Need-parity-of-requires
-parity-of-requires c κs = search needs
-
-put-requires : tie.Need-put-requires
-put-requires c κs = search needs
-
-slice-aggregate-put : tie.Need-slice-aggregate-put
-slice-aggregate-put c = search needs
-
-put-requires-2 : tie.Need-put-requires-2
-put-requires-2 c κs = search needs
-
-same-length : tie.Need-same-length
-same-length c = search needs
-
 returns : tie.Need-returns
 returns c =
     let S = c .before .before .before .before .before .before .before .before .before .before .before in
@@ -44,6 +29,21 @@ returns c =
     encode-put (A .out .now) d p x (W .last .0) (P .1) lp e
     (put-is (A .out .now) d x 0 _ one (R .ensures))
     (put-is x p (W .last .0) (length d) _ two (W .ensures))
+
+parity-of-requires : tie.Need-parity-of-requires
+parity-of-requires c κs = search needs
+
+put-requires : tie.Need-put-requires
+put-requires c κs = search needs
+
+slice-aggregate-put : tie.Need-slice-aggregate-put
+slice-aggregate-put c = search needs
+
+put-requires-2 : tie.Need-put-requires-2
+put-requires-2 c κs = search needs
+
+same-length : tie.Need-same-length
+same-length c = search needs
 
 pub encode-chunk-spec : {M : Type 1} → statement M
 encode-chunk-spec =

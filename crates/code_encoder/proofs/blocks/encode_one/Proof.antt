@@ -15,9 +15,6 @@ use Rattle.code_encoder.proofs.blocks.encode_one.Tie as tie
 ends : (k c j : ℕ) (src out : List ℕ) → EncSized k c src out → j < c → (j * k + k ≤ length src) × (j * (k + 48) + (k + 48) ≤ length out)
 ends k c j src out s h = (omega (arith, room k c j h, s .datas), omega (arith, room (k + 48) c j h, s .chunks))
 
-add-n : tie.Need-add-n
-add-n c = search needs
-
 mul-a : tie.Need-mul-a
 mul-a c =
     let A = c .before .before .args in
@@ -46,24 +43,12 @@ add-e c =
     let E = ends (A .k) (A .c) (A .j) (A .src .now) (A .out .now) (P .0) (P .1) in
     omega (arith, E .0, E .1)
 
-sub-encode-chunk : tie.Need-sub-encode-chunk
-sub-encode-chunk c = search needs
-
-part-encode-chunk-start : tie.Need-part-encode-chunk-start
-part-encode-chunk-start c = search needs
-
 part-encode-chunk-end : tie.Need-part-encode-chunk-end
 part-encode-chunk-end c =
     let A = c .before .before .args in
     let P = c .before .before .pre in
     let E = ends (A .k) (A .c) (A .j) (A .src .now) (A .out .now) (P .0) (P .1) in
     omega (arith, E .0, E .1)
-
-sub-encode-chunk-2 : tie.Need-sub-encode-chunk-2
-sub-encode-chunk-2 c = search needs
-
-part-encode-chunk-start-2 : tie.Need-part-encode-chunk-start-2
-part-encode-chunk-start-2 c = search needs
 
 part-encode-chunk-end-2 : tie.Need-part-encode-chunk-end-2
 part-encode-chunk-end-2 c =
@@ -84,15 +69,30 @@ encode-chunk-requires c κs =
     ap length (mid-part (k + 48) j (A .out .now)) ∙ length-part (k + 48) (A .c) j (A .out .now) (P .0 .chunks) (P .1) in
     (omega (arith, E, P .0 .short), G ∙ ap (λ n. n + 48) (sym E), P .2)
 
-same-length : tie.Need-same-length
-same-length c = search needs
-
 returns : tie.Need-returns
 returns c =
     let A = c .before .before .before .before .before .before .before .args in
     let P = c .before .before .before .before .before .before .before .pre in
     let N = c .before .before .encode-chunk in
     one-encoded (A .k) (A .c) (A .j) (A .src .now) (A .out .now) (N .last .1 .1 .0) (P .0) (P .1) (N .ensures)
+
+add-n : tie.Need-add-n
+add-n c = search needs
+
+sub-encode-chunk : tie.Need-sub-encode-chunk
+sub-encode-chunk c = search needs
+
+part-encode-chunk-start : tie.Need-part-encode-chunk-start
+part-encode-chunk-start c = search needs
+
+sub-encode-chunk-2 : tie.Need-sub-encode-chunk-2
+sub-encode-chunk-2 c = search needs
+
+part-encode-chunk-start-2 : tie.Need-part-encode-chunk-start-2
+part-encode-chunk-start-2 c = search needs
+
+same-length : tie.Need-same-length
+same-length c = search needs
 
 pub encode-one-spec : {M : Type 1} → statement M
 encode-one-spec =

@@ -30,9 +30,6 @@ fitting : (c : tie.Else3)
     ≡ false
 fitting c = told (c .before .misfit .ensures) (c .if3 .left)
 
-bad-size-requires : tie.Need-bad-size-requires
-bad-size-requires c κs = search needs
-
 returns : tie.Need-returns
 unfolding numberOf
 returns c =
@@ -79,9 +76,6 @@ returns-4 c =
     let fine = sized (E .before .before .before .before) in
     cases.encode-room (A .packet .now) (A .out .now) (A .k) (A .c) fine (placed (E .before .before)) (fitting E) (c .if4 .taken)
 
-slice-relend-prefix-write-block : tie.Need-slice-relend-prefix-write-block
-slice-relend-prefix-write-block c = search needs
-
 slice-aggregate-write-block : tie.Need-slice-aggregate-write-block
 slice-aggregate-write-block c =
     let A = c .before .before .before .before .before .before .before .before .before .before .args in
@@ -96,9 +90,6 @@ write-block-requires c κs =
     let fits = cases.fits-chunks (length (A .packet .now)) (A .k) (A .c) (fitting E) in
     (short, fits, omega (arith, within), length-take-le (A .c * (A .k + 48)) (A .out .now) (c .before .if4 .left))
 
-same-length : tie.Need-same-length
-same-length c = search needs
-
 returns-5 : tie.Need-returns-5
 unfolding numberOf
 returns-5 c =
@@ -110,6 +101,15 @@ returns-5 c =
     cases.encode-done packet (A .out .now) (A .k) (A .c) (sized (E .before .before .before .before)) (placed (E .before .before)) (fitting E) _
     (c .before .before .before .before .if4 .left)
     (cases.block-lent (A .out .now) _ _ n size (c .before .before .write-block .ensures))
+
+bad-size-requires : tie.Need-bad-size-requires
+bad-size-requires c κs = search needs
+
+slice-relend-prefix-write-block : tie.Need-slice-relend-prefix-write-block
+slice-relend-prefix-write-block c = search needs
+
+same-length : tie.Need-same-length
+same-length c = search needs
 
 pub encode-spec : {M : Type 1} → statement M
 encode-spec =

@@ -11,31 +11,16 @@ use Rattle.code_rules.proofs.TableLaws.{parity-by}
 use Rattle.code_encoder.proofs.calls.parity.Statement.{statement}
 use Rattle.code_encoder.proofs.calls.parity.Tie as tie
 
-bad-size-requires : tie.Need-bad-size-requires
-bad-size-requires c κs = search needs
-
 returns : tie.Need-returns
 unfolding numberOf
 returns c =
     let A = c .before .before .before .before .args in
     cases.parity-size (A .chunk .now) (A .out .now) (told (c .before .bad-size .ensures) (c .if1 .taken))
 
-make-table-requires : tie.Need-make-table-requires
-make-table-requires c κs = search needs
-
 parity-of-requires : tie.Need-parity-of-requires
 parity-of-requires c κs =
     let E = c .before .before .before in
     k-most (length (E .before .before .before .before .args .chunk .now)) (told (E .before .bad-size .ensures) (E .if1 .left))
-
-slice-aggregate-put : tie.Need-slice-aggregate-put
-slice-aggregate-put c = search needs
-
-put-requires : tie.Need-put-requires
-put-requires c κs = search needs
-
-same-length : tie.Need-same-length
-same-length c = search needs
 
 returns-2 : tie.Need-returns-2
 returns-2 c =
@@ -49,6 +34,21 @@ returns-2 c =
     let bytes = bytes-of d (λ i. fits-byte (S .shared-slice-known .given i)) in
     let e = P .ensures ∙ parity-by (T .last .0) (T .ensures) d (k-most (length d) fine) bytes in
     cases.parity-put d (A .out .now) (P .result) fine (search needs) e (c .before .before .put .ensures)
+
+bad-size-requires : tie.Need-bad-size-requires
+bad-size-requires c κs = search needs
+
+make-table-requires : tie.Need-make-table-requires
+make-table-requires c κs = search needs
+
+slice-aggregate-put : tie.Need-slice-aggregate-put
+slice-aggregate-put c = search needs
+
+put-requires : tie.Need-put-requires
+put-requires c κs = search needs
+
+same-length : tie.Need-same-length
+same-length c = search needs
 
 pub parity-spec : {M : Type 1} → statement M
 parity-spec =

@@ -11,18 +11,6 @@ use Rattle.code_rules.proofs.CallCases.{pad-take, block-is}
 use Rattle.code_encoder.proofs.calls.write_block.Statement.{statement}
 use Rattle.code_encoder.proofs.calls.write_block.Tie as tie
 
-make-table-requires : tie.Need-make-table-requires
-make-table-requires c κs = search needs
-
-pad-requires : tie.Need-pad-requires
-pad-requires c κs = search needs
-
-mul-a : tie.Need-mul-a
-mul-a c = search needs
-
-array-share-prefix-w : tie.Need-array-share-prefix-w
-array-share-prefix-w c = search needs
-
 slice-aggregate-encode-block : tie.Need-slice-aggregate-encode-block
 slice-aggregate-encode-block c =
     let A = c .before .before .before .before .before .before .before .args in
@@ -38,9 +26,6 @@ encode-block-requires c κs =
     let long : A .c * A .k ≤ length w = search needs in
     (record { short = P .0; datas = length-take-le (A .c * A .k) w long; chunks = P .3 }, c .before .before .before .before .make-table .ensures)
 
-same-length : tie.Need-same-length
-same-length c = search needs
-
 returns : tie.Need-returns
 returns c =
     let A = c .before .before .before .before .before .before .before .before .before .before .before .args in
@@ -53,6 +38,21 @@ returns c =
     let size : length (take n (w .result)) ≡ n = length-take-le n (w .result) long in
     block-is (A .k) (A .c) (take n (w .result)) _ (omega arith) (search needs) (c .before .before .encode-block .ensures)
     ∙ ap (λ l. blockOf parityOf l (A .k) (A .c)) src
+
+make-table-requires : tie.Need-make-table-requires
+make-table-requires c κs = search needs
+
+pad-requires : tie.Need-pad-requires
+pad-requires c κs = search needs
+
+mul-a : tie.Need-mul-a
+mul-a c = search needs
+
+array-share-prefix-w : tie.Need-array-share-prefix-w
+array-share-prefix-w c = search needs
+
+same-length : tie.Need-same-length
+same-length c = search needs
 
 pub write-block-spec : {M : Type 1} → statement M
 write-block-spec =

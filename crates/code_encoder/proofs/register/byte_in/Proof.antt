@@ -19,6 +19,29 @@ abbrev μ-loop : tie.MeasureT-loop
 μ-loop q₀ t x n a b j₀ q j =
     48 - j
 
+loop-holds : tie.Need-loop-holds Inv-loop μ-loop
+loop-holds c =
+    (search needs, search needs, search needs, search needs, search needs, c .before .before .pre .1, upto-start _ _)
+
+loop-again : tie.Need-loop-again Inv-loop μ-loop
+loop-again c =
+    let L = c .before .before .before .before .before .before .loop in
+    let A = c .before .before .before .before .before .before .before .before .before .args in
+    let I = L .inv in
+    let goal = byteBy (A .t .now) (A .n) (A .x) (A .q .now) in
+    let h : L .j < 48 = search needs in
+    let B = byteBy-at (A .t .now) (A .n) (A .x) (A .q .now) (L .j) h in
+    let U = I .6 .left (L .j) (omega arith) in
+    let more = upto-more goal (A .q .now) (L .j) (L .q) (c .sum2 .result) (I .6) (omega arith) (cc (B, U)) in
+    (I .0, I .1, I .2, I .3, search needs, I .5, more)
+
+returns : tie.Need-returns Inv-loop μ-loop
+returns c =
+    let L = c .before .loop in
+    let A = c .before .before .before .before .args in
+    let size = length-byteBy (A .t .now) (A .n) (A .x) (A .q .now) in
+    upto-end _ (A .q .now) (L .j) (L .q) (L .inv .6) (omega arith) (size ∙ sym (L .inv .5))
+
 mul-a : tie.Need-mul-a Inv-loop μ-loop
 mul-a c = search needs
 
@@ -45,10 +68,6 @@ mul-b-2 c = search needs
 
 add-b-2 : tie.Need-add-b-2 Inv-loop μ-loop
 add-b-2 c = search needs
-
-loop-holds : tie.Need-loop-holds Inv-loop μ-loop
-loop-holds c =
-    (search needs, search needs, search needs, search needs, search needs, c .before .before .pre .1, upto-start _ _)
 
 element-copy-out-sum : tie.Need-element-copy-out-sum Inv-loop μ-loop
 element-copy-out-sum c = search needs
@@ -79,25 +98,6 @@ add-j c = search needs
 
 loop-less : tie.Need-loop-less Inv-loop μ-loop
 loop-less c = search needs
-
-loop-again : tie.Need-loop-again Inv-loop μ-loop
-loop-again c =
-    let L = c .before .before .before .before .before .before .loop in
-    let A = c .before .before .before .before .before .before .before .before .before .args in
-    let I = L .inv in
-    let goal = byteBy (A .t .now) (A .n) (A .x) (A .q .now) in
-    let h : L .j < 48 = search needs in
-    let B = byteBy-at (A .t .now) (A .n) (A .x) (A .q .now) (L .j) h in
-    let U = I .6 .left (L .j) (omega arith) in
-    let more = upto-more goal (A .q .now) (L .j) (L .q) (c .sum2 .result) (I .6) (omega arith) (cc (B, U)) in
-    (I .0, I .1, I .2, I .3, search needs, I .5, more)
-
-returns : tie.Need-returns Inv-loop μ-loop
-returns c =
-    let L = c .before .loop in
-    let A = c .before .before .before .before .args in
-    let size = length-byteBy (A .t .now) (A .n) (A .x) (A .q .now) in
-    upto-end _ (A .q .now) (L .j) (L .q) (L .inv .6) (omega arith) (size ∙ sym (L .inv .5))
 
 pub byte-in-spec : {M : Type 1} → statement M
 byte-in-spec =

@@ -16,13 +16,34 @@ abbrev μ-loop : tie.MeasureT-loop
 μ-loop t d at p q₀ n₀ q n =
     8 - n
 
-shifted-requires : tie.Need-shifted-requires Inv-loop μ-loop
-shifted-requires c κs = search needs
-
 loop-holds : tie.Need-loop-holds Inv-loop μ-loop
 loop-holds c =
     let A = c .before .args in
     (c .before .pre, search needs, search needs, c .shifted .ensures ∙ last-start (A .t .now) (A .t2) (A .d .now) (A .at))
+
+byte-in-requires : tie.Need-byte-in-requires Inv-loop μ-loop
+byte-in-requires c κs =
+    let L = c .before .before .before .before .loop in
+    let A = c .before .before .before .before .before .before .args in
+    (search needs, length-last (A .t .now) (A .t2) (A .d .now) (A .at) (L .n) (L .q) (L .inv .1) (L .inv .3))
+
+loop-again : tie.Need-loop-again Inv-loop μ-loop
+loop-again c =
+    let L = c .before .before .before .before .before .loop in
+    let A = c .before .before .before .before .before .before .before .args in
+    let I = L .inv in
+    let same = ap₂ (λ x q. byteBy (A .t .now) (L .n) x q) (c .before .sum .ensures) (I .3) in
+    (I .0, I .1, search needs, c .byte-in .ensures ∙ same ∙ last-more (A .t .now) (A .t2) (A .d .now) (A .at) (L .n))
+
+returns : tie.Need-returns Inv-loop μ-loop
+returns c =
+    let L = c .before .loop in
+    let A = c .before .before .before .args in
+    let h : L .n ≡ 8 = search needs in
+    L .inv .3 ∙ last-end (A .t .now) (A .t2) (A .d .now) (A .at) (L .n) h
+
+shifted-requires : tie.Need-shifted-requires Inv-loop μ-loop
+shifted-requires c κs = search needs
 
 sub-sum : tie.Need-sub-sum Inv-loop μ-loop
 sub-sum c = search needs
@@ -42,32 +63,11 @@ element-copy-out-sum c = search needs
 sum-requires : tie.Need-sum-requires Inv-loop μ-loop
 sum-requires c κs = search needs
 
-byte-in-requires : tie.Need-byte-in-requires Inv-loop μ-loop
-byte-in-requires c κs =
-    let L = c .before .before .before .before .loop in
-    let A = c .before .before .before .before .before .before .args in
-    (search needs, length-last (A .t .now) (A .t2) (A .d .now) (A .at) (L .n) (L .q) (L .inv .1) (L .inv .3))
-
 add-n : tie.Need-add-n Inv-loop μ-loop
 add-n c = search needs
 
 loop-less : tie.Need-loop-less Inv-loop μ-loop
 loop-less c = search needs
-
-loop-again : tie.Need-loop-again Inv-loop μ-loop
-loop-again c =
-    let L = c .before .before .before .before .before .loop in
-    let A = c .before .before .before .before .before .before .before .args in
-    let I = L .inv in
-    let same = ap₂ (λ x q. byteBy (A .t .now) (L .n) x q) (c .before .sum .ensures) (I .3) in
-    (I .0, I .1, search needs, c .byte-in .ensures ∙ same ∙ last-more (A .t .now) (A .t2) (A .d .now) (A .at) (L .n))
-
-returns : tie.Need-returns Inv-loop μ-loop
-returns c =
-    let L = c .before .loop in
-    let A = c .before .before .before .args in
-    let h : L .n ≡ 8 = search needs in
-    L .inv .3 ∙ last-end (A .t .now) (A .t2) (A .d .now) (A .at) (L .n) h
 
 pub eight-spec : {M : Type 1} → statement M
 eight-spec =

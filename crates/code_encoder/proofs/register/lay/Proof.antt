@@ -23,21 +23,6 @@ loop-holds : tie.Need-loop-holds Inv-loop μ-loop
 loop-holds c =
     (refl, c .pre, search needs, laid-start (c .args .d .now))
 
-shared-slice-read-w : tie.Need-shared-slice-read-w Inv-loop μ-loop
-shared-slice-read-w c = search needs
-
-add-w : tie.Need-add-w Inv-loop μ-loop
-add-w c = search needs
-
-array-write-w : tie.Need-array-write-w Inv-loop μ-loop
-array-write-w c = search needs
-
-add-i : tie.Need-add-i Inv-loop μ-loop
-add-i c = search needs
-
-loop-less : tie.Need-loop-less Inv-loop μ-loop
-loop-less c = search needs
-
 loop-again : tie.Need-loop-again Inv-loop μ-loop
 loop-again c =
     let L = c .before .before .loop in
@@ -53,6 +38,21 @@ returns c =
     let d = c .before .before .args .d .now in
     let h : L .i ≡ length d = search needs in
     upto-rest (laid d) (replicate 208 0) (L .i + 1) (L .w) (I .3) (length-laid d (I .1)) (λ j l m. laid-past d j (omega arith))
+
+shared-slice-read-w : tie.Need-shared-slice-read-w Inv-loop μ-loop
+shared-slice-read-w c = search needs
+
+add-w : tie.Need-add-w Inv-loop μ-loop
+add-w c = search needs
+
+array-write-w : tie.Need-array-write-w Inv-loop μ-loop
+array-write-w c = search needs
+
+add-i : tie.Need-add-i Inv-loop μ-loop
+add-i c = search needs
+
+loop-less : tie.Need-loop-less Inv-loop μ-loop
+loop-less c = search needs
 
 pub lay-spec : {M : Type 1} → statement M
 lay-spec =

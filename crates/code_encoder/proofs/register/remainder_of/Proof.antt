@@ -14,9 +14,6 @@ returns c =
     let A = c .before .before .args in
     remainder-long (A .t .now) (A .k) (A .c .now) (c .if1 .taken)
 
-add-if2 : tie.Need-add-if2
-add-if2 c = search needs
-
 returns-2 : tie.Need-returns-2
 returns-2 c =
     let A = c .before .before .before .args in
@@ -35,15 +32,18 @@ parity-of-requires c κs =
     let size : length (take (A .k) (A .c .now)) ≡ A .k = length-take-le (A .k) (A .c .now) (omega arith) in
     omega (arith, c .before .before .if1 .left)
 
-summed-requires : tie.Need-summed-requires
-summed-requires c κs = search needs
-
 returns-3 : tie.Need-returns-3
 returns-3 c =
     let A = c .before .before .before .before .before .before .args in
     c .summed .ensures
     ∙ ap (λ p. sumOf p (drop (A .k) (A .c .now))) (c .before .parity-of .ensures)
     ∙ remainder-some (A .t .now) (A .k) (A .c .now) (c .before .before .before .before .if1 .left) (c .before .before .before .if2 .left)
+
+add-if2 : tie.Need-add-if2
+add-if2 c = search needs
+
+summed-requires : tie.Need-summed-requires
+summed-requires c κs = search needs
 
 pub remainder-of-spec : {M : Type 1} → statement M
 remainder-of-spec =

@@ -9,15 +9,6 @@ use Rattle.code_rules.specs.inner.Kernel.{factorOf}
 use Rattle.code_encoder.proofs.rows.factor.Statement.{statement}
 use Rattle.code_encoder.proofs.rows.factor.Tie as tie
 
-cast-result : tie.Need-cast-result
-cast-result c = search needs
-
-mul-result : tie.Need-mul-result
-mul-result c = search needs
-
-cast-result-2 : tie.Need-cast-result-2
-cast-result-2 c = search needs
-
 returns : tie.Need-returns
 unfolding factorOf
 returns c =
@@ -33,6 +24,15 @@ returns-2 c =
     let l : 16 ≤ u = search needs in
     let e : (u - 16) * 16 % 256 ≡ (u - 16) * 16 = omega arith in
     e ∙ sym (ap (λ b. cond b u ((u - 16) * 16)) (le-ltb u 16 l))
+
+cast-result : tie.Need-cast-result
+cast-result c = search needs
+
+mul-result : tie.Need-mul-result
+mul-result c = search needs
+
+cast-result-2 : tie.Need-cast-result-2
+cast-result-2 c = search needs
 
 pub factor-spec : {M : Type 1} → statement M
 factor-spec = tie.close (tie.spec cast-result mul-result cast-result-2 returns returns-2)

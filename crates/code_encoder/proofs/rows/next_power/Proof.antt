@@ -9,6 +9,12 @@ use Rattle.code_rules.proofs.RegisterLaws.{back-one, step-is}
 use Rattle.code_encoder.proofs.rows.next_power.Statement.{statement}
 use Rattle.code_encoder.proofs.rows.next_power.Tie as tie
 
+returns : tie.Need-returns
+returns c =
+    let b : List ℕ = c .before .before .args .t1 in
+    let e : length b ≡ 48 = search needs in
+    cc (back-one b, step-is b 0 e, add-0-r (getD b 0 0))
+
 shifted-requires : tie.Need-shifted-requires
 shifted-requires c κs = search needs
 
@@ -17,12 +23,6 @@ array-read-added c = search needs
 
 added-requires : tie.Need-added-requires
 added-requires c κs = search needs
-
-returns : tie.Need-returns
-returns c =
-    let b : List ℕ = c .before .before .args .t1 in
-    let e : length b ≡ 48 = search needs in
-    cc (back-one b, step-is b 0 e, add-0-r (getD b 0 0))
 
 pub next-power-spec : {M : Type 1} → statement M
 next-power-spec = tie.close (tie.spec shifted-requires array-read-added added-requires returns)

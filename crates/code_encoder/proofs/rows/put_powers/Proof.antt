@@ -20,9 +20,6 @@ abbrev μ-loop : tie.MeasureT-loop
 μ-loop t₀ g b₀ n₀ t b n =
     8 - n
 
-coefficients-requires : tie.Need-coefficients-requires Inv-loop μ-loop
-coefficients-requires c κs = search needs
-
 loop-holds : tie.Need-loop-holds Inv-loop μ-loop
 loop-holds c =
     let G = c .coefficients .ensures in
@@ -37,12 +34,6 @@ put-rows-requires c κs =
 next-power-requires : tie.Need-next-power-requires Inv-loop μ-loop
 next-power-requires c κs = c .before .before .before .before .before .loop .inv .0
 
-add-n : tie.Need-add-n Inv-loop μ-loop
-add-n c = search needs
-
-loop-less : tie.Need-loop-less Inv-loop μ-loop
-loop-less c = search needs
-
 loop-again : tie.Need-loop-again Inv-loop μ-loop
 loop-again c =
     let L = c .before .before .before .before .before .before .loop in
@@ -51,14 +42,23 @@ loop-again c =
     let next = c .next-power .ensures ∙ ap (λ b. step b 0) (I .2) ∙ power-s (L .n) ∙ ap power (sym (add-one (L .n))) in
     (I .0, search needs, next, R .kept .0 ∙ I .3, subst (λ m. Made (R .last .0) m) (omega arith) (R .ensures), I .5)
 
-same-length : tie.Need-same-length Inv-loop μ-loop
-same-length c = search needs
-
 returns : tie.Need-returns Inv-loop μ-loop
 returns c =
     let L = c .before .loop in
     let h : L .n ≡ 8 = search needs in
     subst (λ m. Made (L .t) m) (omega arith) (L .inv .4)
+
+coefficients-requires : tie.Need-coefficients-requires Inv-loop μ-loop
+coefficients-requires c κs = search needs
+
+add-n : tie.Need-add-n Inv-loop μ-loop
+add-n c = search needs
+
+loop-less : tie.Need-loop-less Inv-loop μ-loop
+loop-less c = search needs
+
+same-length : tie.Need-same-length Inv-loop μ-loop
+same-length c = search needs
 
 pub put-powers-spec : {M : Type 1} → statement M
 put-powers-spec =

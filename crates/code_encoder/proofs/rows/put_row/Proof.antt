@@ -17,14 +17,31 @@ abbrev μ-loop : tie.MeasureT-loop
 μ-loop t₀ r row at j₀ t j =
     48 - j
 
-mul-at : tie.Need-mul-at Inv-loop μ-loop
-mul-at c = search needs
-
 loop-holds : tie.Need-loop-holds Inv-loop μ-loop
 loop-holds c =
     let P = c .pre in
     let T = c .args .t .now in
     (P .0, search needs, search needs, P .1, subst (λ n. Made T n) (omega arith) (P .2), P .3)
+
+loop-again : tie.Need-loop-again Inv-loop μ-loop
+loop-again c =
+    let L = c .before .loop in
+    let A = c .before .before .args in
+    let I = L .inv in
+    let at = A .r * 48 + L .j in
+    let v = getD (A .t3) (L .j) 0 in
+    let h : L .j < 48 = search needs in
+    let more = made-more (L .t) at v (I .4) (omega arith) (row-at (A .t3) (A .r) (L .j) (I .5) h) in
+    (I .0, search needs, search needs, search needs, subst (λ n. Made (set (L .t) at v) n) (omega arith) more, I .5)
+
+returns : tie.Need-returns Inv-loop μ-loop
+returns c =
+    let L = c .before .loop in
+    let h : 48 ≤ L .j = search needs in
+    subst (λ n. Made (L .t) n) (omega arith) (L .inv .4)
+
+mul-at : tie.Need-mul-at Inv-loop μ-loop
+mul-at c = search needs
 
 array-read-t : tie.Need-array-read-t Inv-loop μ-loop
 array-read-t c = search needs
@@ -41,25 +58,8 @@ add-j c = search needs
 loop-less : tie.Need-loop-less Inv-loop μ-loop
 loop-less c = search needs
 
-loop-again : tie.Need-loop-again Inv-loop μ-loop
-loop-again c =
-    let L = c .before .loop in
-    let A = c .before .before .args in
-    let I = L .inv in
-    let at = A .r * 48 + L .j in
-    let v = getD (A .t3) (L .j) 0 in
-    let h : L .j < 48 = search needs in
-    let more = made-more (L .t) at v (I .4) (omega arith) (row-at (A .t3) (A .r) (L .j) (I .5) h) in
-    (I .0, search needs, search needs, search needs, subst (λ n. Made (set (L .t) at v) n) (omega arith) more, I .5)
-
 same-length : tie.Need-same-length Inv-loop μ-loop
 same-length c = search needs
-
-returns : tie.Need-returns Inv-loop μ-loop
-returns c =
-    let L = c .before .loop in
-    let h : 48 ≤ L .j = search needs in
-    subst (λ n. Made (L .t) n) (omega arith) (L .inv .4)
 
 pub put-row-spec : {M : Type 1} → statement M
 put-row-spec =

@@ -19,9 +19,6 @@ abbrev μ-loop : tie.MeasureT-loop
 μ-loop t₀ n k none u₀ t u =
     32 - u
 
-multiples-requires : tie.Need-multiples-requires Inv-loop μ-loop
-multiples-requires c κs = search needs
-
 loop-holds : tie.Need-loop-holds Inv-loop μ-loop
 loop-holds c =
     let A = c .before .before .args in
@@ -29,6 +26,32 @@ loop-holds c =
     let k = c .multiples .result in
     let M = subst (λ (l : List ℕ). Multiples l k) (P .1) (c .multiples .ensures) in
     (P .0, M, refl, search needs, P .2, subst (λ m. Made (A .t .now) m) (omega arith) (P .3), P .2)
+
+put-row-requires : tie.Need-put-row-requires Inv-loop μ-loop
+put-row-requires c κs =
+    let L = c .before .before .before .before .before .loop in
+    let A = c .before .before .before .before .before .before .before .before .args in
+    let I = L .inv in
+    let F = c .before .before .before .factor in
+    let k = c .before .before .before .before .before .before .multiples .result in
+    let h : L .u < 32 = search needs in
+    let e = c .lanes .ensures ∙ ap (laneBy k (replicate 48 (F .result))) (I .2) in
+    (search needs, I .4, I .5, row-by (A .n) (L .u) (F .result) k (c .lanes .result) (I .0) h (I .1) (F .ensures) e)
+
+loop-again : tie.Need-loop-again Inv-loop μ-loop
+loop-again c =
+    let I = c .before .before .before .before .before .before .before .before .loop .inv in
+    let R = c .before .before .put-row in
+    (I .0, I .1, I .2, search needs, R .kept .0 ∙ I .4, subst (λ m. Made (R .last .0) m) (omega arith) (R .ensures), I .6)
+
+returns : tie.Need-returns Inv-loop μ-loop
+returns c =
+    let L = c .before .loop in
+    let h : L .u ≡ 32 = search needs in
+    subst (λ m. Made (L .t) m) (omega arith) (L .inv .5)
+
+multiples-requires : tie.Need-multiples-requires Inv-loop μ-loop
+multiples-requires c κs = search needs
 
 factor-requires : tie.Need-factor-requires Inv-loop μ-loop
 factor-requires c κs = search needs
@@ -42,37 +65,14 @@ add-put-row c = search needs
 lanes-requires : tie.Need-lanes-requires Inv-loop μ-loop
 lanes-requires c κs = search needs
 
-put-row-requires : tie.Need-put-row-requires Inv-loop μ-loop
-put-row-requires c κs =
-    let L = c .before .before .before .before .before .loop in
-    let A = c .before .before .before .before .before .before .before .before .args in
-    let I = L .inv in
-    let F = c .before .before .before .factor in
-    let k = c .before .before .before .before .before .before .multiples .result in
-    let h : L .u < 32 = search needs in
-    let e = c .lanes .ensures ∙ ap (laneBy k (replicate 48 (F .result))) (I .2) in
-    (search needs, I .4, I .5, row-by (A .n) (L .u) (F .result) k (c .lanes .result) (I .0) h (I .1) (F .ensures) e)
-
 add-u : tie.Need-add-u Inv-loop μ-loop
 add-u c = search needs
 
 loop-less : tie.Need-loop-less Inv-loop μ-loop
 loop-less c = search needs
 
-loop-again : tie.Need-loop-again Inv-loop μ-loop
-loop-again c =
-    let I = c .before .before .before .before .before .before .before .before .loop .inv in
-    let R = c .before .before .put-row in
-    (I .0, I .1, I .2, search needs, R .kept .0 ∙ I .4, subst (λ m. Made (R .last .0) m) (omega arith) (R .ensures), I .6)
-
 same-length : tie.Need-same-length Inv-loop μ-loop
 same-length c = search needs
-
-returns : tie.Need-returns Inv-loop μ-loop
-returns c =
-    let L = c .before .loop in
-    let h : L .u ≡ 32 = search needs in
-    subst (λ m. Made (L .t) m) (omega arith) (L .inv .5)
 
 pub put-rows-spec : {M : Type 1} → statement M
 put-rows-spec =

@@ -19,27 +19,9 @@ abbrev μ-loop : tie.MeasureT-loop
 μ-loop by p q₀ j₀ j-end q j =
     j-end - j
 
-sub-j-end : tie.Need-sub-j-end Inv-loop μ-loop
-sub-j-end c = search needs
-
 loop-holds : tie.Need-loop-holds Inv-loop μ-loop
 loop-holds c =
     (search needs, search needs, search needs, search needs, upto-start _ _)
-
-add-q : tie.Need-add-q Inv-loop μ-loop
-add-q c = search needs
-
-array-read-q : tie.Need-array-read-q Inv-loop μ-loop
-array-read-q c = search needs
-
-array-write-q : tie.Need-array-write-q Inv-loop μ-loop
-array-write-q c = search needs
-
-add-j : tie.Need-add-j Inv-loop μ-loop
-add-j c = search needs
-
-loop-less : tie.Need-loop-less Inv-loop μ-loop
-loop-less c = search needs
 
 loop-again : tie.Need-loop-again Inv-loop μ-loop
 loop-again c =
@@ -60,6 +42,24 @@ returns c =
     let h : 48 - A .by ≤ L .j = search needs in
     upto-rest (back (A .by) p) (replicate 48 0) (L .j) (L .q) (L .inv .4) (length-back (A .by) p ∙ e)
     (λ i l m. zeros-at 48 i ∙ sym (back-at (A .by) p i ∙ past-end p (i + A .by) (omega arith)))
+
+sub-j-end : tie.Need-sub-j-end Inv-loop μ-loop
+sub-j-end c = search needs
+
+add-q : tie.Need-add-q Inv-loop μ-loop
+add-q c = search needs
+
+array-read-q : tie.Need-array-read-q Inv-loop μ-loop
+array-read-q c = search needs
+
+array-write-q : tie.Need-array-write-q Inv-loop μ-loop
+array-write-q c = search needs
+
+add-j : tie.Need-add-j Inv-loop μ-loop
+add-j c = search needs
+
+loop-less : tie.Need-loop-less Inv-loop μ-loop
+loop-less c = search needs
 
 pub shifted-spec : {M : Type 1} → statement M
 shifted-spec =

@@ -26,19 +26,10 @@ loop-holds c =
     let P = c .before .pre in
     (P .0, P .1, P .2, search needs, zero-mod (A .f), refl, filled-none _ 0 (A .mask .now) 0)
 
-sub-loop : tie.Need-sub-loop Inv-loop μ-loop
-sub-loop c = search needs
-
 mark-row-requires : tie.Need-mark-row-requires Inv-loop μ-loop
 mark-row-requires c κs =
     let L = c .before .before .before .loop in
     (L .inv .4, search needs, L .inv .1, omega (arith, L .inv .2, L .inv .3, L .inv .5, c .before .before .loop-test .taken))
-
-add-q : tie.Need-add-q Inv-loop μ-loop
-add-q c = search needs
-
-loop-less : tie.Need-loop-less Inv-loop μ-loop
-loop-less c = search needs
 
 loop-again : tie.Need-loop-again Inv-loop μ-loop
 loop-again c =
@@ -56,16 +47,10 @@ loop-again c =
       lost-on (A .t1) f (A .mask .now) q f (I .6) (c .before .before .mark-row .ensures),
     )
 
-sub-mark-row : tie.Need-sub-mark-row Inv-loop μ-loop
-sub-mark-row c = search needs
-
 mark-row-requires-2 : tie.Need-mark-row-requires-2 Inv-loop μ-loop
 mark-row-requires-2 c κs =
     let L = c .before .before .before .loop in
     (L .inv .4, omega (arith, c .before .before .loop-test .left), L .inv .1, omega (arith, L .inv .2, L .inv .3, L .inv .5))
-
-same-length : tie.Need-same-length Inv-loop μ-loop
-same-length c = search needs
 
 returns : tie.Need-returns Inv-loop μ-loop
 returns c =
@@ -77,6 +62,21 @@ returns c =
     let e : q + (n - q) ≡ n = omega (arith, I .3) in
     lost-on (A .t1) (A .f) (A .mask .now) q (n - q) (I .6) (c .before .before .mark-row2 .ensures)
     ∙ ap (λ (x : ℕ). splice (A .mask .now) 0 (lostCells (A .t1) (A .f) 0 x)) e
+
+sub-loop : tie.Need-sub-loop Inv-loop μ-loop
+sub-loop c = search needs
+
+add-q : tie.Need-add-q Inv-loop μ-loop
+add-q c = search needs
+
+loop-less : tie.Need-loop-less Inv-loop μ-loop
+loop-less c = search needs
+
+sub-mark-row : tie.Need-sub-mark-row Inv-loop μ-loop
+sub-mark-row c = search needs
+
+same-length : tie.Need-same-length Inv-loop μ-loop
+same-length c = search needs
 
 pub mark-cells-spec : {M : Type 1} → statement M
 mark-cells-spec =

@@ -29,12 +29,6 @@ returns-3 c =
     let l : length (A .mask .now) < A .n = search needs in
     sym (lost-short (A .kept) (A .f) (A .n) (A .mask .now) z h l)
 
-mark-cells-requires : tie.Need-mark-cells-requires
-mark-cells-requires c κs = search needs
-
-same-length : tie.Need-same-length
-same-length c = search needs
-
 returns-4 : tie.Need-returns-4
 returns-4 c =
     let A = c .before .before .before .before .before .before .before .before .args in
@@ -42,6 +36,12 @@ returns-4 c =
     let h : A .f ≤ 256 = search needs in
     let l : A .n ≤ length (A .mask .now) = search needs in
     c .before .before .mark-cells .ensures ∙ sym (lost-some (A .kept) (A .f) (A .n) (A .mask .now) z h l)
+
+mark-cells-requires : tie.Need-mark-cells-requires
+mark-cells-requires c κs = search needs
+
+same-length : tie.Need-same-length
+same-length c = search needs
 
 pub mark-lost-spec : {M : Type 1} → statement M
 mark-lost-spec = tie.close (tie.spec returns returns-2 returns-3 mark-cells-requires same-length returns-4)

@@ -31,24 +31,6 @@ loop-holds c =
     let P = c .before .pre in
     (P .0, P .1, P .2, P .3, search needs, refl, filled-none _ (A .at) (A .mask .now) (A .at))
 
-element-copy-out-lost : tie.Need-element-copy-out-lost Inv-loop μ-loop
-element-copy-out-lost c = search needs
-
-lost-requires : tie.Need-lost-requires Inv-loop μ-loop
-lost-requires c κs = search needs
-
-add-mask : tie.Need-add-mask Inv-loop μ-loop
-add-mask c = search needs
-
-slice-write-mask : tie.Need-slice-write-mask Inv-loop μ-loop
-slice-write-mask c = search needs
-
-add-i : tie.Need-add-i Inv-loop μ-loop
-add-i c = search needs
-
-loop-less : tie.Need-loop-less Inv-loop μ-loop
-loop-less c = search needs
-
 loop-again : tie.Need-loop-again Inv-loop μ-loop
 unfolding lostCells
 loop-again c =
@@ -79,6 +61,24 @@ returns c =
     let L = c .before .loop in
     let e : L .i ≡ A .m = omega (arith, L .inv .4, c .loop-test .left) in
     L .inv .6 ∙ ap (λ (x : ℕ). splice (A .mask .now) (A .at) (lostCells (A .kept .now) (A .f) (A .at) x)) e
+
+element-copy-out-lost : tie.Need-element-copy-out-lost Inv-loop μ-loop
+element-copy-out-lost c = search needs
+
+lost-requires : tie.Need-lost-requires Inv-loop μ-loop
+lost-requires c κs = search needs
+
+add-mask : tie.Need-add-mask Inv-loop μ-loop
+add-mask c = search needs
+
+slice-write-mask : tie.Need-slice-write-mask Inv-loop μ-loop
+slice-write-mask c = search needs
+
+add-i : tie.Need-add-i Inv-loop μ-loop
+add-i c = search needs
+
+loop-less : tie.Need-loop-less Inv-loop μ-loop
+loop-less c = search needs
 
 pub mark-row-spec : {M : Type 1} → statement M
 mark-row-spec =

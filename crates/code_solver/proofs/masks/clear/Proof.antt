@@ -18,29 +18,14 @@ abbrev μ-loop : tie.MeasureT-loop
 μ-loop mask c₀ n i₀ c i =
     n - i
 
-least-requires : tie.Need-least-requires Inv-loop μ-loop
-least-requires c κs = search needs
-
 loop-holds : tie.Need-loop-holds Inv-loop μ-loop
 loop-holds c = (c .least .ensures, search needs, upto-start _ _)
-
-shared-slice-read-kept : tie.Need-shared-slice-read-kept Inv-loop μ-loop
-shared-slice-read-kept c = search needs
 
 slice-read-kept : tie.Need-slice-read-kept Inv-loop μ-loop
 slice-read-kept c = omega (arith, c .before .before .before .loop .inv .2 .size)
 
-kept-requires : tie.Need-kept-requires Inv-loop μ-loop
-kept-requires c κs = search needs
-
 slice-write-c : tie.Need-slice-write-c Inv-loop μ-loop
 slice-write-c c = omega (arith, c .before .before .before .before .loop .inv .2 .size)
-
-add-i : tie.Need-add-i Inv-loop μ-loop
-add-i c = search needs
-
-loop-less : tie.Need-loop-less Inv-loop μ-loop
-loop-less c = search needs
 
 loop-again : tie.Need-loop-again Inv-loop μ-loop
 loop-again c =
@@ -53,14 +38,29 @@ loop-again c =
     let E = erase-in (A .mask .now) (A .c .now) (L .i) h l in
     (I .0, search needs, upto-more (erase (marks (A .mask .now)) (A .c .now)) (A .c .now) (L .i) (L .c) (c .kept .result) (I .2) h (cc E))
 
-same-length : tie.Need-same-length Inv-loop μ-loop
-same-length c = search needs
-
 returns : tie.Need-returns Inv-loop μ-loop
 returns c =
     let A = c .before .before .before .before .before .args in
     let L = c .before .loop in
     erased-end (A .mask .now) (A .c .now) (L .i) (L .c) (omega arith) (L .inv .2)
+
+least-requires : tie.Need-least-requires Inv-loop μ-loop
+least-requires c κs = search needs
+
+shared-slice-read-kept : tie.Need-shared-slice-read-kept Inv-loop μ-loop
+shared-slice-read-kept c = search needs
+
+kept-requires : tie.Need-kept-requires Inv-loop μ-loop
+kept-requires c κs = search needs
+
+add-i : tie.Need-add-i Inv-loop μ-loop
+add-i c = search needs
+
+loop-less : tie.Need-loop-less Inv-loop μ-loop
+loop-less c = search needs
+
+same-length : tie.Need-same-length Inv-loop μ-loop
+same-length c = search needs
 
 pub clear-spec : {M : Type 1} → statement M
 clear-spec =

@@ -21,6 +21,25 @@ abbrev μ-loop : tie.MeasureT-loop
 loop-holds : tie.Need-loop-holds Inv-loop μ-loop
 loop-holds c = (c .pre, search needs, located-start _)
 
+loop-again : tie.Need-loop-again Inv-loop μ-loop
+loop-again c =
+    let A = c .before .before .before .before .args in
+    let L = c .before .before .before .loop in
+    let I = L .inv in
+    let h : L .i < length (A .mask .now) = omega arith in
+    let skip = located-skip (A .mask .now) (L .i) (L .e) (L .xs) h (I .2) in
+    let over = located-over (A .mask .now) (L .i) (L .e) (L .xs) h (I .2) in
+    let more = located-more (A .mask .now) (L .i) (L .e) (L .xs) h (I .2) in
+    let at = ap (λ n. alpha (n - 1 - L .i)) (sym (I .0)) in
+    ⊎-elim (λ w. (I .0, omega arith, rw (w .3, w .4) (more (w .0 .taken) (w .1 .taken) (w .2 .result) (w .2 .ensures ∙ at))))
+    (λ v. ⊎-elim (λ w. (I .0, omega arith, rw (w .2, w .3) (over (w .1 .left))))
+    (λ w. (I .0, omega arith, rw (w .1, w .2) (skip (w .0 .left)))) v) (c .if1 .came)
+
+returns : tie.Need-returns Inv-loop μ-loop
+returns c =
+    let L = c .before .loop in
+    located-end (c .before .before .args .mask .now) (L .i) (L .e) (L .xs) (omega arith) (L .inv .2)
+
 element-copy-out-if1 : tie.Need-element-copy-out-if1 Inv-loop μ-loop
 element-copy-out-if1 c = search needs
 
@@ -44,25 +63,6 @@ add-i c = search needs
 
 loop-less : tie.Need-loop-less Inv-loop μ-loop
 loop-less c = search needs
-
-loop-again : tie.Need-loop-again Inv-loop μ-loop
-loop-again c =
-    let A = c .before .before .before .before .args in
-    let L = c .before .before .before .loop in
-    let I = L .inv in
-    let h : L .i < length (A .mask .now) = omega arith in
-    let skip = located-skip (A .mask .now) (L .i) (L .e) (L .xs) h (I .2) in
-    let over = located-over (A .mask .now) (L .i) (L .e) (L .xs) h (I .2) in
-    let more = located-more (A .mask .now) (L .i) (L .e) (L .xs) h (I .2) in
-    let at = ap (λ n. alpha (n - 1 - L .i)) (sym (I .0)) in
-    ⊎-elim (λ w. (I .0, omega arith, rw (w .3, w .4) (more (w .0 .taken) (w .1 .taken) (w .2 .result) (w .2 .ensures ∙ at))))
-    (λ v. ⊎-elim (λ w. (I .0, omega arith, rw (w .2, w .3) (over (w .1 .left))))
-    (λ w. (I .0, omega arith, rw (w .1, w .2) (skip (w .0 .left)))) v) (c .if1 .came)
-
-returns : tie.Need-returns Inv-loop μ-loop
-returns c =
-    let L = c .before .loop in
-    located-end (c .before .before .args .mask .now) (L .i) (L .e) (L .xs) (omega arith) (L .inv .2)
 
 pub locate-spec : {M : Type 1} → statement M
 locate-spec =

@@ -14,15 +14,9 @@ returns : tie.Need-returns
 returns c =
     sym (locators-long (c .before .before .args .k) (c .before .before .args .mask .now) (search needs))
 
-add-if2 : tie.Need-add-if2
-add-if2 c = search needs
-
 returns-2 : tie.Need-returns-2
 returns-2 c =
     sym (locators-misfit (c .before .before .before .args .k) (c .before .before .before .args .mask .now) (search needs) (c .if2 .taken))
-
-spread-requires : tie.Need-spread-requires
-spread-requires c κs = search needs
 
 locate-requires : tie.Need-locate-requires
 locate-requires c κs =
@@ -35,6 +29,12 @@ returns-3 c =
     let h : A .k ≤ 207 = search needs in
     let e = locs-full (A .k) (A .mask .now) (c .before .before .spread .result) (c .before .before .spread .ensures) in
     c .locate .ensures ∙ ap lanesOf e ∙ sym (locators-first (A .k) (A .mask .now) h (search needs))
+
+add-if2 : tie.Need-add-if2
+add-if2 c = search needs
+
+spread-requires : tie.Need-spread-requires
+spread-requires c κs = search needs
 
 pub locators-of-spec : {M : Type 1} → statement M
 locators-of-spec =

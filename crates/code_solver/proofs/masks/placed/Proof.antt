@@ -1,13 +1,13 @@
 -- `placed` meets its contract: the data, the gap and the parity. Assumes nothing.
-use mathlib.Core.Path.{sym}
-use Prim.Native.Nat.{_-_}
+use mathlib.Core.Path.{_≡_, sym, ap, _∙_}
+use Prim.Native.Nat.{_+_, _-_}
+use native.Mathlib.Omega.{arith}
 use borrow.Author.Needs.{needs}
-use Rattle.code_rules.proofs.PlaceLaws.{full-data, full-gap, full-parity}
+use lib.ListN.{getD}
+use Rattle.codeword.specs.Code.{full}
+use Rattle.codeword.proofs.Places.{full-data, full-gap, full-parity}
 use Rattle.code_solver.proofs.masks.placed.Statement.{statement}
 use Rattle.code_solver.proofs.masks.placed.Tie as tie
-
-shared-slice-read-result : tie.Need-shared-slice-read-result
-shared-slice-read-result c = search needs
 
 returns : tie.Need-returns
 returns c =
@@ -19,16 +19,23 @@ returns-2 c =
     let A = c .before .before .args in
     sym (full-gap (A .k) (A .c .now) (c .before .before .pre .0) (c .before .before .pre .1) (A .i) (search needs) (search needs))
 
+returns-3 : tie.Need-returns-3
+returns-3 c =
+    let A = c .before .before .before .args in
+    let P = c .before .before .before .pre in
+    let behind : 207 + (A .i - 207) ≡ A .i = omega arith in
+    let there : A .k + (A .i - 207) ≡ A .i - 207 + A .k = omega arith in
+    let law = full-parity (A .k) (A .c .now) (P .0) (P .1) (A .i - 207) in
+    sym (ap (λ n. getD (full 0 (A .k) (A .c .now)) n 0) (sym behind) ∙ law ∙ ap (λ n. getD (A .c .now) n 0) there)
+
+shared-slice-read-result : tie.Need-shared-slice-read-result
+shared-slice-read-result c = search needs
+
 add-result : tie.Need-add-result
 add-result c = search needs
 
 shared-slice-read-result-2 : tie.Need-shared-slice-read-result-2
 shared-slice-read-result-2 c = search needs
-
-returns-3 : tie.Need-returns-3
-returns-3 c =
-    let A = c .before .before .before .args in
-    sym (full-parity (A .k) (A .c .now) (c .before .before .before .pre .0) (c .before .before .before .pre .1) (A .i) (search needs))
 
 pub placed-spec : {M : Type 1} → statement M
 placed-spec =

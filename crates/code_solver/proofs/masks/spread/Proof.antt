@@ -21,18 +21,6 @@ abbrev μ-loop : tie.MeasureT-loop
 loop-holds : tie.Need-loop-holds Inv-loop μ-loop
 loop-holds c = (c .before .pre .0, c .before .pre .1, search needs, upto-start _ _)
 
-placed-requires : tie.Need-placed-requires Inv-loop μ-loop
-placed-requires c κs = search needs
-
-array-write-w : tie.Need-array-write-w Inv-loop μ-loop
-array-write-w c = search needs
-
-add-i : tie.Need-add-i Inv-loop μ-loop
-add-i c = search needs
-
-loop-less : tie.Need-loop-less Inv-loop μ-loop
-loop-less c = search needs
-
 loop-again : tie.Need-loop-again Inv-loop μ-loop
 loop-again c =
     let A = c .before .before .before .before .args in
@@ -47,6 +35,18 @@ returns c =
     let L = c .before .loop in
     let I = L .inv in
     upto-end (full 0 (A .k) (A .c .now)) (replicate 255 0) (L .i) (L .w) (I .3) (omega arith) (length-full 0 (A .k) (A .c .now) (I .0) (I .1))
+
+placed-requires : tie.Need-placed-requires Inv-loop μ-loop
+placed-requires c κs = search needs
+
+array-write-w : tie.Need-array-write-w Inv-loop μ-loop
+array-write-w c = search needs
+
+add-i : tie.Need-add-i Inv-loop μ-loop
+add-i c = search needs
+
+loop-less : tie.Need-loop-less Inv-loop μ-loop
+loop-less c = search needs
 
 pub spread-spec : {M : Type 1} → statement M
 spread-spec =

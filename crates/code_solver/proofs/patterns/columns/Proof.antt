@@ -28,24 +28,6 @@ loop-holds c =
     let P = c .pre in
     (P .0, P .1, P .2, search needs, search needs, horner-none (A .k .now) (A .t2), columns-start (A .k .now) (A .t2) (A .q .now))
 
-array-read-c : tie.Need-array-read-c Inv-loop μ-loop
-array-read-c c = search needs
-
-lanes-requires : tie.Need-lanes-requires Inv-loop μ-loop
-lanes-requires c κs = search needs
-
-put-row48-requires : tie.Need-put-row48-requires Inv-loop μ-loop
-put-row48-requires c κs = search needs
-
-lanes-requires-2 : tie.Need-lanes-requires-2 Inv-loop μ-loop
-lanes-requires-2 c κs = search needs
-
-add-m : tie.Need-add-m Inv-loop μ-loop
-add-m c = search needs
-
-loop-less : tie.Need-loop-less Inv-loop μ-loop
-loop-less c = search needs
-
 loop-again : tie.Need-loop-again Inv-loop μ-loop
 loop-again c =
     let A = c .before .before .before .before .before .before .args in
@@ -65,6 +47,24 @@ returns c =
     let L = c .before .loop in
     let h : L .m ≡ A .e = search needs in
     subst (λ n. Columns (A .k .now) (A .t2) n (A .q .now) (L .q) (L .d)) h (L .inv .6)
+
+array-read-c : tie.Need-array-read-c Inv-loop μ-loop
+array-read-c c = search needs
+
+lanes-requires : tie.Need-lanes-requires Inv-loop μ-loop
+lanes-requires c κs = search needs
+
+put-row48-requires : tie.Need-put-row48-requires Inv-loop μ-loop
+put-row48-requires c κs = search needs
+
+lanes-requires-2 : tie.Need-lanes-requires-2 Inv-loop μ-loop
+lanes-requires-2 c κs = search needs
+
+add-m : tie.Need-add-m Inv-loop μ-loop
+add-m c = search needs
+
+loop-less : tie.Need-loop-less Inv-loop μ-loop
+loop-less c = search needs
 
 pub columns-spec : {M : Type 1} → statement M
 columns-spec =

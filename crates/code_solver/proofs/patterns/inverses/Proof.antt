@@ -16,23 +16,8 @@ abbrev μ-loop : tie.MeasureT-loop
 μ-loop s₀ p₀ j₀ s p j =
     6 - j
 
-times-lanes-requires : tie.Need-times-lanes-requires Inv-loop μ-loop
-times-lanes-requires c κs = search needs
-
 loop-holds : tie.Need-loop-holds Inv-loop μ-loop
 loop-holds c = (search needs, λ x e. power-start x (c .times-lanes .result) e)
-
-times-lanes-requires-2 : tie.Need-times-lanes-requires-2 Inv-loop μ-loop
-times-lanes-requires-2 c κs = search needs
-
-times-lanes-requires-3 : tie.Need-times-lanes-requires-3 Inv-loop μ-loop
-times-lanes-requires-3 c κs = search needs
-
-add-j : tie.Need-add-j Inv-loop μ-loop
-add-j c = search needs
-
-loop-less : tie.Need-loop-less Inv-loop μ-loop
-loop-less c = search needs
 
 loop-again : tie.Need-loop-again Inv-loop μ-loop
 loop-again c =
@@ -47,6 +32,21 @@ returns c =
     let x = c .before .before .before .args .x in
     let L = c .before .loop in
     power-end x (L .p) (L .j) (search needs) (L .inv .1 x (c .before .before .times-lanes .ensures) .1)
+
+times-lanes-requires : tie.Need-times-lanes-requires Inv-loop μ-loop
+times-lanes-requires c κs = search needs
+
+times-lanes-requires-2 : tie.Need-times-lanes-requires-2 Inv-loop μ-loop
+times-lanes-requires-2 c κs = search needs
+
+times-lanes-requires-3 : tie.Need-times-lanes-requires-3 Inv-loop μ-loop
+times-lanes-requires-3 c κs = search needs
+
+add-j : tie.Need-add-j Inv-loop μ-loop
+add-j c = search needs
+
+loop-less : tie.Need-loop-less Inv-loop μ-loop
+loop-less c = search needs
 
 pub inverses-spec : {M : Type 1} → statement M
 inverses-spec =

@@ -17,25 +17,10 @@ abbrev μ-loop : tie.MeasureT-loop
 μ-loop e x p₀ i₀ p i =
     e - i
 
-one-requires : tie.Need-one-requires Inv-loop μ-loop
-one-requires c κs = search needs
-
 loop-holds : tie.Need-loop-holds Inv-loop μ-loop
 loop-holds c =
     let O = c .one in
     (c .before .pre, search needs, search needs, O .ensures .0, locator-start (c .before .args .t1) (O .result) (O .ensures .1))
-
-array-read-times-root : tie.Need-array-read-times-root Inv-loop μ-loop
-array-read-times-root c = search needs
-
-times-root-requires : tie.Need-times-root-requires Inv-loop μ-loop
-times-root-requires c κs = search needs
-
-add-i : tie.Need-add-i Inv-loop μ-loop
-add-i c = search needs
-
-loop-less : tie.Need-loop-less Inv-loop μ-loop
-loop-less c = search needs
 
 loop-again : tie.Need-loop-again Inv-loop μ-loop
 loop-again c =
@@ -52,6 +37,21 @@ returns c =
     let L = c .before .loop in
     let h : L .i ≡ A .e = search needs in
     (L .inv .3, subst (λ n. Same (L .p) (locatorOf (take n (A .t1)))) h (L .inv .4))
+
+one-requires : tie.Need-one-requires Inv-loop μ-loop
+one-requires c κs = search needs
+
+array-read-times-root : tie.Need-array-read-times-root Inv-loop μ-loop
+array-read-times-root c = search needs
+
+times-root-requires : tie.Need-times-root-requires Inv-loop μ-loop
+times-root-requires c κs = search needs
+
+add-i : tie.Need-add-i Inv-loop μ-loop
+add-i c = search needs
+
+loop-less : tie.Need-loop-less Inv-loop μ-loop
+loop-less c = search needs
 
 pub locator-spec : {M : Type 1} → statement M
 locator-spec =

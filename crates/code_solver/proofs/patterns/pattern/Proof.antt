@@ -10,25 +10,10 @@ use Rattle.code_rules.proofs.PatternLaws.{pattern-made}
 use Rattle.code_solver.proofs.patterns.pattern.Statement.{statement}
 use Rattle.code_solver.proofs.patterns.pattern.Tie as tie
 
-least-requires : tie.Need-least-requires
-least-requires c κs = search needs
-
-multiples-requires : tie.Need-multiples-requires
-multiples-requires c κs = search needs
-
-locator-requires : tie.Need-locator-requires
-locator-requires c κs = search needs
-
 columns-requires : tie.Need-columns-requires
 columns-requires c κs =
     let n = c .before .before .before .before .least in
     (omega (arith, n .ensures), c .before .before .before .multiples .ensures .twos, λ i h. fits-byte (search needs))
-
-scales-requires : tie.Need-scales-requires
-scales-requires c κs = search needs
-
-multiples-requires-2 : tie.Need-multiples-requires-2
-multiples-requires-2 c κs = search needs
 
 returns : tie.Need-returns
 returns c =
@@ -43,6 +28,21 @@ returns c =
     let m = subst (λ y. Multiples y (S .result)) (c .before .scales .ensures) (S .ensures) in
     pattern-made (A .x) (K .result) (P .result) (A .q .now) (C .last .1 .1 .1 .0) (C .result) (S .result) (A .e) (n .result)
     (n .ensures) l (K .ensures) (P .ensures .0) (P .ensures .1) (C .ensures) r m
+
+least-requires : tie.Need-least-requires
+least-requires c κs = search needs
+
+multiples-requires : tie.Need-multiples-requires
+multiples-requires c κs = search needs
+
+locator-requires : tie.Need-locator-requires
+locator-requires c κs = search needs
+
+scales-requires : tie.Need-scales-requires
+scales-requires c κs = search needs
+
+multiples-requires-2 : tie.Need-multiples-requires-2
+multiples-requires-2 c κs = search needs
 
 pub pattern-spec : {M : Type 1} → statement M
 pattern-spec =

@@ -14,12 +14,25 @@ abbrev μ-loop : tie.MeasureT-loop
 μ-loop q₀ m s at j₀ q j =
     48 - j
 
-mul-at : tie.Need-mul-at Inv-loop μ-loop
-mul-at c = search needs
-
 loop-holds : tie.Need-loop-holds Inv-loop μ-loop
 loop-holds c =
     (c .pre, search needs, search needs, put-start (c .args .q .now) (c .args .t3) (c .args .m))
+
+loop-again : tie.Need-loop-again Inv-loop μ-loop
+loop-again c =
+    let A = c .before .before .args in
+    let L = c .before .loop in
+    let I = L .inv in
+    (I .0, search needs, search needs, put-more (A .q .now) (A .t3) (L .q) (A .m) (L .j) (I .3))
+
+returns : tie.Need-returns Inv-loop μ-loop
+returns c =
+    let A = c .before .before .args in
+    let L = c .before .loop in
+    put-end (A .q .now) (A .t3) (L .q) (A .m) (L .j) (search needs) (L .inv .3)
+
+mul-at : tie.Need-mul-at Inv-loop μ-loop
+mul-at c = search needs
 
 array-read-q : tie.Need-array-read-q Inv-loop μ-loop
 array-read-q c = search needs
@@ -35,19 +48,6 @@ add-j c = search needs
 
 loop-less : tie.Need-loop-less Inv-loop μ-loop
 loop-less c = search needs
-
-loop-again : tie.Need-loop-again Inv-loop μ-loop
-loop-again c =
-    let A = c .before .before .args in
-    let L = c .before .loop in
-    let I = L .inv in
-    (I .0, search needs, search needs, put-more (A .q .now) (A .t3) (L .q) (A .m) (L .j) (I .3))
-
-returns : tie.Need-returns Inv-loop μ-loop
-returns c =
-    let A = c .before .before .args in
-    let L = c .before .loop in
-    put-end (A .q .now) (A .t3) (L .q) (A .m) (L .j) (search needs) (L .inv .3)
 
 pub put-row48-spec : {M : Type 1} → statement M
 put-row48-spec =

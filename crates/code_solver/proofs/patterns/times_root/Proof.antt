@@ -22,6 +22,22 @@ abbrev μ-loop : tie.MeasureT-loop
 loop-holds : tie.Need-loop-holds Inv-loop μ-loop
 loop-holds c = (search needs, search needs, rootStep-start (c .args .t1) (c .args .x))
 
+loop-again : tie.Need-loop-again Inv-loop μ-loop
+loop-again c =
+    let A = c .before .before .before .before .args in
+    let L = c .before .before .before .loop in
+    let I = L .inv in
+    let h : L .m < 48 = search needs in
+    let e = c .sum .ensures ∙ ap (λ y. getD (A .t1) (L .m + 1) 0 ⊕ y) (c .before .product .ensures) ∙ sym (rootStep-at (A .t1) (A .x) (L .m) h) in
+    (I .0, search needs, upto-more (rootStep (A .t1) (A .x)) (A .t1) (L .m + 1) (L .n) (c .sum .result) (I .2) (omega arith) e)
+
+returns : tie.Need-returns Inv-loop μ-loop
+returns c =
+    let A = c .before .before .args in
+    let L = c .before .loop in
+    let I = L .inv in
+    upto-end (rootStep (A .t1) (A .x)) (A .t1) (L .m + 1) (L .n) (I .2) (omega arith) (length-rootStep (A .t1) (A .x) ∙ sym (I .0))
+
 add-sum : tie.Need-add-sum Inv-loop μ-loop
 add-sum c = search needs
 
@@ -48,22 +64,6 @@ add-m c = search needs
 
 loop-less : tie.Need-loop-less Inv-loop μ-loop
 loop-less c = search needs
-
-loop-again : tie.Need-loop-again Inv-loop μ-loop
-loop-again c =
-    let A = c .before .before .before .before .args in
-    let L = c .before .before .before .loop in
-    let I = L .inv in
-    let h : L .m < 48 = search needs in
-    let e = c .sum .ensures ∙ ap (λ y. getD (A .t1) (L .m + 1) 0 ⊕ y) (c .before .product .ensures) ∙ sym (rootStep-at (A .t1) (A .x) (L .m) h) in
-    (I .0, search needs, upto-more (rootStep (A .t1) (A .x)) (A .t1) (L .m + 1) (L .n) (c .sum .result) (I .2) (omega arith) e)
-
-returns : tie.Need-returns Inv-loop μ-loop
-returns c =
-    let A = c .before .before .args in
-    let L = c .before .loop in
-    let I = L .inv in
-    upto-end (rootStep (A .t1) (A .x)) (A .t1) (L .m + 1) (L .n) (I .2) (omega arith) (length-rootStep (A .t1) (A .x) ∙ sym (I .0))
 
 pub times-root-spec : {M : Type 1} → statement M
 times-root-spec =

@@ -21,11 +21,31 @@ abbrev μ-loop : tie.MeasureT-loop
 μ-loop y₀ x q m at j₀ y j =
     48 - j
 
-mul-at : tie.Need-mul-at Inv-loop μ-loop
-mul-at c = search needs
-
 loop-holds : tie.Need-loop-holds Inv-loop μ-loop
 loop-holds c = (c .pre .0, search needs, search needs, c .pre .1, upto-start _ _)
+
+loop-again : tie.Need-loop-again Inv-loop μ-loop
+loop-again c =
+    let A = c .before .before .before .before .before .before .args in
+    let L = c .before .before .before .before .before .loop in
+    let I = L .inv in
+    let h : L .j < 48 = search needs in
+    let P = plus-at (A .x) (rowOf (A .q .now) (A .m)) (A .y .now) (L .j) (length-rowOf (A .q .now) (A .m) ∙ sym (I .3)) in
+    let U = I .4 .left (L .j) (omega arith) in
+    let R = c .before .product .ensures ∙ ap (λ z. A .x ⊗ z) (sym (row-of-at (A .q .now) (A .m) (L .j) h)) in
+    let G = upto-more (plus (A .x) (rowOf (A .q .now) (A .m)) (A .y .now)) (A .y .now) (L .j) (L .y) (c .sum .result) in
+    (I .0, I .1, search needs, I .3, G (I .4) (omega arith) (c .sum .ensures ∙ ap₂ _⊕_ U R ∙ sym P))
+
+returns : tie.Need-returns Inv-loop μ-loop
+returns c =
+    let A = c .before .before .args in
+    let L = c .before .loop in
+    let I = L .inv in
+    let l = length-plus (A .x) (rowOf (A .q .now) (A .m)) (A .y .now) (length-rowOf (A .q .now) (A .m) ∙ sym (I .3)) in
+    upto-end (plus (A .x) (rowOf (A .q .now) (A .m)) (A .y .now)) (A .y .now) (L .j) (L .y) (I .4) (omega arith) l
+
+mul-at : tie.Need-mul-at Inv-loop μ-loop
+mul-at c = search needs
 
 element-copy-out-sum : tie.Need-element-copy-out-sum Inv-loop μ-loop
 element-copy-out-sum c = search needs
@@ -50,26 +70,6 @@ add-j c = search needs
 
 loop-less : tie.Need-loop-less Inv-loop μ-loop
 loop-less c = search needs
-
-loop-again : tie.Need-loop-again Inv-loop μ-loop
-loop-again c =
-    let A = c .before .before .before .before .before .before .args in
-    let L = c .before .before .before .before .before .loop in
-    let I = L .inv in
-    let h : L .j < 48 = search needs in
-    let P = plus-at (A .x) (rowOf (A .q .now) (A .m)) (A .y .now) (L .j) (length-rowOf (A .q .now) (A .m) ∙ sym (I .3)) in
-    let U = I .4 .left (L .j) (omega arith) in
-    let R = c .before .product .ensures ∙ ap (λ z. A .x ⊗ z) (sym (row-of-at (A .q .now) (A .m) (L .j) h)) in
-    let G = upto-more (plus (A .x) (rowOf (A .q .now) (A .m)) (A .y .now)) (A .y .now) (L .j) (L .y) (c .sum .result) in
-    (I .0, I .1, search needs, I .3, G (I .4) (omega arith) (c .sum .ensures ∙ ap₂ _⊕_ U R ∙ sym P))
-
-returns : tie.Need-returns Inv-loop μ-loop
-returns c =
-    let A = c .before .before .args in
-    let L = c .before .loop in
-    let I = L .inv in
-    let l = length-plus (A .x) (rowOf (A .q .now) (A .m)) (A .y .now) (length-rowOf (A .q .now) (A .m) ∙ sym (I .3)) in
-    upto-end (plus (A .x) (rowOf (A .q .now) (A .m)) (A .y .now)) (A .y .now) (L .j) (L .y) (I .4) (omega arith) l
 
 pub add-row-spec : {M : Type 1} → statement M
 add-row-spec =

@@ -21,31 +21,13 @@ abbrev μ-loop : tie.MeasureT-loop
 μ-loop q sc e s n y₀ i₀ y i =
     n - i
 
-least-requires : tie.Need-least-requires Inv-loop μ-loop
-least-requires c κs = search needs
-
 loop-holds : tie.Need-loop-holds Inv-loop μ-loop
 loop-holds c =
     (c .least .ensures, search needs, mixed-start (c .before .args .t4) (c .before .args .q .now) (c .least .result))
 
-array-read-add-row : tie.Need-array-read-add-row Inv-loop μ-loop
-array-read-add-row c = search needs
-
-sub-add-row : tie.Need-sub-add-row Inv-loop μ-loop
-sub-add-row c = search needs
-
-sub-add-row-2 : tie.Need-sub-add-row-2 Inv-loop μ-loop
-sub-add-row-2 c = search needs
-
 add-row-requires : tie.Need-add-row-requires Inv-loop μ-loop
 add-row-requires c κs =
     (search needs, ap length (c .before .before .loop .inv .2) ∙ length-table 48 _)
-
-add-i : tie.Need-add-i Inv-loop μ-loop
-add-i c = search needs
-
-loop-less : tie.Need-loop-less Inv-loop μ-loop
-loop-less c = search needs
 
 loop-again : tie.Need-loop-again Inv-loop μ-loop
 loop-again c =
@@ -56,9 +38,6 @@ loop-again c =
     let M = mixed-more (A .t4) (A .q .now) (L .y) (rowOf (A .q .now) (n - 1 - L .i)) (c .add-row .last .0) n (L .i) in
     (I .0, search needs, M (omega arith) (omega arith) (I .2) refl (c .add-row .ensures))
 
-lanes-requires : tie.Need-lanes-requires Inv-loop μ-loop
-lanes-requires c κs = search needs
-
 returns : tie.Need-returns Inv-loop μ-loop
 unfolding solvedBy
 returns c =
@@ -68,6 +47,27 @@ returns c =
     let n = c .before .before .before .least .result in
     c .lanes .ensures ∙ ap (λ y. laneBy (A .sc .now) y (replicate 48 0)) (mixed-end (A .t4) (A .q .now) (L .y) n (L .i) (omega arith) (I .2))
     ∙ ap (λ n. laneBy (A .sc .now) (mixed (A .t4) (A .q .now) n) (replicate 48 0)) (I .0)
+
+least-requires : tie.Need-least-requires Inv-loop μ-loop
+least-requires c κs = search needs
+
+array-read-add-row : tie.Need-array-read-add-row Inv-loop μ-loop
+array-read-add-row c = search needs
+
+sub-add-row : tie.Need-sub-add-row Inv-loop μ-loop
+sub-add-row c = search needs
+
+sub-add-row-2 : tie.Need-sub-add-row-2 Inv-loop μ-loop
+sub-add-row-2 c = search needs
+
+add-i : tie.Need-add-i Inv-loop μ-loop
+add-i c = search needs
+
+loop-less : tie.Need-loop-less Inv-loop μ-loop
+loop-less c = search needs
+
+lanes-requires : tie.Need-lanes-requires Inv-loop μ-loop
+lanes-requires c κs = search needs
 
 pub solve-spec : {M : Type 1} → statement M
 solve-spec =

@@ -6,15 +6,15 @@ use Rattle.code_rules.specs.inner.Kernel.{Multiples}
 use Rattle.code_solver.proofs.syndromes.make_roots.Statement.{statement}
 use Rattle.code_solver.proofs.syndromes.make_roots.Tie as tie
 
+returns : tie.Need-returns
+returns c =
+    subst (λ x. Multiples x (c .multiples .result)) (c .before .roots .ensures) (c .multiples .ensures)
+
 roots-requires : tie.Need-roots-requires
 roots-requires c κs = search needs
 
 multiples-requires : tie.Need-multiples-requires
 multiples-requires c κs = search needs
-
-returns : tie.Need-returns
-returns c =
-    subst (λ x. Multiples x (c .multiples .result)) (c .before .roots .ensures) (c .multiples .ensures)
 
 pub make-roots-spec : {M : Type 1} → statement M
 make-roots-spec = tie.close (tie.spec roots-requires multiples-requires returns)

@@ -21,18 +21,6 @@ abbrev μ-loop : tie.MeasureT-loop
 loop-holds : tie.Need-loop-holds Inv-loop μ-loop
 loop-holds c = (search needs, search needs, syndromes-start (c .args .k .now) (c .args .t2))
 
-array-read-c : tie.Need-array-read-c Inv-loop μ-loop
-array-read-c c = search needs
-
-lanes-requires : tie.Need-lanes-requires Inv-loop μ-loop
-lanes-requires c κs = search needs
-
-add-j : tie.Need-add-j Inv-loop μ-loop
-add-j c = search needs
-
-loop-less : tie.Need-loop-less Inv-loop μ-loop
-loop-less c = search needs
-
 loop-again : tie.Need-loop-again Inv-loop μ-loop
 loop-again c =
     let A = c .before .before .before .args in
@@ -45,6 +33,18 @@ returns c =
     let A = c .before .before .args in
     let L = c .before .loop in
     L .inv .2 ∙ ap (syndromesBy (A .k .now)) (take-all (L .j) (A .t2) (omega arith))
+
+array-read-c : tie.Need-array-read-c Inv-loop μ-loop
+array-read-c c = search needs
+
+lanes-requires : tie.Need-lanes-requires Inv-loop μ-loop
+lanes-requires c κs = search needs
+
+add-j : tie.Need-add-j Inv-loop μ-loop
+add-j c = search needs
+
+loop-less : tie.Need-loop-less Inv-loop μ-loop
+loop-less c = search needs
 
 pub syndromes-at-spec : {M : Type 1} → statement M
 syndromes-at-spec =

@@ -7,6 +7,15 @@ use Rattle.console.proofs.Parts.{front}
 use Rattle.console.proofs.chunks.answer_fill.Statement.{statement}
 use Rattle.console.proofs.chunks.answer_fill.Tie as tie
 
+array-borrow-prefix-chunk : tie.Need-array-borrow-prefix-chunk
+array-borrow-prefix-chunk c = omega (arith, ap sizeOf (c .before .before .before .n .given .1))
+
+slice-aggregate-fill-and-write : tie.Need-slice-aggregate-fill-and-write
+slice-aggregate-fill-and-write c = front _ _ (array-borrow-prefix-chunk (c .before))
+
+fill-and-write-requires : tie.Need-fill-and-write-requires
+fill-and-write-requires c κs = omega (arith, slice-aggregate-fill-and-write c, ap sizeOf (c .before .before .before .before .n .given .1))
+
 decimal-at-requires : tie.Need-decimal-at-requires
 decimal-at-requires c κs = search needs
 
@@ -39,15 +48,6 @@ returns-2 c = search needs
 
 nth-requires-2 : tie.Need-nth-requires-2
 nth-requires-2 c κs = search needs
-
-array-borrow-prefix-chunk : tie.Need-array-borrow-prefix-chunk
-array-borrow-prefix-chunk c = omega (arith, ap sizeOf (c .before .before .before .n .given .1))
-
-slice-aggregate-fill-and-write : tie.Need-slice-aggregate-fill-and-write
-slice-aggregate-fill-and-write c = front _ _ (array-borrow-prefix-chunk (c .before))
-
-fill-and-write-requires : tie.Need-fill-and-write-requires
-fill-and-write-requires c κs = omega (arith, slice-aggregate-fill-and-write c, ap sizeOf (c .before .before .before .before .n .given .1))
 
 same-length : tie.Need-same-length
 same-length c = search needs

@@ -7,6 +7,12 @@ use Rattle.console.proofs.Parts.{front}
 use Rattle.console.proofs.chunks.answer_parity.Statement.{statement}
 use Rattle.console.proofs.chunks.answer_parity.Tie as tie
 
+array-share-prefix-data : tie.Need-array-share-prefix-data
+array-share-prefix-data c = omega (arith, ap sizeOf (c .before .k .given .1))
+
+slice-aggregate-parity : tie.Need-slice-aggregate-parity
+slice-aggregate-parity c = front _ _ (array-share-prefix-data (c .before))
+
 nth-requires : tie.Need-nth-requires
 nth-requires c κs = search needs
 
@@ -24,12 +30,6 @@ enum-told c = search needs
 
 returns : tie.Need-returns
 returns c = search needs
-
-array-share-prefix-data : tie.Need-array-share-prefix-data
-array-share-prefix-data c = omega (arith, ap sizeOf (c .before .k .given .1))
-
-slice-aggregate-parity : tie.Need-slice-aggregate-parity
-slice-aggregate-parity c = front _ _ (array-share-prefix-data (c .before))
 
 slice-aggregate-parity-2 : tie.Need-slice-aggregate-parity-2
 slice-aggregate-parity-2 c = search needs

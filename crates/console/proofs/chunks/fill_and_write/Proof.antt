@@ -4,14 +4,8 @@ use Rattle.console.proofs.Parts.{front, again}
 use Rattle.console.proofs.chunks.fill_and_write.Statement.{statement}
 use Rattle.console.proofs.chunks.fill_and_write.Tie as tie
 
-array-borrow-prefix-mask : tie.Need-array-borrow-prefix-mask
-array-borrow-prefix-mask c = search needs
-
 slice-aggregate-mark-all : tie.Need-slice-aggregate-mark-all
 slice-aggregate-mark-all c = front _ _ (search needs)
-
-mark-all-requires : tie.Need-mark-all-requires
-mark-all-requires c κs = search needs
 
 array-share-prefix-mask : tie.Need-array-share-prefix-mask
 array-share-prefix-mask c =
@@ -19,6 +13,12 @@ array-share-prefix-mask c =
 
 slice-aggregate-fill-chunk : tie.Need-slice-aggregate-fill-chunk
 slice-aggregate-fill-chunk c = front _ _ (array-share-prefix-mask (c .before))
+
+array-borrow-prefix-mask : tie.Need-array-borrow-prefix-mask
+array-borrow-prefix-mask c = search needs
+
+mark-all-requires : tie.Need-mark-all-requires
+mark-all-requires c κs = search needs
 
 fill-chunk-requires : tie.Need-fill-chunk-requires
 fill-chunk-requires c κs = search needs

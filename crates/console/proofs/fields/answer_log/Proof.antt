@@ -6,6 +6,9 @@ use Rattle.console.specs.inner.Sized.{sizeOf}
 use Rattle.console.proofs.fields.answer_log.Statement.{statement}
 use Rattle.console.proofs.fields.answer_log.Tie as tie
 
+cast-logarithm : tie.Need-cast-logarithm
+cast-logarithm c = omega (arith, c .before .before .before .before .decimal-to .ensures, ap sizeOf (c .before .before .a .given .1))
+
 decimal-to-requires : tie.Need-decimal-to-requires
 decimal-to-requires c κs = search needs
 
@@ -17,9 +20,6 @@ enum-told c = search needs
 
 returns : tie.Need-returns
 returns c = search needs
-
-cast-logarithm : tie.Need-cast-logarithm
-cast-logarithm c = omega (arith, c .before .before .before .before .decimal-to .ensures, ap sizeOf (c .before .before .a .given .1))
 
 logarithm-requires : tie.Need-logarithm-requires
 logarithm-requires c κs = search needs

@@ -6,6 +6,14 @@ use Rattle.console.specs.inner.Sized.{sizeOf}
 use Rattle.console.proofs.fields.two_elements.Statement.{statement}
 use Rattle.console.proofs.fields.two_elements.Tie as tie
 
+cast-t6 : tie.Need-cast-t6
+cast-t6 c =
+    let Decimal-to = c .before .before .before .before .before .before .before .decimal-to in
+    omega (arith, Decimal-to .ensures, ap sizeOf (c .before .before .before .before .before .a .given .1))
+
+cast-t7 : tie.Need-cast-t7
+cast-t7 c = omega (arith, c .before .before .before .decimal-to2 .ensures, ap sizeOf (c .before .b .given .1))
+
 decimal-to-requires : tie.Need-decimal-to-requires
 decimal-to-requires c κs = search needs
 
@@ -17,14 +25,6 @@ decimal-to-requires-2 c κs = search needs
 
 enum-known-b : tie.Need-enum-known-b
 enum-known-b c = search needs
-
-cast-t6 : tie.Need-cast-t6
-cast-t6 c =
-    let Decimal-to = c .before .before .before .before .before .before .before .decimal-to in
-    omega (arith, Decimal-to .ensures, ap sizeOf (c .before .before .before .before .before .a .given .1))
-
-cast-t7 : tie.Need-cast-t7
-cast-t7 c = omega (arith, c .before .before .before .decimal-to2 .ensures, ap sizeOf (c .before .b .given .1))
 
 returns : tie.Need-returns
 returns c = search needs

@@ -7,6 +7,18 @@ use Rattle.console.proofs.Parts.{front}
 use Rattle.console.proofs.items.answer_find.Statement.{statement}
 use Rattle.console.proofs.items.answer_find.Tie as tie
 
+array-share-prefix-packet : tie.Need-array-share-prefix-packet
+array-share-prefix-packet c = omega (arith, ap sizeOf (c .before .before .before .before .before .before .before .before .before .n .given .1))
+
+slice-aggregate-write-found : tie.Need-slice-aggregate-write-found
+slice-aggregate-write-found c = front _ _ (array-share-prefix-packet (c .before))
+
+array-share-prefix-standing : tie.Need-array-share-prefix-standing
+array-share-prefix-standing c = omega (arith, ap sizeOf (c .before .before .before .m .given .1))
+
+slice-aggregate-write-found-2 : tie.Need-slice-aggregate-write-found-2
+slice-aggregate-write-found-2 c = front _ _ (array-share-prefix-standing (c .before))
+
 name-at-requires : tie.Need-name-at-requires
 name-at-requires c κs = search needs
 
@@ -54,18 +66,6 @@ enum-told-3 c = search needs
 
 returns-3 : tie.Need-returns-3
 returns-3 c = search needs
-
-array-share-prefix-packet : tie.Need-array-share-prefix-packet
-array-share-prefix-packet c = omega (arith, ap sizeOf (c .before .before .before .before .before .before .before .before .before .n .given .1))
-
-slice-aggregate-write-found : tie.Need-slice-aggregate-write-found
-slice-aggregate-write-found c = front _ _ (array-share-prefix-packet (c .before))
-
-array-share-prefix-standing : tie.Need-array-share-prefix-standing
-array-share-prefix-standing c = omega (arith, ap sizeOf (c .before .before .before .m .given .1))
-
-slice-aggregate-write-found-2 : tie.Need-slice-aggregate-write-found-2
-slice-aggregate-write-found-2 c = front _ _ (array-share-prefix-standing (c .before))
 
 write-found-requires : tie.Need-write-found-requires
 write-found-requires c κs = search needs

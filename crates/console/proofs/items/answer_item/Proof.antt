@@ -7,6 +7,32 @@ use Rattle.console.proofs.Parts.{front}
 use Rattle.console.proofs.items.answer_item.Statement.{statement}
 use Rattle.console.proofs.items.answer_item.Tie as tie
 
+cast-t19 : tie.Need-cast-t19
+cast-t19 c =
+    let Decimal-to = c .before .before .before .before .before .before .before .before .before .before .before .before .before .before .before
+    .before .decimal-to in
+    let Bits = c .before .before .before .before .before .before .before .before .before .before .before .before .before .before .bits in
+    omega (arith, Decimal-to .ensures, ap sizeOf (Bits .given .1))
+
+array-share-prefix-value : tie.Need-array-share-prefix-value
+array-share-prefix-value c = omega (arith, ap sizeOf (c .before .before .before .n .given .1))
+
+slice-aggregate-make-and-write : tie.Need-slice-aggregate-make-and-write
+slice-aggregate-make-and-write c = front _ _ (array-share-prefix-value (c .before))
+
+array-borrow-prefix-buffer : tie.Need-array-borrow-prefix-buffer
+array-borrow-prefix-buffer c =
+    let Decimal-to2 = c .before .before .before .before .before .before .before .before .before .before .before .before .before .decimal-to2 in
+    let Room = c .before .before .before .before .before .before .before .before .before .before .before .room in
+    omega (arith, Decimal-to2 .ensures, ap sizeOf (Room .given .1))
+
+slice-aggregate-make-and-write-2 : tie.Need-slice-aggregate-make-and-write-2
+slice-aggregate-make-and-write-2 c = front _ _ (array-borrow-prefix-buffer (c .before))
+
+make-and-write-requires : tie.Need-make-and-write-requires
+make-and-write-requires c κs =
+    omega (arith, slice-aggregate-make-and-write (c .before), ap sizeOf (c .before .before .before .before .before .n .given .1))
+
 name-at-requires : tie.Need-name-at-requires
 name-at-requires c κs = search needs
 
@@ -63,32 +89,6 @@ returns-4 c = search needs
 
 zeros-requires : tie.Need-zeros-requires
 zeros-requires c κs = search needs
-
-cast-t19 : tie.Need-cast-t19
-cast-t19 c =
-    let Decimal-to = c .before .before .before .before .before .before .before .before .before .before .before .before .before .before .before
-    .before .decimal-to in
-    let Bits = c .before .before .before .before .before .before .before .before .before .before .before .before .before .before .bits in
-    omega (arith, Decimal-to .ensures, ap sizeOf (Bits .given .1))
-
-array-share-prefix-value : tie.Need-array-share-prefix-value
-array-share-prefix-value c = omega (arith, ap sizeOf (c .before .before .before .n .given .1))
-
-slice-aggregate-make-and-write : tie.Need-slice-aggregate-make-and-write
-slice-aggregate-make-and-write c = front _ _ (array-share-prefix-value (c .before))
-
-array-borrow-prefix-buffer : tie.Need-array-borrow-prefix-buffer
-array-borrow-prefix-buffer c =
-    let Decimal-to2 = c .before .before .before .before .before .before .before .before .before .before .before .before .before .decimal-to2 in
-    let Room = c .before .before .before .before .before .before .before .before .before .before .before .room in
-    omega (arith, Decimal-to2 .ensures, ap sizeOf (Room .given .1))
-
-slice-aggregate-make-and-write-2 : tie.Need-slice-aggregate-make-and-write-2
-slice-aggregate-make-and-write-2 c = front _ _ (array-borrow-prefix-buffer (c .before))
-
-make-and-write-requires : tie.Need-make-and-write-requires
-make-and-write-requires c κs =
-    omega (arith, slice-aggregate-make-and-write (c .before), ap sizeOf (c .before .before .before .before .before .n .given .1))
 
 same-length : tie.Need-same-length
 same-length c = search needs

@@ -7,6 +7,18 @@ use Rattle.console.proofs.Parts.{front}
 use Rattle.console.proofs.items.answer_walk.Statement.{statement}
 use Rattle.console.proofs.items.answer_walk.Tie as tie
 
+array-share-prefix-packet : tie.Need-array-share-prefix-packet
+array-share-prefix-packet c = omega (arith, ap sizeOf (c .before .before .n .given .1))
+
+slice-aggregate-write-walk : tie.Need-slice-aggregate-write-walk
+slice-aggregate-write-walk c = front _ _ (array-share-prefix-packet (c .before))
+
+array-share-prefix-names : tie.Need-array-share-prefix-names
+array-share-prefix-names c = omega (arith, ap sizeOf (c .before .before .before .before .before .before .before .before .before .before .m .given .1))
+
+slice-aggregate-write-walk-2 : tie.Need-slice-aggregate-write-walk-2
+slice-aggregate-write-walk-2 c = front _ _ (array-share-prefix-names (c .before))
+
 nth-requires : tie.Need-nth-requires
 nth-requires c κs = search needs
 
@@ -42,18 +54,6 @@ enum-told-2 c = search needs
 
 returns-2 : tie.Need-returns-2
 returns-2 c = search needs
-
-array-share-prefix-packet : tie.Need-array-share-prefix-packet
-array-share-prefix-packet c = omega (arith, ap sizeOf (c .before .before .n .given .1))
-
-slice-aggregate-write-walk : tie.Need-slice-aggregate-write-walk
-slice-aggregate-write-walk c = front _ _ (array-share-prefix-packet (c .before))
-
-array-share-prefix-names : tie.Need-array-share-prefix-names
-array-share-prefix-names c = omega (arith, ap sizeOf (c .before .before .before .before .before .before .before .before .before .before .m .given .1))
-
-slice-aggregate-write-walk-2 : tie.Need-slice-aggregate-write-walk-2
-slice-aggregate-write-walk-2 c = front _ _ (array-share-prefix-names (c .before))
 
 write-walk-requires : tie.Need-write-walk-requires
 write-walk-requires c κs = search needs

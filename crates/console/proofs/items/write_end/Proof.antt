@@ -5,6 +5,11 @@ use Rattle.text_rules.proofs.Writing.{wrote}
 use Rattle.console.proofs.items.write_end.Statement.{statement}
 use Rattle.console.proofs.items.write_end.Tie as tie
 
+returns-2 : tie.Need-returns-2
+returns-2 c =
+    let a = c .before .before .before .before .before .before .before .before .before .args in
+    wrote (a .out .now) (a .at) _ (omega arith) (c .before .before .labelled .ensures)
+
 enum-known-step : tie.Need-enum-known-step
 enum-known-step c = search needs
 
@@ -19,11 +24,6 @@ labelled-requires c κs = search needs
 
 same-length : tie.Need-same-length
 same-length c = search needs
-
-returns-2 : tie.Need-returns-2
-returns-2 c =
-    let a = c .before .before .before .before .before .before .before .before .before .args in
-    wrote (a .out .now) (a .at) _ (omega arith) (c .before .before .labelled .ensures)
 
 pub write-end-spec : {M : Type 1} → statement M
 write-end-spec =

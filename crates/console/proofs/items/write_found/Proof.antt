@@ -4,6 +4,9 @@ use Rattle.text_rules.proofs.Writing.{chain}
 use Rattle.console.proofs.items.write_found.Statement.{statement}
 use Rattle.console.proofs.items.write_found.Tie as tie
 
+returns : tie.Need-returns
+returns c = chain (c .before .before .before .before .before .before .before .before .number .ensures) (c .before .before .value .ensures)
+
 search-requires : tie.Need-search-requires
 search-requires c κs = search needs
 
@@ -36,9 +39,6 @@ refused-requires c κs = search needs
 
 same-length : tie.Need-same-length
 same-length c = search needs
-
-returns : tie.Need-returns
-returns c = chain (c .before .before .before .before .before .before .before .before .number .ensures) (c .before .before .value .ensures)
 
 same-length-2 : tie.Need-same-length-2
 same-length-2 c = search needs

@@ -11,6 +11,20 @@ Inv-loop out₀ packet from to₀ at₀ left₀ out to at left = Wrote out₀ to
 abbrev μ-loop : tie.MeasureT-loop
 μ-loop out₀ packet from to₀ at₀ left₀ out to at left = left
 
+returns : tie.Need-returns Inv-loop μ-loop
+returns c =
+    let Word = c .before .before .before .before .before .before .before .before .before .before .before .word in
+    let L = c .before .before .before .before .before .before .before .loop in
+    chain (Word .ensures) (chain (L .inv) (c .before .before .write-end .ensures))
+
+loop-again : tie.Need-loop-again Inv-loop μ-loop
+loop-again c =
+    let L = c .before .before .before .before .before .before .before .before .before .before .loop in
+    chain (L .inv) (c .before .before .before .write-item .ensures)
+
+returns-2 : tie.Need-returns-2 Inv-loop μ-loop
+returns-2 c = chain (c .before .before .before .before .before .word .ensures) (c .before .loop .inv)
+
 slice-aggregate-word : tie.Need-slice-aggregate-word Inv-loop μ-loop
 slice-aggregate-word c = search needs
 
@@ -35,12 +49,6 @@ write-end-requires c κs = search needs
 same-length : tie.Need-same-length Inv-loop μ-loop
 same-length c = search needs
 
-returns : tie.Need-returns Inv-loop μ-loop
-returns c =
-    let Word = c .before .before .before .before .before .before .before .before .before .before .before .word in
-    let L = c .before .before .before .before .before .before .before .loop in
-    chain (Word .ensures) (chain (L .inv) (c .before .before .write-end .ensures))
-
 write-item-requires : tie.Need-write-item-requires Inv-loop μ-loop
 write-item-requires c κs = search needs
 
@@ -53,16 +61,8 @@ sub-left c = search needs
 loop-less : tie.Need-loop-less Inv-loop μ-loop
 loop-less c = search needs
 
-loop-again : tie.Need-loop-again Inv-loop μ-loop
-loop-again c =
-    let L = c .before .before .before .before .before .before .before .before .before .before .loop in
-    chain (L .inv) (c .before .before .before .write-item .ensures)
-
 same-length-2 : tie.Need-same-length-2 Inv-loop μ-loop
 same-length-2 c = search needs
-
-returns-2 : tie.Need-returns-2 Inv-loop μ-loop
-returns-2 c = chain (c .before .before .before .before .before .word .ensures) (c .before .loop .inv)
 
 pub write-from-spec : {M : Type 1} → statement M
 write-from-spec =

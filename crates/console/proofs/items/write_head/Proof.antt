@@ -5,6 +5,15 @@ use Rattle.text_rules.proofs.Writing.{wrote, goes}
 use Rattle.console.proofs.items.write_head.Statement.{statement}
 use Rattle.console.proofs.items.write_head.Tie as tie
 
+returns : tie.Need-returns
+returns c =
+    let A = c .before .before .before .before .before .before .before .before .before .before .before .before .before .before .before .before
+    .before .before .args in
+    let Plain = c .before .before .before .before .before .before .before .before .before .before .before .before .before .plain in
+    let Hex = c .before .before .before .before .before .before .before .before .hex in
+    let a = A in
+    goes _ (goes _ (wrote (a .out .now) (a .at) _ (omega arith) (Plain .ensures)) (Hex .ensures)) (c .before .before .labelled .ensures)
+
 bytes4-requires : tie.Need-bytes4-requires
 bytes4-requires c κs = search needs
 
@@ -28,15 +37,6 @@ labelled-requires c κs = search needs
 
 same-length : tie.Need-same-length
 same-length c = search needs
-
-returns : tie.Need-returns
-returns c =
-    let A = c .before .before .before .before .before .before .before .before .before .before .before .before .before .before .before .before
-    .before .before .args in
-    let Plain = c .before .before .before .before .before .before .before .before .before .before .before .before .before .plain in
-    let Hex = c .before .before .before .before .before .before .before .before .hex in
-    let a = A in
-    goes _ (goes _ (wrote (a .out .now) (a .at) _ (omega arith) (Plain .ensures)) (Hex .ensures)) (c .before .before .labelled .ensures)
 
 pub write-head-spec : {M : Type 1} → statement M
 write-head-spec =

@@ -4,6 +4,9 @@ use Rattle.text_rules.proofs.Writing.{chain}
 use Rattle.console.proofs.items.write_item.Statement.{statement}
 use Rattle.console.proofs.items.write_item.Tie as tie
 
+returns : tie.Need-returns
+returns c = chain (c .before .before .before .before .before .before .before .before .write-head .ensures) (c .before .before .value2 .ensures)
+
 slice-aggregate-write-head : tie.Need-slice-aggregate-write-head
 slice-aggregate-write-head c = search needs
 
@@ -21,9 +24,6 @@ value-requires-2 c κs = search needs
 
 same-length : tie.Need-same-length
 same-length c = search needs
-
-returns : tie.Need-returns
-returns c = chain (c .before .before .before .before .before .before .before .before .write-head .ensures) (c .before .before .value2 .ensures)
 
 pub write-item-spec : {M : Type 1} → statement M
 write-item-spec =

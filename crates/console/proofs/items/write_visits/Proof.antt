@@ -11,6 +11,23 @@ Inv-loop out₀ packet names to₀ w₀ left₀ t13 out to w left = Wrote out₀
 abbrev μ-loop : tie.MeasureT-loop
 μ-loop out₀ packet names to₀ w₀ left₀ t13 out to w left = left
 
+returns : tie.Need-returns Inv-loop μ-loop
+returns c =
+    let Word = c .before .before .before .before .before .before .before .before .before .before .before .before .before .before .word in
+    let L = c .before .before .before .before .before .before .before .before .before .before .loop in
+    chain (Word .ensures) (goes _ (L .inv) (c .before .before .labelled .ensures))
+
+returns-2 : tie.Need-returns-2 Inv-loop μ-loop
+returns-2 c = chain (c .before .before .before .before .before .before .before .before .word .ensures) (c .before .before .before .before .loop .inv)
+
+loop-again : tie.Need-loop-again Inv-loop μ-loop
+loop-again c =
+    let L = c .before .before .before .before .before .before .before .before .before .before .loop in
+    chain (L .inv) (c .before .before .before .write-visit .ensures)
+
+returns-3 : tie.Need-returns-3 Inv-loop μ-loop
+returns-3 c = chain (c .before .before .before .before .before .word .ensures) (c .before .loop .inv)
+
 slice-aggregate-word : tie.Need-slice-aggregate-word Inv-loop μ-loop
 slice-aggregate-word c = search needs
 
@@ -44,20 +61,11 @@ labelled-requires c κs = search needs
 same-length : tie.Need-same-length Inv-loop μ-loop
 same-length c = search needs
 
-returns : tie.Need-returns Inv-loop μ-loop
-returns c =
-    let Word = c .before .before .before .before .before .before .before .before .before .before .before .before .before .before .word in
-    let L = c .before .before .before .before .before .before .before .before .before .before .loop in
-    chain (Word .ensures) (goes _ (L .inv) (c .before .before .labelled .ensures))
-
 enum-told : tie.Need-enum-told Inv-loop μ-loop
 enum-told c = search needs
 
 same-length-2 : tie.Need-same-length-2 Inv-loop μ-loop
 same-length-2 c = search needs
-
-returns-2 : tie.Need-returns-2 Inv-loop μ-loop
-returns-2 c = chain (c .before .before .before .before .before .before .before .before .word .ensures) (c .before .before .before .before .loop .inv)
 
 sub-left : tie.Need-sub-left Inv-loop μ-loop
 sub-left c = search needs
@@ -65,16 +73,8 @@ sub-left c = search needs
 loop-less : tie.Need-loop-less Inv-loop μ-loop
 loop-less c = search needs
 
-loop-again : tie.Need-loop-again Inv-loop μ-loop
-loop-again c =
-    let L = c .before .before .before .before .before .before .before .before .before .before .loop in
-    chain (L .inv) (c .before .before .before .write-visit .ensures)
-
 same-length-3 : tie.Need-same-length-3 Inv-loop μ-loop
 same-length-3 c = search needs
-
-returns-3 : tie.Need-returns-3 Inv-loop μ-loop
-returns-3 c = chain (c .before .before .before .before .before .word .ensures) (c .before .loop .inv)
 
 pub write-visits-spec : {M : Type 1} → statement M
 write-visits-spec =

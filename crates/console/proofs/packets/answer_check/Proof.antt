@@ -7,6 +7,12 @@ use Rattle.console.proofs.Parts.{front}
 use Rattle.console.proofs.packets.answer_check.Statement.{statement}
 use Rattle.console.proofs.packets.answer_check.Tie as tie
 
+array-share-prefix-packet : tie.Need-array-share-prefix-packet
+array-share-prefix-packet c = omega (arith, ap sizeOf (c .before .n .given .1))
+
+slice-aggregate-check : tie.Need-slice-aggregate-check
+slice-aggregate-check c = front _ _ (array-share-prefix-packet (c .before))
+
 nth-requires : tie.Need-nth-requires
 nth-requires c κs = search needs
 
@@ -24,12 +30,6 @@ enum-told c = search needs
 
 returns : tie.Need-returns
 returns c = search needs
-
-array-share-prefix-packet : tie.Need-array-share-prefix-packet
-array-share-prefix-packet c = omega (arith, ap sizeOf (c .before .n .given .1))
-
-slice-aggregate-check : tie.Need-slice-aggregate-check
-slice-aggregate-check c = front _ _ (array-share-prefix-packet (c .before))
 
 check-requires : tie.Need-check-requires
 check-requires c κs = search needs

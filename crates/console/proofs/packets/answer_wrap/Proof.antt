@@ -7,6 +7,33 @@ use Rattle.console.proofs.Parts.{front}
 use Rattle.console.proofs.packets.answer_wrap.Statement.{statement}
 use Rattle.console.proofs.packets.answer_wrap.Tie as tie
 
+cast-wrap-and-write : tie.Need-cast-wrap-and-write
+cast-wrap-and-write c =
+    let Decimal-to = c .before .before .before .before .before .before .before .before .before .before .before .before .before .before .before
+    .before .before .before .before .before .decimal-to in
+    let Seq = c .before .before .before .before .before .before .before .before .before .before .before .before .before .before .before .before
+    .before .before .seq in
+    omega (arith, Decimal-to .ensures, ap sizeOf (Seq .given .1))
+
+array-share-prefix-payload : tie.Need-array-share-prefix-payload
+array-share-prefix-payload c = omega (arith, ap sizeOf (c .before .before .before .n .given .1))
+
+slice-aggregate-wrap-and-write : tie.Need-slice-aggregate-wrap-and-write
+slice-aggregate-wrap-and-write c = front _ _ (array-share-prefix-payload (c .before))
+
+array-borrow-prefix-packet : tie.Need-array-borrow-prefix-packet
+array-borrow-prefix-packet c =
+    let Decimal-to3 = c .before .before .before .before .before .before .before .before .before .before .before .before .before .decimal-to3 in
+    let Room = c .before .before .before .before .before .before .before .before .before .before .before .room in
+    omega (arith, Decimal-to3 .ensures, ap sizeOf (Room .given .1))
+
+slice-aggregate-wrap-and-write-2 : tie.Need-slice-aggregate-wrap-and-write-2
+slice-aggregate-wrap-and-write-2 c = front _ _ (array-borrow-prefix-packet (c .before))
+
+wrap-and-write-requires : tie.Need-wrap-and-write-requires
+wrap-and-write-requires c κs =
+    omega (arith, slice-aggregate-wrap-and-write (c .before), ap sizeOf (c .before .before .before .before .before .n .given .1))
+
 decimal-to-requires : tie.Need-decimal-to-requires
 decimal-to-requires c κs = search needs
 
@@ -63,33 +90,6 @@ returns-4 c = search needs
 
 zeros-requires : tie.Need-zeros-requires
 zeros-requires c κs = search needs
-
-cast-wrap-and-write : tie.Need-cast-wrap-and-write
-cast-wrap-and-write c =
-    let Decimal-to = c .before .before .before .before .before .before .before .before .before .before .before .before .before .before .before
-    .before .before .before .before .before .decimal-to in
-    let Seq = c .before .before .before .before .before .before .before .before .before .before .before .before .before .before .before .before
-    .before .before .seq in
-    omega (arith, Decimal-to .ensures, ap sizeOf (Seq .given .1))
-
-array-share-prefix-payload : tie.Need-array-share-prefix-payload
-array-share-prefix-payload c = omega (arith, ap sizeOf (c .before .before .before .n .given .1))
-
-slice-aggregate-wrap-and-write : tie.Need-slice-aggregate-wrap-and-write
-slice-aggregate-wrap-and-write c = front _ _ (array-share-prefix-payload (c .before))
-
-array-borrow-prefix-packet : tie.Need-array-borrow-prefix-packet
-array-borrow-prefix-packet c =
-    let Decimal-to3 = c .before .before .before .before .before .before .before .before .before .before .before .before .before .decimal-to3 in
-    let Room = c .before .before .before .before .before .before .before .before .before .before .before .room in
-    omega (arith, Decimal-to3 .ensures, ap sizeOf (Room .given .1))
-
-slice-aggregate-wrap-and-write-2 : tie.Need-slice-aggregate-wrap-and-write-2
-slice-aggregate-wrap-and-write-2 c = front _ _ (array-borrow-prefix-packet (c .before))
-
-wrap-and-write-requires : tie.Need-wrap-and-write-requires
-wrap-and-write-requires c κs =
-    omega (arith, slice-aggregate-wrap-and-write (c .before), ap sizeOf (c .before .before .before .before .before .n .given .1))
 
 same-length : tie.Need-same-length
 same-length c = search needs

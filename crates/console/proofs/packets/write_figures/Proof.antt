@@ -4,6 +4,14 @@ use Rattle.text_rules.proofs.Writing.{goes}
 use Rattle.console.proofs.packets.write_figures.Statement.{statement}
 use Rattle.console.proofs.packets.write_figures.Tie as tie
 
+returns : tie.Need-returns
+returns c =
+    let Number = c .before .before .before .before .before .before .before .before .before .before .before .before .before .before .before
+    .before .before .before .before .before .number in
+    let Labelled = c .before .before .before .before .before .before .before .before .before .before .before .before .before .before .labelled in
+    let Labelled2 = c .before .before .before .before .before .before .before .before .labelled2 in
+    goes _ (goes _ (goes _ (Number .ensures) (Labelled .ensures)) (Labelled2 .ensures)) (c .before .before .labelled3 .ensures)
+
 slice-aggregate-number : tie.Need-slice-aggregate-number
 slice-aggregate-number c = search needs
 
@@ -42,14 +50,6 @@ labelled-requires-3 c κs = search needs
 
 same-length : tie.Need-same-length
 same-length c = search needs
-
-returns : tie.Need-returns
-returns c =
-    let Number = c .before .before .before .before .before .before .before .before .before .before .before .before .before .before .before
-    .before .before .before .before .before .number in
-    let Labelled = c .before .before .before .before .before .before .before .before .before .before .before .before .before .before .labelled in
-    let Labelled2 = c .before .before .before .before .before .before .before .before .labelled2 in
-    goes _ (goes _ (goes _ (Number .ensures) (Labelled .ensures)) (Labelled2 .ensures)) (c .before .before .labelled3 .ensures)
 
 pub write-figures-spec : {M : Type 1} → statement M
 write-figures-spec =

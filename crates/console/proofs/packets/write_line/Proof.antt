@@ -4,6 +4,9 @@ use Rattle.text_rules.proofs.Writing.{goes}
 use Rattle.console.proofs.packets.write_line.Statement.{statement}
 use Rattle.console.proofs.packets.write_line.Tie as tie
 
+returns : tie.Need-returns
+returns c = goes _ (c .before .before .before .before .before .before .before .word .ensures) (c .before .before .plain .ensures)
+
 in-one-line-requires : tie.Need-in-one-line-requires
 in-one-line-requires c κs = search needs
 
@@ -21,9 +24,6 @@ same-length c = search needs
 
 same-length-2 : tie.Need-same-length-2
 same-length-2 c = search needs
-
-returns : tie.Need-returns
-returns c = goes _ (c .before .before .before .before .before .before .before .word .ensures) (c .before .before .plain .ensures)
 
 pub write-line-spec : {M : Type 1} → statement M
 write-line-spec =

@@ -6,6 +6,12 @@ use Rattle.text_rules.proofs.Writing.{wrote}
 use Rattle.console.proofs.packets.write_listing.Statement.{statement}
 use Rattle.console.proofs.packets.write_listing.Tie as tie
 
+array-borrow-prefix-listing : tie.Need-array-borrow-prefix-listing
+array-borrow-prefix-listing c = let w = wrote _ 0 _ (omega arith) (c .before .before .list .ensures) in omega (arith, w .within, w .same)
+
+slice-aggregate-write-line : tie.Need-slice-aggregate-write-line
+slice-aggregate-write-line c = front _ _ (array-borrow-prefix-listing (c .before))
+
 zeros-requires : tie.Need-zeros-requires
 zeros-requires c κs = search needs
 
@@ -14,12 +20,6 @@ slice-aggregate-list c = search needs
 
 list-requires : tie.Need-list-requires
 list-requires c κs = search needs
-
-array-borrow-prefix-listing : tie.Need-array-borrow-prefix-listing
-array-borrow-prefix-listing c = let w = wrote _ 0 _ (omega arith) (c .before .before .list .ensures) in omega (arith, w .within, w .same)
-
-slice-aggregate-write-line : tie.Need-slice-aggregate-write-line
-slice-aggregate-write-line c = front _ _ (array-borrow-prefix-listing (c .before))
 
 write-line-requires : tie.Need-write-line-requires
 write-line-requires c κs = search needs

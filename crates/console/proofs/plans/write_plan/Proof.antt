@@ -13,6 +13,12 @@ Inv-loop out₀ names values at₀ i₀ out at i = (i ≤ 9) × Wrote out₀ at�
 abbrev μ-loop : tie.MeasureT-loop
 μ-loop out₀ names values at₀ i₀ out at i = 9 - i
 
+loop-again : tie.Need-loop-again Inv-loop μ-loop
+loop-again c = (omega arith, goes _ (c .before .before .before .before .before .before .loop .inv .1) (c .before .before .labelled .ensures))
+
+returns : tie.Need-returns Inv-loop μ-loop
+returns c = search (chain, needs)
+
 slice-aggregate-word : tie.Need-slice-aggregate-word Inv-loop μ-loop
 slice-aggregate-word c = search needs
 
@@ -43,14 +49,8 @@ add-i c = search needs
 loop-less : tie.Need-loop-less Inv-loop μ-loop
 loop-less c = search needs
 
-loop-again : tie.Need-loop-again Inv-loop μ-loop
-loop-again c = (omega arith, goes _ (c .before .before .before .before .before .before .loop .inv .1) (c .before .before .labelled .ensures))
-
 same-length : tie.Need-same-length Inv-loop μ-loop
 same-length c = search needs
-
-returns : tie.Need-returns Inv-loop μ-loop
-returns c = search (chain, needs)
 
 pub write-plan-spec : {M : Type 1} → statement M
 write-plan-spec =

@@ -6,6 +6,15 @@ use Rattle.console.specs.inner.Sized.{sizeOf}
 use Rattle.console.proofs.receiving.answer_clear.Statement.{statement}
 use Rattle.console.proofs.receiving.answer_clear.Tie as tie
 
+add-end : tie.Need-add-end
+add-end c = omega (arith, c .before .before .before .decimal-to .ensures, ap sizeOf (c .before .lent .given .1))
+
+part-clear-end : tie.Need-part-clear-end
+part-clear-end c =
+    let P = c .before .before .before .before .before .before .before .before .before .before .pre in
+    let Decimal-to = c .before .before .before .before .before .before .decimal-to in
+    omega (arith, P, Decimal-to .ensures, ap sizeOf (c .before .before .before .before .lent .given .1))
+
 decimal-to-requires : tie.Need-decimal-to-requires
 decimal-to-requires c κs = search needs
 
@@ -18,9 +27,6 @@ enum-told c = search needs
 returns : tie.Need-returns
 returns c = search needs
 
-add-end : tie.Need-add-end
-add-end c = omega (arith, c .before .before .before .decimal-to .ensures, ap sizeOf (c .before .lent .given .1))
-
 record-requires : tie.Need-record-requires
 record-requires c κs = search needs
 
@@ -29,12 +35,6 @@ sub-clear c = search needs
 
 part-clear-start : tie.Need-part-clear-start
 part-clear-start c = search needs
-
-part-clear-end : tie.Need-part-clear-end
-part-clear-end c =
-    let P = c .before .before .before .before .before .before .before .before .before .before .pre in
-    let Decimal-to = c .before .before .before .before .before .before .decimal-to in
-    omega (arith, P, Decimal-to .ensures, ap sizeOf (c .before .before .before .before .lent .given .1))
 
 clear-requires : tie.Need-clear-requires
 clear-requires c κs = search needs

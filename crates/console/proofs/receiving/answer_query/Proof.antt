@@ -6,6 +6,14 @@ use Rattle.console.specs.inner.Sized.{sizeOf}
 use Rattle.console.proofs.receiving.answer_query.Statement.{statement}
 use Rattle.console.proofs.receiving.answer_query.Tie as tie
 
+add-end : tie.Need-add-end
+add-end c = omega (arith, c .before .before .before .decimal-to .ensures, ap sizeOf (c .before .lent .given .1))
+
+part-query-end : tie.Need-part-query-end
+part-query-end c =
+    let P = c .before .before .before .before .before .before .before .before .pre in
+    omega (arith, P, c .before .before .before .before .decimal-to .ensures, ap sizeOf (c .before .before .lent .given .1))
+
 decimal-to-requires : tie.Need-decimal-to-requires
 decimal-to-requires c κs = search needs
 
@@ -18,9 +26,6 @@ enum-told c = search needs
 returns : tie.Need-returns
 returns c = search needs
 
-add-end : tie.Need-add-end
-add-end c = omega (arith, c .before .before .before .decimal-to .ensures, ap sizeOf (c .before .lent .given .1))
-
 record-requires : tie.Need-record-requires
 record-requires c κs = search needs
 
@@ -29,11 +34,6 @@ sub-query c = search needs
 
 part-query-start : tie.Need-part-query-start
 part-query-start c = search needs
-
-part-query-end : tie.Need-part-query-end
-part-query-end c =
-    let P = c .before .before .before .before .before .before .before .before .pre in
-    omega (arith, P, c .before .before .before .before .decimal-to .ensures, ap sizeOf (c .before .before .lent .given .1))
 
 query-requires : tie.Need-query-requires
 query-requires c κs = search needs

@@ -7,6 +7,32 @@ use Rattle.console.proofs.Parts.{front}
 use Rattle.console.proofs.receiving.answer_recv.Statement.{statement}
 use Rattle.console.proofs.receiving.answer_recv.Tie as tie
 
+array-share-prefix-datagram : tie.Need-array-share-prefix-datagram
+array-share-prefix-datagram c = omega (arith, ap sizeOf (c .before .before .before .before .n .given .1))
+
+slice-aggregate-take : tie.Need-slice-aggregate-take
+slice-aggregate-take c = front _ _ (array-share-prefix-datagram (c .before))
+
+array-borrow-prefix-packet : tie.Need-array-borrow-prefix-packet
+array-borrow-prefix-packet c =
+    let Decimal-to2 = c .before .before .before .before .before .before .before .before .before .before .before .before .before .before
+    .decimal-to2 in
+    let Room = c .before .before .before .before .before .before .before .before .before .before .before .before .room in
+    omega (arith, Decimal-to2 .ensures, ap sizeOf (Room .given .1))
+
+slice-aggregate-take-2 : tie.Need-slice-aggregate-take-2
+slice-aggregate-take-2 c = front _ _ (array-borrow-prefix-packet (c .before))
+
+take-requires : tie.Need-take-requires
+take-requires c κs =
+    let P = c .before .before .before .before .before .before .before .before .before .before .before .before .before .before .before .before
+    .before .before .before .before .before .before .before .before .before .before .before .before .pre in
+    let Decimal-to = c .before .before .before .before .before .before .before .before .before .before .before .before .before .before .before
+    .before .before .before .before .decimal-to in
+    let Lent = c .before .before .before .before .before .before .before .before .before .before .before .before .before .before .before .before
+    .before .lent in
+    (P, omega (arith, Decimal-to .ensures, ap sizeOf (Lent .given .1)))
+
 nth-requires : tie.Need-nth-requires
 nth-requires c κs = search needs
 
@@ -66,32 +92,6 @@ returns-4 c = search needs
 
 zeros-requires : tie.Need-zeros-requires
 zeros-requires c κs = search needs
-
-array-share-prefix-datagram : tie.Need-array-share-prefix-datagram
-array-share-prefix-datagram c = omega (arith, ap sizeOf (c .before .before .before .before .n .given .1))
-
-slice-aggregate-take : tie.Need-slice-aggregate-take
-slice-aggregate-take c = front _ _ (array-share-prefix-datagram (c .before))
-
-array-borrow-prefix-packet : tie.Need-array-borrow-prefix-packet
-array-borrow-prefix-packet c =
-    let Decimal-to2 = c .before .before .before .before .before .before .before .before .before .before .before .before .before .before
-    .decimal-to2 in
-    let Room = c .before .before .before .before .before .before .before .before .before .before .before .before .room in
-    omega (arith, Decimal-to2 .ensures, ap sizeOf (Room .given .1))
-
-slice-aggregate-take-2 : tie.Need-slice-aggregate-take-2
-slice-aggregate-take-2 c = front _ _ (array-borrow-prefix-packet (c .before))
-
-take-requires : tie.Need-take-requires
-take-requires c κs =
-    let P = c .before .before .before .before .before .before .before .before .before .before .before .before .before .before .before .before
-    .before .before .before .before .before .before .before .before .before .before .before .before .pre in
-    let Decimal-to = c .before .before .before .before .before .before .before .before .before .before .before .before .before .before .before
-    .before .before .before .before .decimal-to in
-    let Lent = c .before .before .before .before .before .before .before .before .before .before .before .before .before .before .before .before
-    .before .lent in
-    (P, omega (arith, Decimal-to .ensures, ap sizeOf (Lent .given .1)))
 
 same-length : tie.Need-same-length
 same-length c = search needs

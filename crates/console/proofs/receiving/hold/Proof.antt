@@ -6,11 +6,11 @@ use Rattle.console.proofs.Parts.{front}
 use Rattle.console.proofs.receiving.hold.Statement.{statement}
 use Rattle.console.proofs.receiving.hold.Tie as tie
 
-slice-relend-prefix-pack : tie.Need-slice-relend-prefix-pack
-slice-relend-prefix-pack c = search needs
-
 slice-aggregate-pack : tie.Need-slice-aggregate-pack
 slice-aggregate-pack c = front table-bytes (c .before .before .args .seat .now) (omega (arith, c .before .before .pre))
+
+slice-relend-prefix-pack : tie.Need-slice-relend-prefix-pack
+slice-relend-prefix-pack c = search needs
 
 pack-requires : tie.Need-pack-requires
 pack-requires c κs = search needs

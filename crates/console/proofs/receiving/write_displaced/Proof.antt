@@ -5,6 +5,20 @@ use Rattle.text_rules.proofs.Writing.{wrote, goes}
 use Rattle.console.proofs.receiving.write_displaced.Statement.{statement}
 use Rattle.console.proofs.receiving.write_displaced.Tie as tie
 
+returns : tie.Need-returns
+returns c =
+    let A = c .before .before .before .before .before .before .before .before .before .before .before .before .before .args in
+    let Plain = c .before .before .before .before .before .before .before .before .before .plain in
+    let a = A in
+    goes _ (wrote (a .out .now) (a .at) _ (omega arith) (Plain .ensures)) (c .before .before .plain2 .ensures)
+
+returns-2 : tie.Need-returns-2
+returns-2 c =
+    let A = c .before .before .before .before .before .before .before .before .before .before .before .before .before .args in
+    let Plain = c .before .before .before .before .before .before .before .before .before .plain in
+    let a = A in
+    goes _ (wrote (a .out .now) (a .at) _ (omega arith) (Plain .ensures)) (c .before .before .decimal .ensures)
+
 plain-requires : tie.Need-plain-requires
 plain-requires c κs = search needs
 
@@ -29,22 +43,8 @@ decimal-requires c κs = search needs
 same-length : tie.Need-same-length
 same-length c = search needs
 
-returns : tie.Need-returns
-returns c =
-    let A = c .before .before .before .before .before .before .before .before .before .before .before .before .before .args in
-    let Plain = c .before .before .before .before .before .before .before .before .before .plain in
-    let a = A in
-    goes _ (wrote (a .out .now) (a .at) _ (omega arith) (Plain .ensures)) (c .before .before .plain2 .ensures)
-
 same-length-2 : tie.Need-same-length-2
 same-length-2 c = search needs
-
-returns-2 : tie.Need-returns-2
-returns-2 c =
-    let A = c .before .before .before .before .before .before .before .before .before .before .before .before .before .args in
-    let Plain = c .before .before .before .before .before .before .before .before .before .plain in
-    let a = A in
-    goes _ (wrote (a .out .now) (a .at) _ (omega arith) (Plain .ensures)) (c .before .before .decimal .ensures)
 
 pub write-displaced-spec : {M : Type 1} → statement M
 write-displaced-spec =

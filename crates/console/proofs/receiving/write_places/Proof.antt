@@ -4,6 +4,16 @@ use Rattle.text_rules.proofs.Writing.{chain}
 use Rattle.console.proofs.receiving.write_places.Statement.{statement}
 use Rattle.console.proofs.receiving.write_places.Tie as tie
 
+returns : tie.Need-returns
+returns c =
+    let Word = c .before .before .before .before .before .before .before .before .before .before .before .before .before .before .before .before
+    .before .before .word in
+    let Write-seen = c .before .before .before .before .before .before .before .before .before .before .before .before .before .before .write-seen in
+    let Write-seen2 = c .before .before .before .before .before .before .before .before .before .before .write-seen2 in
+    let Write-seen3 = c .before .before .before .before .before .before .write-seen3 in
+    chain (chain (chain (chain (Word .ensures) (Write-seen .ensures)) (Write-seen2 .ensures)) (Write-seen3 .ensures))
+    (c .before .before .write-seen4 .ensures)
+
 slice-aggregate-word : tie.Need-slice-aggregate-word
 slice-aggregate-word c = search needs
 
@@ -24,16 +34,6 @@ write-seen-requires-4 c κs = search needs
 
 same-length : tie.Need-same-length
 same-length c = search needs
-
-returns : tie.Need-returns
-returns c =
-    let Word = c .before .before .before .before .before .before .before .before .before .before .before .before .before .before .before .before
-    .before .before .word in
-    let Write-seen = c .before .before .before .before .before .before .before .before .before .before .before .before .before .before .write-seen in
-    let Write-seen2 = c .before .before .before .before .before .before .before .before .before .before .write-seen2 in
-    let Write-seen3 = c .before .before .before .before .before .before .write-seen3 in
-    chain (chain (chain (chain (Word .ensures) (Write-seen .ensures)) (Write-seen2 .ensures)) (Write-seen3 .ensures))
-    (c .before .before .write-seen4 .ensures)
 
 pub write-places-spec : {M : Type 1} → statement M
 write-places-spec =

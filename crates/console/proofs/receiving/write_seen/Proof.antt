@@ -5,6 +5,26 @@ use Rattle.text_rules.proofs.Writing.{wrote}
 use Rattle.console.proofs.receiving.write_seen.Statement.{statement}
 use Rattle.console.proofs.receiving.write_seen.Tie as tie
 
+returns : tie.Need-returns
+returns c =
+    let a = c .before .before .before .before .before .before .before .before .args in
+    wrote (a .out .now) (a .at) _ (omega arith) (c .before .before .plain .ensures)
+
+returns-2 : tie.Need-returns-2
+returns-2 c =
+    let a = c .before .before .before .before .before .before .before .before .before .args in
+    wrote (a .out .now) (a .at) _ (omega arith) (c .before .before .labelled .ensures)
+
+returns-3 : tie.Need-returns-3
+returns-3 c =
+    let a = c .before .before .before .before .before .before .before .before .before .args in
+    wrote (a .out .now) (a .at) _ (omega arith) (c .before .before .labelled2 .ensures)
+
+returns-4 : tie.Need-returns-4
+returns-4 c =
+    let a = c .before .before .before .before .before .before .before .before .before .args in
+    wrote (a .out .now) (a .at) _ (omega arith) (c .before .before .labelled3 .ensures)
+
 enum-told : tie.Need-enum-told
 enum-told c = search needs
 
@@ -53,34 +73,14 @@ labelled-requires-3 c κs = search needs
 same-length : tie.Need-same-length
 same-length c = search needs
 
-returns : tie.Need-returns
-returns c =
-    let a = c .before .before .before .before .before .before .before .before .args in
-    wrote (a .out .now) (a .at) _ (omega arith) (c .before .before .plain .ensures)
-
 same-length-2 : tie.Need-same-length-2
 same-length-2 c = search needs
-
-returns-2 : tie.Need-returns-2
-returns-2 c =
-    let a = c .before .before .before .before .before .before .before .before .before .args in
-    wrote (a .out .now) (a .at) _ (omega arith) (c .before .before .labelled .ensures)
 
 same-length-3 : tie.Need-same-length-3
 same-length-3 c = search needs
 
-returns-3 : tie.Need-returns-3
-returns-3 c =
-    let a = c .before .before .before .before .before .before .before .before .before .args in
-    wrote (a .out .now) (a .at) _ (omega arith) (c .before .before .labelled2 .ensures)
-
 same-length-4 : tie.Need-same-length-4
 same-length-4 c = search needs
-
-returns-4 : tie.Need-returns-4
-returns-4 c =
-    let a = c .before .before .before .before .before .before .before .before .before .args in
-    wrote (a .out .now) (a .at) _ (omega arith) (c .before .before .labelled3 .ensures)
 
 pub write-seen-spec : {M : Type 1} → statement M
 write-seen-spec =

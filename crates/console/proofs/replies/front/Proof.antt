@@ -4,11 +4,11 @@ use Rattle.console.proofs.Parts.{front}
 use Rattle.console.proofs.replies.front.Statement.{statement}
 use Rattle.console.proofs.replies.front.Tie as tie
 
-returns : tie.Need-returns
-returns c = search needs
-
 slice-aggregate-bytes : tie.Need-slice-aggregate-bytes
 slice-aggregate-bytes c = front _ _ (search needs)
+
+returns : tie.Need-returns
+returns c = search needs
 
 bytes-requires : tie.Need-bytes-requires
 bytes-requires c κs = search needs

@@ -5,6 +5,20 @@ use Rattle.text_rules.proofs.Writing.{wrote, goes}
 use Rattle.console.proofs.replies.value.Statement.{statement}
 use Rattle.console.proofs.replies.value.Tie as tie
 
+returns : tie.Need-returns
+returns c =
+    let A = c .before .before .before .before .before .before .before .before .before .before .before .before .before .args in
+    let Plain = c .before .before .before .before .before .before .before .before .plain in
+    let a = A in
+    goes _ (wrote (a .out .now) (a .at) _ (omega arith) (Plain .ensures)) (c .before .before .plain2 .ensures)
+
+returns-2 : tie.Need-returns-2
+returns-2 c =
+    let A = c .before .before .before .before .before .before .before .before .before .before .before .before .args in
+    let Plain = c .before .before .before .before .before .before .before .plain in
+    let a = A in
+    goes _ (wrote (a .out .now) (a .at) _ (omega arith) (Plain .ensures)) (c .before .before .hex .ensures)
+
 plain-requires : tie.Need-plain-requires
 plain-requires c κs = search needs
 
@@ -17,25 +31,11 @@ plain-requires-2 c κs = search needs
 same-length : tie.Need-same-length
 same-length c = search needs
 
-returns : tie.Need-returns
-returns c =
-    let A = c .before .before .before .before .before .before .before .before .before .before .before .before .before .args in
-    let Plain = c .before .before .before .before .before .before .before .before .plain in
-    let a = A in
-    goes _ (wrote (a .out .now) (a .at) _ (omega arith) (Plain .ensures)) (c .before .before .plain2 .ensures)
-
 hex-requires : tie.Need-hex-requires
 hex-requires c κs = search needs
 
 same-length-2 : tie.Need-same-length-2
 same-length-2 c = search needs
-
-returns-2 : tie.Need-returns-2
-returns-2 c =
-    let A = c .before .before .before .before .before .before .before .before .before .before .before .before .args in
-    let Plain = c .before .before .before .before .before .before .before .plain in
-    let a = A in
-    goes _ (wrote (a .out .now) (a .at) _ (omega arith) (Plain .ensures)) (c .before .before .hex .ensures)
 
 pub value-spec : {M : Type 1} → statement M
 value-spec =

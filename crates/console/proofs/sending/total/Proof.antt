@@ -14,6 +14,15 @@ whole f h s e i j =
     let b : h + s ≤ 2 * most-mtu = omega arith in
     mul-le-mul a b
 
+mul-result : tie.Need-mul-result
+mul-result c = omega (arith, whole _ _ _ (c .before .before .before .if2 .left) (c .before .before .if3 .left) (c .before .if4 .left))
+
+add-result-2 : tie.Need-add-result-2
+add-result-2 c = omega (arith, whole _ _ _ (c .before .before .before .if2 .left) (c .before .before .if3 .left) (c .before .if4 .left))
+
+add-result-3 : tie.Need-add-result-3
+add-result-3 c = omega (arith, whole _ _ _ (c .before .before .before .if2 .left) (c .before .before .if3 .left) (c .before .if4 .left))
+
 returns : tie.Need-returns
 returns c = search needs
 
@@ -34,15 +43,6 @@ sub-result c = search needs
 
 add-result : tie.Need-add-result
 add-result c = search needs
-
-mul-result : tie.Need-mul-result
-mul-result c = omega (arith, whole _ _ _ (c .before .before .before .if2 .left) (c .before .before .if3 .left) (c .before .if4 .left))
-
-add-result-2 : tie.Need-add-result-2
-add-result-2 c = omega (arith, whole _ _ _ (c .before .before .before .if2 .left) (c .before .before .if3 .left) (c .before .if4 .left))
-
-add-result-3 : tie.Need-add-result-3
-add-result-3 c = omega (arith, whole _ _ _ (c .before .before .before .if2 .left) (c .before .before .if3 .left) (c .before .if4 .left))
 
 returns-6 : tie.Need-returns-6
 returns-6 c = search needs

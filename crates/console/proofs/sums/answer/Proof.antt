@@ -7,6 +7,12 @@ use Rattle.console.proofs.Parts.{front}
 use Rattle.console.proofs.sums.answer.Statement.{statement}
 use Rattle.console.proofs.sums.answer.Tie as tie
 
+array-share-prefix-data : tie.Need-array-share-prefix-data
+array-share-prefix-data c = omega (arith, ap sizeOf (c .before .n .given .1))
+
+slice-aggregate-word : tie.Need-slice-aggregate-word
+slice-aggregate-word c = front _ _ (array-share-prefix-data (c .before))
+
 slice-aggregate-asks : tie.Need-slice-aggregate-asks
 slice-aggregate-asks c = search needs
 
@@ -33,12 +39,6 @@ enum-told c = search needs
 
 returns-2 : tie.Need-returns-2
 returns-2 c = search needs
-
-array-share-prefix-data : tie.Need-array-share-prefix-data
-array-share-prefix-data c = omega (arith, ap sizeOf (c .before .n .given .1))
-
-slice-aggregate-word : tie.Need-slice-aggregate-word
-slice-aggregate-word c = front _ _ (array-share-prefix-data (c .before))
 
 word-requires : tie.Need-word-requires
 word-requires c κs = search needs

@@ -9,9 +9,6 @@ use Rattle.cut.proofs.plans.address_bytes.Tie as tie
 enum-told : tie.Need-enum-told
 enum-told c = search needs
 
-enum-told-2 : tie.Need-enum-told-2
-enum-told-2 c = search needs
-
 returns : tie.Need-returns
 unfolding size.addressBytes
 returns c = (sym (ap size.addressBytes (c .enum-told .given .1)), lit≤ tt)
@@ -19,6 +16,9 @@ returns c = (sym (ap size.addressBytes (c .enum-told .given .1)), lit≤ tt)
 returns-2 : tie.Need-returns-2
 unfolding size.addressBytes
 returns-2 c = (sym (ap size.addressBytes (c .enum-told2 .given .1)), lit≤ tt)
+
+enum-told-2 : tie.Need-enum-told-2
+enum-told-2 c = search needs
 
 pub address-bytes-spec : {M : Type 1} → statement M
 address-bytes-spec = tie.close (tie.spec enum-told enum-told-2 returns returns-2)

@@ -6,9 +6,6 @@ use Rattle.cut_rules.specs.Sizes as size
 use Rattle.cut_rules.proofs.ChunkSizes as chunk
 use Rattle.cut.proofs.plans.chunks.Tie as tie
 
-round-up-requires : tie.Need-round-up-requires
-round-up-requires c κs = search needs
-
 returns : tie.Need-returns
 unfolding size.c
 returns c = let l = c .before .args .l in (
@@ -16,6 +13,9 @@ returns c = let l = c .before .args .l in (
   omega (arith, c .round-up .ensures, chunk.c-some l (omega arith)),
   omega (arith, c .round-up .ensures, chunk.c-few l (omega arith)),
 )
+
+round-up-requires : tie.Need-round-up-requires
+round-up-requires c κs = search needs
 
 pub chunks-spec : {M : Type 1} → statement M
 chunks-spec = tie.close (tie.spec round-up-requires returns)

@@ -11,6 +11,28 @@ use Rattle.cut_rules.proofs.ChunkSizes as chunk
 use Rattle.cut_rules.proofs.PlanCases as cases
 use Rattle.cut.proofs.plans.figures.Tie as tie
 
+mul-with-fec : tie.Need-mul-with-fec
+mul-with-fec c = let a : c .before .before .before .chunks .result ≤ most-l = omega arith in
+    let b : c .before .before .per-chunk .result ≤ most-k = omega arith in
+    omega (arith, mul-le-mul a b)
+
+sub-with-fec : tie.Need-sub-with-fec
+sub-with-fec c = let e = ap₂ (λ (x y : ℕ). x * y) (c .before .before .before .chunks .ensures .0) (c .before .before .per-chunk .ensures .0) in
+    omega (arith, e, chunk.filled (c .before .before .before .before .args .l) (omega arith))
+
+returns : tie.Need-returns
+returns c =
+    let A = c .before .before .before .before .before .before .before .before .before .args in
+    let P = c .before .before .before .before .before .before .before .before .before .pre in
+    let Chunks = c .before .before .before .before .before .before .before .before .chunks in
+    let Per-chunk = c .before .before .before .before .before .before .before .per-chunk in
+    let With-fec = c .before .before .before .before .before .before .with-fec in
+    let a = A in
+    cases.figured (a .g) (a .l) _ _ _ (Chunks .ensures .0) (Per-chunk .ensures .0)
+    (With-fec .ensures) (c .before .before .before .before .before .with-fec2 .ensures) (c .before .before .before .before .with-fec3 .ensures)
+    (c .before .before .before .with-fec4 .ensures)
+    (c .before .before .header .ensures .0) (P .2) (P .3) (P .5) (c .before .round-up .ensures) (c .sure .ensures)
+
 chunks-requires : tie.Need-chunks-requires
 chunks-requires c κs = search needs
 
@@ -22,15 +44,6 @@ with-fec-requires c κs = search needs
 
 with-fec-requires-2 : tie.Need-with-fec-requires-2
 with-fec-requires-2 c κs = search needs
-
-mul-with-fec : tie.Need-mul-with-fec
-mul-with-fec c = let a : c .before .before .before .chunks .result ≤ most-l = omega arith in
-    let b : c .before .before .per-chunk .result ≤ most-k = omega arith in
-    omega (arith, mul-le-mul a b)
-
-sub-with-fec : tie.Need-sub-with-fec
-sub-with-fec c = let e = ap₂ (λ (x y : ℕ). x * y) (c .before .before .before .chunks .ensures .0) (c .before .before .per-chunk .ensures .0) in
-    omega (arith, e, chunk.filled (c .before .before .before .before .args .l) (omega arith))
 
 with-fec-requires-3 : tie.Need-with-fec-requires-3
 with-fec-requires-3 c κs = search needs
@@ -49,19 +62,6 @@ round-up-requires c κs = search needs
 
 sure-requires : tie.Need-sure-requires
 sure-requires c κs = search needs
-
-returns : tie.Need-returns
-returns c =
-    let A = c .before .before .before .before .before .before .before .before .before .args in
-    let P = c .before .before .before .before .before .before .before .before .before .pre in
-    let Chunks = c .before .before .before .before .before .before .before .before .chunks in
-    let Per-chunk = c .before .before .before .before .before .before .before .per-chunk in
-    let With-fec = c .before .before .before .before .before .before .with-fec in
-    let a = A in
-    cases.figured (a .g) (a .l) _ _ _ (Chunks .ensures .0) (Per-chunk .ensures .0)
-    (With-fec .ensures) (c .before .before .before .before .before .with-fec2 .ensures) (c .before .before .before .before .with-fec3 .ensures)
-    (c .before .before .before .with-fec4 .ensures)
-    (c .before .before .header .ensures .0) (P .2) (P .3) (P .5) (c .before .round-up .ensures) (c .sure .ensures)
 
 pub figures-spec : {M : Type 1} → statement M
 figures-spec =

@@ -7,15 +7,9 @@ use Rattle.cut.proofs.plans.fits.Tie as tie
 returns : tie.Need-returns
 returns c = cases.fit-most (c .before .before .args .g) (c .if1 .taken)
 
-mtu-fits-requires : tie.Need-mtu-fits-requires
-mtu-fits-requires c κs = search needs
-
 returns-2 : tie.Need-returns-2
 returns-2 c =
     cases.fit-fec (c .before .before .before .before .args .g) (c .before .before .if1 .left) _ (c .before .if2 .taken) (c .mtu-fits .ensures)
-
-mtu-fits-requires-2 : tie.Need-mtu-fits-requires-2
-mtu-fits-requires-2 c κs = search needs
 
 returns-3 : tie.Need-returns-3
 returns-3 c =
@@ -27,6 +21,12 @@ returns-4 : tie.Need-returns-4
 returns-4 c =
     cases.fit-losses (c .before .before .before .before .before .args .g) (c .before .before .before .if1 .left) (c .before .before .if2 .left)
     (c .if3 .left)
+
+mtu-fits-requires : tie.Need-mtu-fits-requires
+mtu-fits-requires c κs = search needs
+
+mtu-fits-requires-2 : tie.Need-mtu-fits-requires-2
+mtu-fits-requires-2 c κs = search needs
 
 pub fits-spec : {M : Type 1} → statement M
 fits-spec =

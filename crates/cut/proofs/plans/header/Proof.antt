@@ -5,6 +5,12 @@ use Rattle.cut.proofs.plans.header.Statement.{statement}
 use Rattle.cut_rules.proofs.PlanCases as cases
 use Rattle.cut.proofs.plans.header.Tie as tie
 
+returns : tie.Need-returns
+returns c = let e = cases.h-fec (c .before .before .args .g) (c .if1 .taken) in (omega (arith, e), omega arith)
+
+returns-2 : tie.Need-returns-2
+returns-2 c = let e = cases.h-plain (c .before .before .args .g) (c .if1 .left) in (omega (arith, e), omega arith)
+
 address-bytes-requires : tie.Need-address-bytes-requires
 address-bytes-requires c κs = search needs
 
@@ -13,12 +19,6 @@ add-result c = search needs
 
 add-result-2 : tie.Need-add-result-2
 add-result-2 c = search needs
-
-returns : tie.Need-returns
-returns c = let e = cases.h-fec (c .before .before .args .g) (c .if1 .taken) in (omega (arith, e), omega arith)
-
-returns-2 : tie.Need-returns-2
-returns-2 c = let e = cases.h-plain (c .before .before .args .g) (c .if1 .left) in (omega (arith, e), omega arith)
 
 pub header-spec : {M : Type 1} → statement M
 header-spec = tie.close (tie.spec address-bytes-requires add-result add-result-2 returns returns-2)

@@ -29,9 +29,6 @@ f-some c =
     let Room = c .before .room in
     omega (arith, c .round-up .ensures, ceils.some (Total .result) (Room .result) (Room .ensures .1) (Total .ensures .1))
 
-fits-requires : tie.Need-fits-requires
-fits-requires c κs = search needs
-
 returns : tie.Need-returns
 unfolding numberOf
 returns c =
@@ -50,14 +47,8 @@ returns-3 c =
     let a = c .before .before .before .before .args in
     cases.plan-22 (a .g) (a .l) (fitting (c .before .before)) (c .before .if2 .left) (c .if3 .taken)
 
-total-requires : tie.Need-total-requires
-total-requires c κs = search needs
-
 room-requires : tie.Need-room-requires
 room-requires c κs = (fitting (c .before .before .before), c .before .before .if2 .left, c .before .if3 .left)
-
-round-up-requires : tie.Need-round-up-requires
-round-up-requires c κs = search needs
 
 returns-4 : tie.Need-returns-4
 unfolding numberOf
@@ -90,6 +81,15 @@ returns-5 c =
     let a = A in
     ap granted (c .figures .ensures) ∙ cases.plan-cut (a .g) (a .l) (fitting (Before)) (If2 .left)
     (c .before .before .before .before .before .if3 .left) (omega (arith, f-is (c .before .before), c .before .if4 .left))
+
+fits-requires : tie.Need-fits-requires
+fits-requires c κs = search needs
+
+total-requires : tie.Need-total-requires
+total-requires c κs = search needs
+
+round-up-requires : tie.Need-round-up-requires
+round-up-requires c κs = search needs
 
 pub plan-spec : {M : Type 1} → statement M
 plan-spec =

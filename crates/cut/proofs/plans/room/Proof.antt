@@ -6,9 +6,6 @@ use Rattle.cut.proofs.plans.room.Statement.{statement}
 use Rattle.cut_rules.proofs.PlanCases as cases
 use Rattle.cut.proofs.plans.room.Tie as tie
 
-header-requires : tie.Need-header-requires
-header-requires c κs = search needs
-
 sub-most : tie.Need-sub-most
 sub-most c = let g = c .before .before .args .g in omega (arith, cases.fitted g (c .before .before .pre .0) .room)
 
@@ -19,15 +16,6 @@ returns c =
     let ok = cases.fitted g (c .before .before .before .before .pre .0) in
     let e = cases.S-none g (a .l) (c .if1 .taken) in
     (omega (arith, e), omega (arith, ok .room), omega (arith, ok .mtu-most))
-
-chunks-requires : tie.Need-chunks-requires
-chunks-requires c κs = search needs
-
-mul-share : tie.Need-mul-share
-mul-share c = search needs
-
-divided-requires : tie.Need-divided-requires
-divided-requires c κs = search needs
 
 div-share : tie.Need-div-share
 div-share c =
@@ -57,6 +45,18 @@ returns-3 c =
     let e = cases.S-room g (a .l) _ _ (c .before .before .before .if1 .left) (c .before .before .chunks .ensures .0)
     (c .before .divided .ensures) (omega arith) in
     (omega (arith, e), omega (arith, ok .room), omega (arith, ok .mtu-most))
+
+header-requires : tie.Need-header-requires
+header-requires c κs = search needs
+
+chunks-requires : tie.Need-chunks-requires
+chunks-requires c κs = search needs
+
+mul-share : tie.Need-mul-share
+mul-share c = search needs
+
+divided-requires : tie.Need-divided-requires
+divided-requires c κs = search needs
 
 pub room-spec : {M : Type 1} → statement M
 room-spec =

@@ -5,6 +5,10 @@ use Rattle.base_rules.specs.Round.{ceil}
 use Rattle.cut.proofs.plans.round_up.Statement.{statement}
 use Rattle.cut.proofs.plans.round_up.Tie as tie
 
+returns : tie.Need-returns
+unfolding ceil
+returns c = refl
+
 sub-result : tie.Need-sub-result
 sub-result c = search needs
 
@@ -13,10 +17,6 @@ add-result c = search needs
 
 div-result : tie.Need-div-result
 div-result c = search needs
-
-returns : tie.Need-returns
-unfolding ceil
-returns c = refl
 
 pub round-up-spec : {M : Type 1} → statement M
 round-up-spec = tie.close (tie.spec sub-result add-result div-result returns)

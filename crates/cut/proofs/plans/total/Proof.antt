@@ -10,15 +10,6 @@ use Rattle.cut_rules.specs.Sizes as size
 use Rattle.cut_rules.proofs.PlanCases as cases
 use Rattle.cut.proofs.plans.total.Tie as tie
 
-chunks-requires : tie.Need-chunks-requires
-chunks-requires c κs = search needs
-
-per-chunk-requires : tie.Need-per-chunk-requires
-per-chunk-requires c κs = search needs
-
-add-result : tie.Need-add-result
-add-result c = search needs
-
 mul-result : tie.Need-mul-result
 mul-result c = let a : c .before .chunks .result ≤ most-l = omega arith in
     let b : c .per-chunk .result + parity ≤ most-k + parity = omega arith in
@@ -41,6 +32,15 @@ returns-2 c =
     let g = a .g in
     let l = a .l in
     (sym (cases.L-plain g l (c .if1 .left)), omega arith, omega arith)
+
+chunks-requires : tie.Need-chunks-requires
+chunks-requires c κs = search needs
+
+per-chunk-requires : tie.Need-per-chunk-requires
+per-chunk-requires c κs = search needs
+
+add-result : tie.Need-add-result
+add-result c = search needs
 
 pub total-spec : {M : Type 1} → statement M
 total-spec =

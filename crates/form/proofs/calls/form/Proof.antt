@@ -25,9 +25,6 @@ free : (c : tie.Else1) → (badPlace (c .before .before .before .before .args .p
 free c =
     fault-free (c .before .before .before .before .args .p) _ _ (sym (none-due c))
 
-form-fault-requires : tie.Need-form-fault-requires
-form-fault-requires c κs = search needs
-
 returns : tie.Need-returns
 returns c =
     let a = c .before .before .before .before .args in
@@ -49,6 +46,9 @@ hand-out-requires c κs =
     let known = free (c .before .before .before) in
     let enough = told (c .before .before .enough-in .ensures) (not-false (c .before .before .enough-in .result) (c .before .if2 .left)) in
     (record { ranged = known .0; suffice = enough; room = known .1 }, known .2)
+
+form-fault-requires : tie.Need-form-fault-requires
+form-fault-requires c κs = search needs
 
 same-length : tie.Need-same-length
 same-length c = search needs

@@ -5,9 +5,6 @@ use borrow.Author.Needs.{needs}
 use Rattle.form.proofs.calls.form_fault.Statement.{statement}
 use Rattle.form.proofs.calls.form_fault.Tie as tie
 
-bad-place-requires : tie.Need-bad-place-requires
-bad-place-requires c κs = search needs
-
 returns : tie.Need-returns
 returns c = let a = c .before .before .args in fault-14 (a .p) (a .held) (a .room) (told (c .before .bad-place .ensures) (c .if1 .taken))
 
@@ -25,6 +22,9 @@ returns-4 : tie.Need-returns-4
 returns-4 c =
     let a = c .before .before .before .before .args in fault-none (a .p) (a .held) (a .room)
     (told (c .before .before .before .bad-place .ensures) (c .before .before .if1 .left)) (c .before .if2 .left) (c .if3 .left)
+
+bad-place-requires : tie.Need-bad-place-requires
+bad-place-requires c κs = search needs
 
 pub form-fault-spec : {M : Type 1} → statement M
 form-fault-spec = tie.close (tie.spec bad-place-requires returns returns-2 returns-3 returns-4)

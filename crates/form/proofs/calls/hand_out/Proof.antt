@@ -28,26 +28,14 @@ one c =
 long : (c : tie.After-known-told) → c .before .n .given .0 .0 ≡ length (bytes c)
 long c = sym (length-take-le _ _ (one c .0))
 
-slice-aggregate-propose : tie.Need-slice-aggregate-propose
-slice-aggregate-propose c = search needs
-
-propose-requires : tie.Need-propose-requires
-propose-requires c κs = search needs
-
 enum-told : tie.Need-enum-told
 enum-told c = search needs
-
-enum-known-n : tie.Need-enum-known-n
-enum-known-n c = search needs
 
 array-share-prefix-buffer : tie.Need-array-share-prefix-buffer
 array-share-prefix-buffer c = one c .0
 
 slice-aggregate-accepted : tie.Need-slice-aggregate-accepted
 slice-aggregate-accepted c = long (c .before)
-
-accepted-requires : tie.Need-accepted-requires
-accepted-requires c κs = search needs
 
 returns : tie.Need-returns
 returns c =
@@ -63,9 +51,6 @@ array-share-prefix-buffer-2 c = one (c .before .before .before .before) .0
 slice-aggregate-put : tie.Need-slice-aggregate-put
 slice-aggregate-put c = long (c .before .before .before .before .before)
 
-put-requires : tie.Need-put-requires
-put-requires c κs = search needs
-
 missing-in-requires : tie.Need-missing-in-requires
 missing-in-requires c κs =
     let A = c .before .before .before .before .before .before .before .before .before .before .before .before .before .before .before .before .args in
@@ -80,9 +65,6 @@ returns-2 c =
     let none = subst (Proposal (s .args .p) (s .args .held .now) (Propose .last .1 .1 .0)) (c .enum-told .given .1) (Propose .ensures .0) in
     form-nothing (s .args .p) (s .args .held .now) (s .args .out .now) (s .pre .0) (s .pre .1) none
 
-same-length : tie.Need-same-length
-same-length c = search needs
-
 returns-3 : tie.Need-returns-3
 returns-3 c =
     let Before = c .before .before .before .before .before .before .before .before .before .before .before .before .before .before .before
@@ -95,6 +77,24 @@ returns-3 c =
     form-packet (s .args .p) (s .args .held .now) (s .args .out .now) (s .pre .0) (s .pre .1) _ (one (Before') .1)
     (told (asked .ensures) (not-false (asked .result) (If1 .left))) _ _ _ _ (long (Before')) (c .missing-in .ensures)
     (c .before .before .before .put .ensures)
+
+slice-aggregate-propose : tie.Need-slice-aggregate-propose
+slice-aggregate-propose c = search needs
+
+propose-requires : tie.Need-propose-requires
+propose-requires c κs = search needs
+
+enum-known-n : tie.Need-enum-known-n
+enum-known-n c = search needs
+
+accepted-requires : tie.Need-accepted-requires
+accepted-requires c κs = search needs
+
+put-requires : tie.Need-put-requires
+put-requires c κs = search needs
+
+same-length : tie.Need-same-length
+same-length c = search needs
 
 pub hand-out-spec : {M : Type 1} → statement M
 hand-out-spec =

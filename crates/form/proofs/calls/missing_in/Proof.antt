@@ -18,24 +18,9 @@ Inv-loop f kept missing₀ i₀ missing i = (i ≤ f) × (missing ≤ i) × (mis
 abbrev μ-loop : tie.MeasureT-loop
 μ-loop f kept missing₀ i₀ missing i = f - i
 
-cast-count : tie.Need-cast-count Inv-loop μ-loop
-cast-count c = search needs
-
 loop-holds : tie.Need-loop-holds Inv-loop μ-loop
 unfolding count
 loop-holds c = (omega arith, omega arith, refl)
-
-array-read-if1 : tie.Need-array-read-if1 Inv-loop μ-loop
-array-read-if1 c = search needs
-
-add-missing : tie.Need-add-missing Inv-loop μ-loop
-add-missing c = search needs
-
-add-i : tie.Need-add-i Inv-loop μ-loop
-add-i c = search needs
-
-loop-less : tie.Need-loop-less Inv-loop μ-loop
-loop-less c = search needs
 
 loop-again : tie.Need-loop-again Inv-loop μ-loop
 loop-again c =
@@ -52,6 +37,21 @@ unfolding missingIn losses
 returns c =
     let e : c .before .loop .i ≡ c .before .before .before .before .args .p .count = omega arith in
     c .before .loop .inv .2 ∙ ap (λ (n : ℕ). count (notKept (c .before .before .before .before .args .p .kept)) 0 n) e
+
+cast-count : tie.Need-cast-count Inv-loop μ-loop
+cast-count c = search needs
+
+array-read-if1 : tie.Need-array-read-if1 Inv-loop μ-loop
+array-read-if1 c = search needs
+
+add-missing : tie.Need-add-missing Inv-loop μ-loop
+add-missing c = search needs
+
+add-i : tie.Need-add-i Inv-loop μ-loop
+add-i c = search needs
+
+loop-less : tie.Need-loop-less Inv-loop μ-loop
+loop-less c = search needs
 
 pub missing-in-spec : {M : Type 1} → statement M
 missing-in-spec =

@@ -24,41 +24,11 @@ known c r is =
     let size : length (Deinterleave .last .1 .1 .1 .0) ≡ place = search needs in
     laws.decoding _ _ (Fill .result) (P .0) (P .1) (search needs) size (Deinterleave .ensures) (Fill .ensures) is
 
-cast-f : tie.Need-cast-f
-cast-f c = search needs
-
-cast-s : tie.Need-cast-s
-cast-s c = search needs
-
-cast-k : tie.Need-cast-k
-cast-k c = search needs
-
-slice-aggregate-deinterleave : tie.Need-slice-aggregate-deinterleave
-slice-aggregate-deinterleave c = search needs
-
-deinterleave-requires : tie.Need-deinterleave-requires
-deinterleave-requires c κs = search needs
-
-slice-aggregate-fill : tie.Need-slice-aggregate-fill
-slice-aggregate-fill c = search needs
-
-fill-requires : tie.Need-fill-requires
-fill-requires c κs = search needs
-
 enum-told : tie.Need-enum-told
 enum-told c = search needs
 
 mul-c : tie.Need-mul-c
 mul-c c = omega (arith, laws.figured (known (c .before .before) Done (c .enum-told .given .1)) .placed)
-
-add-c : tie.Need-add-c
-add-c c = search needs
-
-div-c : tie.Need-div-c
-div-c c = search needs
-
-slice-aggregate-gather : tie.Need-slice-aggregate-gather
-slice-aggregate-gather c = search needs
 
 gather-requires : tie.Need-gather-requires
 unfolding receivedC
@@ -72,9 +42,6 @@ unfolding receivedC
 mul-l c =
     let Before = c .before .before .before .before .before .before .before in
     omega (arith, laws.chunks-room (known (Before) Done (c .before .before .before .before .before .enum-told .given .1)) .1)
-
-cast-l : tie.Need-cast-l
-cast-l c = search needs
 
 sub-l : tie.Need-sub-l
 unfolding receivedC
@@ -90,12 +57,6 @@ mul-all-zero c =
     let Enum-told = c .before .before .before .before .before .before .enum-told in
     omega (arith, laws.chunks-room (known (Before) Done (Enum-told .given .1)) .1)
 
-sub-all-zero : tie.Need-sub-all-zero
-sub-all-zero c = search needs
-
-part-all-zero-start : tie.Need-part-all-zero-start
-part-all-zero-start c = search needs
-
 part-all-zero-end : tie.Need-part-all-zero-end
 unfolding receivedC
 part-all-zero-end c =
@@ -107,12 +68,6 @@ part-all-zero-end c =
     let Enum-told = c .before .before .before .before .before .before .before .enum-told in
     let d = known (Before) Done (Enum-told .given .1) in
     omega (arith, laws.chunks-room d .1, laws.result-room d (A .buffer .now) _ (P .2) (c .before .before .before .before .gather .ensures))
-
-all-zero-requires : tie.Need-all-zero-requires
-all-zero-requires c κs = search needs
-
-same-length : tie.Need-same-length
-same-length c = search needs
 
 returns : tie.Need-returns
 unfolding receivedC
@@ -129,18 +84,6 @@ returns c =
       laws.proposes d buffer _ (P .2) (Gather .ensures) (c .before .all-zero .ensures .0 (c .if1 .taken)),
       laws.result-room d buffer _ (P .2) (Gather .ensures),
     )
-
-enum-told-2 : tie.Need-enum-told-2
-enum-told-2 c = search needs
-
-enum-told-3 : tie.Need-enum-told-3
-enum-told-3 c = search needs
-
-enum-told-4 : tie.Need-enum-told-4
-enum-told-4 c = search needs
-
-same-length-2 : tie.Need-same-length-2
-same-length-2 c = search needs
 
 returns-2 : tie.Need-returns-2
 unfolding receivedC
@@ -172,6 +115,63 @@ returns-5 : tie.Need-returns-5
 returns-5 c =
     let P = c .before .before .before .before .before .before .before .before .before .before .before .before .before .before .pre in
     (laws.refused-agrees (known (c .before .before) (Refused _) (c .enum-told4 .given .1)), P .2)
+
+cast-f : tie.Need-cast-f
+cast-f c = search needs
+
+cast-s : tie.Need-cast-s
+cast-s c = search needs
+
+cast-k : tie.Need-cast-k
+cast-k c = search needs
+
+slice-aggregate-deinterleave : tie.Need-slice-aggregate-deinterleave
+slice-aggregate-deinterleave c = search needs
+
+deinterleave-requires : tie.Need-deinterleave-requires
+deinterleave-requires c κs = search needs
+
+slice-aggregate-fill : tie.Need-slice-aggregate-fill
+slice-aggregate-fill c = search needs
+
+fill-requires : tie.Need-fill-requires
+fill-requires c κs = search needs
+
+add-c : tie.Need-add-c
+add-c c = search needs
+
+div-c : tie.Need-div-c
+div-c c = search needs
+
+slice-aggregate-gather : tie.Need-slice-aggregate-gather
+slice-aggregate-gather c = search needs
+
+cast-l : tie.Need-cast-l
+cast-l c = search needs
+
+sub-all-zero : tie.Need-sub-all-zero
+sub-all-zero c = search needs
+
+part-all-zero-start : tie.Need-part-all-zero-start
+part-all-zero-start c = search needs
+
+all-zero-requires : tie.Need-all-zero-requires
+all-zero-requires c κs = search needs
+
+same-length : tie.Need-same-length
+same-length c = search needs
+
+enum-told-2 : tie.Need-enum-told-2
+enum-told-2 c = search needs
+
+enum-told-3 : tie.Need-enum-told-3
+enum-told-3 c = search needs
+
+enum-told-4 : tie.Need-enum-told-4
+enum-told-4 c = search needs
+
+same-length-2 : tie.Need-same-length-2
+same-length-2 c = search needs
 
 pub decode-spec : {M : Type 1} → statement M
 decode-spec =

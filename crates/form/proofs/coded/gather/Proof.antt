@@ -36,12 +36,6 @@ add-put c =
           (c .before .loop-test .taken) .0,
     )
 
-sub-put : tie.Need-sub-put Inv-loop μ-loop
-sub-put c = search needs
-
-part-put-start : tie.Need-part-put-start Inv-loop μ-loop
-part-put-start c = search needs
-
 part-put-end : tie.Need-part-put-end Inv-loop μ-loop
 part-put-end c =
     let L = c .before .before .loop in
@@ -49,9 +43,6 @@ part-put-end c =
     let p = c .before .before .before .before .before .pre in
     let inv = L .inv in
     omega (arith, inv .1, gathering.starts (a .cells .now) (a .buffer .now) (a .k) (a .c) (p .0) (p .1) (L .counter) (c .before .loop-test .taken) .0)
-
-put-requires : tie.Need-put-requires Inv-loop μ-loop
-put-requires c κs = search needs
 
 add-from : tie.Need-add-from Inv-loop μ-loop
 add-from c =
@@ -137,6 +128,15 @@ returns c =
     let a = c .before .before .before .before .args in
     let inv = L .inv in
     gathering.gathered-all (a .cells .now) (a .buffer .now) (L .buffer) (a .k) (L .counter) (a .c) (inv .0) (c .loop-test .left) (inv .3)
+
+sub-put : tie.Need-sub-put Inv-loop μ-loop
+sub-put c = search needs
+
+part-put-start : tie.Need-part-put-start Inv-loop μ-loop
+part-put-start c = search needs
+
+put-requires : tie.Need-put-requires Inv-loop μ-loop
+put-requires c κs = search needs
 
 pub gather-spec : {M : Type 1} → statement M
 gather-spec =

@@ -7,20 +7,11 @@ use borrow.Author.Needs.{needs}
 use Rattle.form.proofs.plain.before_last.Statement.{statement}
 use Rattle.form.proofs.plain.before_last.Tie as tie
 
-cast-count : tie.Need-cast-count
-cast-count c = search needs
-
 returns : tie.Need-returns
 returns c =
     let p = c .before .before .args .p in
     let e : p .count - 1 ≡ 0 = omega (arith, c .if1 .taken) in
     front-none p (c .before .before .pre) e
-
-sub-result : tie.Need-sub-result
-sub-result c = search needs
-
-cast-result : tie.Need-cast-result
-cast-result c = search needs
 
 mul-result : tie.Need-mul-result
 mul-result c =
@@ -29,6 +20,15 @@ mul-result c =
 returns-2 : tie.Need-returns-2
 returns-2 c =
     (refl, front-fits (c .before .before .before .args .p) (c .before .before .before .pre))
+
+cast-count : tie.Need-cast-count
+cast-count c = search needs
+
+sub-result : tie.Need-sub-result
+sub-result c = search needs
+
+cast-result : tie.Need-cast-result
+cast-result c = search needs
 
 pub before-last-spec : {M : Type 1} → statement M
 before-last-spec =

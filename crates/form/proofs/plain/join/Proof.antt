@@ -7,16 +7,30 @@ use borrow.Author.Needs.{needs}
 use Rattle.form.proofs.plain.join.Statement.{statement}
 use Rattle.form.proofs.plain.join.Tie as tie
 
+slice-aggregate-put : tie.Need-slice-aggregate-put
+slice-aggregate-put c =
+    let A = c .before .before .before .before .before .before .args in
+    sym (length-take-le _ (A .held .now) (omega (arith, c .before .before .before .before-last .ensures .1)))
+
+returns : tie.Need-returns
+returns c =
+    let Before = c .before .before .before .before .before .before .before .before .before .before .before .before .before .before in
+    let Before-last = c .before .before .before .before .before .before .before .before .before .before .before .before-last in
+    let Put = c .before .before .before .before .before .before .before .put in
+    let s = Before in
+    let p = s .args .p in
+    let held = s .args .held .now in
+    let front = Before-last .ensures in (
+      joined-length p held (s .pre .1) _ front,
+      joined-put p held (s .pre .1) _ front (s .args .buffer .now) _ _ _ _ (s .pre .2) (Put .ensures)
+          (c .before .before .put2 .ensures),
+    )
+
 before-last-requires : tie.Need-before-last-requires
 before-last-requires c κs = search needs
 
 cast-last : tie.Need-cast-last
 cast-last c = search needs
-
-slice-aggregate-put : tie.Need-slice-aggregate-put
-slice-aggregate-put c =
-    let A = c .before .before .before .before .before .before .args in
-    sym (length-take-le _ (A .held .now) (omega (arith, c .before .before .before .before-last .ensures .1)))
 
 put-requires : tie.Need-put-requires
 put-requires c κs = search needs
@@ -41,20 +55,6 @@ add-result c = search needs
 
 same-length : tie.Need-same-length
 same-length c = search needs
-
-returns : tie.Need-returns
-returns c =
-    let Before = c .before .before .before .before .before .before .before .before .before .before .before .before .before .before in
-    let Before-last = c .before .before .before .before .before .before .before .before .before .before .before .before-last in
-    let Put = c .before .before .before .before .before .before .before .put in
-    let s = Before in
-    let p = s .args .p in
-    let held = s .args .held .now in
-    let front = Before-last .ensures in (
-      joined-length p held (s .pre .1) _ front,
-      joined-put p held (s .pre .1) _ front (s .args .buffer .now) _ _ _ _ (s .pre .2) (Put .ensures)
-          (c .before .before .put2 .ensures),
-    )
 
 pub join-spec : {M : Type 1} → statement M
 join-spec =

@@ -6,14 +6,14 @@ use Rattle.header_rules.proofs.Fields.{at-fec, at-plain}
 use Rattle.header.proofs.reading.address_at.Statement.{statement}
 use Rattle.header.proofs.reading.address_at.Tie as tie
 
-has-fec-requires : tie.Need-has-fec-requires
-has-fec-requires c κs = search needs
-
 returns : tie.Need-returns
 returns c = (at-fec _ (told (c .before .has-fec .ensures) (c .if1 .taken)), lit≤ tt, lit≤ tt)
 
 returns-2 : tie.Need-returns-2
 returns-2 c = (at-plain _ (told (c .before .has-fec .ensures) (c .if1 .left)), lit≤ tt, lit≤ tt)
+
+has-fec-requires : tie.Need-has-fec-requires
+has-fec-requires c κs = search needs
 
 pub address-at-spec : {M : Type 1} → statement M
 address-at-spec = tie.close (tie.spec has-fec-requires returns returns-2)

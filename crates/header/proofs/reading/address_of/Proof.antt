@@ -5,6 +5,15 @@ use Rattle.header_rules.proofs.Fields.{address-there, address-none}
 use Rattle.header.proofs.reading.address_of.Statement.{statement}
 use Rattle.header.proofs.reading.address_of.Tie as tie
 
+returns : tie.Need-returns
+returns c =
+    let Address-at = c .before .before .address-at in
+    address-there _ (Address-at .result) _ _ (told (c .before .before .before .before .has-address .ensures)
+    (c .before .before .before .if1 .taken)) (Address-at .ensures .0) (c .before .read2 .ensures) (c .read22 .ensures)
+
+returns-2 : tie.Need-returns-2
+returns-2 c = address-none _ (told (c .before .has-address .ensures) (c .if1 .left))
+
 has-address-requires : tie.Need-has-address-requires
 has-address-requires c κs = search needs
 
@@ -19,15 +28,6 @@ add-read2 c = search needs
 
 read2-requires-2 : tie.Need-read2-requires-2
 read2-requires-2 c κs = search needs
-
-returns : tie.Need-returns
-returns c =
-    let Address-at = c .before .before .address-at in
-    address-there _ (Address-at .result) _ _ (told (c .before .before .before .before .has-address .ensures)
-    (c .before .before .before .if1 .taken)) (Address-at .ensures .0) (c .before .read2 .ensures) (c .read22 .ensures)
-
-returns-2 : tie.Need-returns-2
-returns-2 c = address-none _ (told (c .before .has-address .ensures) (c .if1 .left))
 
 pub address-of-spec : {M : Type 1} → statement M
 address-of-spec =

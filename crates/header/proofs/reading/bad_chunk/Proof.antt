@@ -12,12 +12,6 @@ returns-2 c =
     let A = c .before .before .args in
     chunk-over (A .f) (A .s) (A .k) (A .z) (c .before .if1 .left) (c .if2 .taken)
 
-mul-if3 : tie.Need-mul-if3
-mul-if3 c = search needs
-
-add-if3 : tie.Need-add-if3
-add-if3 c = search needs
-
 returns-3 : tie.Need-returns-3
 returns-3 c =
     let A = c .before .before .before .args in
@@ -27,6 +21,12 @@ returns-4 : tie.Need-returns-4
 returns-4 c =
     let A = c .before .before .before .args in
     chunk-rest (A .f) (A .s) (A .k) (A .z) (c .before .before .if1 .left) (c .before .if2 .left) (c .if3 .left)
+
+mul-if3 : tie.Need-mul-if3
+mul-if3 c = search needs
+
+add-if3 : tie.Need-add-if3
+add-if3 c = search needs
 
 pub bad-chunk-spec : {M : Type 1} → statement M
 bad-chunk-spec = tie.close (tie.spec returns returns-2 mul-if3 add-if3 returns-3 returns-4)

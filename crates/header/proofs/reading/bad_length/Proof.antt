@@ -7,6 +7,9 @@ use Rattle.header.proofs.reading.bad_length.Tie as tie
 returns : tie.Need-returns
 returns c = length-none _ (c .before .before .before .args .h) (c .if1 .taken)
 
+returns-2 : tie.Need-returns-2
+returns-2 c = length-rest _ _ (c .before .body-length .ensures .0) (c .before .before .before .before .before .args .h) (c .before .before .if1 .left)
+
 body-length-requires : tie.Need-body-length-requires
 body-length-requires c κs = search needs
 
@@ -18,9 +21,6 @@ cast-result c = search needs
 
 add-result-2 : tie.Need-add-result-2
 add-result-2 c = search needs
-
-returns-2 : tie.Need-returns-2
-returns-2 c = length-rest _ _ (c .before .body-length .ensures .0) (c .before .before .before .before .before .args .h) (c .before .before .if1 .left)
 
 pub bad-length-spec : {M : Type 1} → statement M
 bad-length-spec =

@@ -8,12 +8,6 @@ use Rattle.header_rules.proofs.Fields.{size-over, size-fec, size-plain}
 use Rattle.header.proofs.reading.bad_size.Statement.{statement}
 use Rattle.header.proofs.reading.bad_size.Tie as tie
 
-cast-f : tie.Need-cast-f
-cast-f c = search needs
-
-cast-s : tie.Need-cast-s
-cast-s c = search needs
-
 mul-if1 : tie.Need-mul-if1
 mul-if1 c =
     let h = c .before .before .args .h in
@@ -22,12 +16,6 @@ mul-if1 c =
 
 returns : tie.Need-returns
 returns c = size-over (c .before .before .before .args .h) (c .if1 .taken)
-
-cast-bad-chunk : tie.Need-cast-bad-chunk
-cast-bad-chunk c = search needs
-
-cast-bad-chunk-2 : tie.Need-cast-bad-chunk-2
-cast-bad-chunk-2 c = search needs
 
 bad-chunk-requires : tie.Need-bad-chunk-requires
 bad-chunk-requires c κs = c .before .before .before .if1 .left
@@ -39,6 +27,18 @@ returns-2 c =
 
 returns-3 : tie.Need-returns-3
 returns-3 c = size-plain (c .before .before .before .before .args .h) (c .before .if1 .left) (c .if2 .left)
+
+cast-f : tie.Need-cast-f
+cast-f c = search needs
+
+cast-s : tie.Need-cast-s
+cast-s c = search needs
+
+cast-bad-chunk : tie.Need-cast-bad-chunk
+cast-bad-chunk c = search needs
+
+cast-bad-chunk-2 : tie.Need-cast-bad-chunk-2
+cast-bad-chunk-2 c = search needs
 
 pub bad-size-spec : {M : Type 1} → statement M
 bad-size-spec =

@@ -57,16 +57,10 @@ on-8 c e =
     let Fields-of = c .before .before .before .before .before .before .fields-of in
     on-7 (c .before .before) (skip 7 _ (checks.told-by badIndex (Fields-of .ensures) (c .before .bad-index .ensures) (c .if6 .left)) e)
 
-is-short-requires : tie.Need-is-short-requires
-is-short-requires c κs = search needs
-
 returns : tie.Need-returns
 returns c =
     let A = c .before .before .before .args in
     due 2 _ (told (c .before .is-short .ensures) (c .if1 .taken)) ∙ checks.in-order (A .own) (A .s .now)
-
-read2-requires : tie.Need-read2-requires
-read2-requires c κs = search needs
 
 returns-2 : tie.Need-returns-2
 returns-2 c = on-3 (c .before .before) (due 3 _ (checks.other-sync _ _ (c .before .read2 .ensures) (c .if2 .taken)))
@@ -77,27 +71,15 @@ bad-crc-requires c κs = checks.short-from _ (told (c .before .before .before .i
 returns-3 : tie.Need-returns-3
 returns-3 c = on-4 (c .before .before) (due 4 _ (told (c .before .bad-crc .ensures) (c .if3 .taken)))
 
-fields-of-requires : tie.Need-fields-of-requires
-fields-of-requires c κs = search needs
-
-bad-length-requires : tie.Need-bad-length-requires
-bad-length-requires c κs = search needs
-
 returns-4 : tie.Need-returns-4
 returns-4 c =
     on-5 (c .before .before .before) (due 5 _ (checks.told-by (badLength _) (c .before .before .fields-of .ensures)
     (c .before .bad-length .ensures) (c .if4 .taken)))
 
-bad-address-requires : tie.Need-bad-address-requires
-bad-address-requires c κs = search needs
-
 returns-5 : tie.Need-returns-5
 returns-5 c =
     on-6 (c .before .before) (due 6 _ (checks.address-told _ _ _ (c .before .before .before .before .fields-of .ensures)
     (c .before .bad-address .ensures) (c .if5 .taken)))
-
-bad-index-requires : tie.Need-bad-index-requires
-bad-index-requires c κs = search needs
 
 returns-6 : tie.Need-returns-6
 returns-6 c =
@@ -116,6 +98,24 @@ returns-8 : tie.Need-returns-8
 returns-8 c =
     let Fields-of = c .before .before .before .before .before .before .before .before .fields-of in
     on-8 (c .before .before) (skip 8 _ (checks.told-by badSize (Fields-of .ensures) (c .before .bad-size .ensures) (c .if7 .left)) none-due)
+
+is-short-requires : tie.Need-is-short-requires
+is-short-requires c κs = search needs
+
+read2-requires : tie.Need-read2-requires
+read2-requires c κs = search needs
+
+fields-of-requires : tie.Need-fields-of-requires
+fields-of-requires c κs = search needs
+
+bad-length-requires : tie.Need-bad-length-requires
+bad-length-requires c κs = search needs
+
+bad-address-requires : tie.Need-bad-address-requires
+bad-address-requires c κs = search needs
+
+bad-index-requires : tie.Need-bad-index-requires
+bad-index-requires c κs = search needs
 
 pub fault-spec : {M : Type 1} → statement M
 fault-spec =

@@ -6,13 +6,13 @@ use lib.ListN.{getD}
 use Rattle.header.proofs.reading.rs_byte.Statement.{statement}
 use Rattle.header.proofs.reading.rs_byte.Tie as tie
 
-byte-at-requires : tie.Need-byte-at-requires
-byte-at-requires c κs = search needs
-
 returns : tie.Need-returns
 returns c =
     let A = c .before .before .before .args in
     c .byte-at .ensures ∙ ap (λ (b : Bool). cond b (getD (A .s .now) (A .i) 0) 0) (sym (c .before .if1 .taken))
+
+byte-at-requires : tie.Need-byte-at-requires
+byte-at-requires c κs = search needs
 
 returns-2 : tie.Need-returns-2
 returns-2 c = search needs

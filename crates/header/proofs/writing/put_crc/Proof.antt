@@ -7,11 +7,19 @@ use Rattle.header_rules.proofs.Lays.{crc-laid}
 use Rattle.header.proofs.writing.put_crc.Statement.{statement}
 use Rattle.header.proofs.writing.put_crc.Tie as tie
 
-slice-reshare-prefix-word : tie.Need-slice-reshare-prefix-word
-slice-reshare-prefix-word c = search needs
-
 slice-aggregate-word : tie.Need-slice-aggregate-word
 slice-aggregate-word c = sym (length-take-le _ (c .before .before .args .out .now) (omega arith))
+
+returns : tie.Need-returns
+returns c =
+    let Before = c .before .before .before .before .before .before .before .before .before in
+    let Word = c .before .before .before .before .before .before .word in
+    let start = Before in
+    crc-laid (start .args .out .now) _ _ (start .args .at) _ _ (Word .ensures) (c .before .before .before .before .bytes2 .ensures)
+    (start .pre .1) (c .before .before .put .ensures)
+
+slice-reshare-prefix-word : tie.Need-slice-reshare-prefix-word
+slice-reshare-prefix-word c = search needs
 
 word-requires : tie.Need-word-requires
 word-requires c κs = search needs
@@ -27,14 +35,6 @@ put-requires c κs = search needs
 
 same-length : tie.Need-same-length
 same-length c = search needs
-
-returns : tie.Need-returns
-returns c =
-    let Before = c .before .before .before .before .before .before .before .before .before in
-    let Word = c .before .before .before .before .before .before .word in
-    let start = Before in
-    crc-laid (start .args .out .now) _ _ (start .args .at) _ _ (Word .ensures) (c .before .before .before .before .bytes2 .ensures)
-    (start .pre .1) (c .before .before .put .ensures)
 
 pub put-crc-spec : {M : Type 1} → statement M
 put-crc-spec =

@@ -4,6 +4,25 @@ use Rattle.header_rules.proofs.Lays.{front-laid}
 use Rattle.header.proofs.writing.put_front.Statement.{statement}
 use Rattle.header.proofs.writing.put_front.Tie as tie
 
+returns : tie.Need-returns
+returns c =
+    let last = c .before .before in
+    let count = last .before .before .before .before .before .before .before in
+    let index = count .before .before .before .before .before .before in
+    let number = index .before .before .before .before .before .before in
+    let sync = number .before .before .before .before .before .before in
+    let start = sync .before .before .before .before in
+    front-laid (start .args .h) (start .args .out .now) _ _ _ _ _ _ _ _ _ _ _ _ _ _ _ (start .pre) (number .before .before .bytes2 .ensures)
+    (index .before .before .bytes3 .ensures)
+    (count .before .before .bytes32 .ensures)
+    (last .before .before .bytes22 .ensures)
+    (last .before .before .before .flags .ensures)
+    (sync .put .ensures)
+    (number .put2 .ensures)
+    (index .put3 .ensures)
+    (count .put4 .ensures)
+    (last .put5 .ensures)
+
 slice-aggregate-put : tie.Need-slice-aggregate-put
 slice-aggregate-put c = search needs
 
@@ -51,25 +70,6 @@ put-requires-5 c κs = search needs
 
 same-length : tie.Need-same-length
 same-length c = search needs
-
-returns : tie.Need-returns
-returns c =
-    let last = c .before .before in
-    let count = last .before .before .before .before .before .before .before in
-    let index = count .before .before .before .before .before .before in
-    let number = index .before .before .before .before .before .before in
-    let sync = number .before .before .before .before .before .before in
-    let start = sync .before .before .before .before in
-    front-laid (start .args .h) (start .args .out .now) _ _ _ _ _ _ _ _ _ _ _ _ _ _ _ (start .pre) (number .before .before .bytes2 .ensures)
-    (index .before .before .bytes3 .ensures)
-    (count .before .before .bytes32 .ensures)
-    (last .before .before .bytes22 .ensures)
-    (last .before .before .before .flags .ensures)
-    (sync .put .ensures)
-    (number .put2 .ensures)
-    (index .put3 .ensures)
-    (count .put4 .ensures)
-    (last .put5 .ensures)
 
 pub put-front-spec : {M : Type 1} → statement M
 put-front-spec =

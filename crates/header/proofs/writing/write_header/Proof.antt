@@ -7,28 +7,10 @@ use Rattle.header_rules.proofs.Lays.{fec-most, address-most, header-laid, heade
 use Rattle.header.proofs.writing.write_header.Statement.{statement}
 use Rattle.header.proofs.writing.write_header.Tie as tie
 
-slice-aggregate-put-front : tie.Need-slice-aggregate-put-front
-slice-aggregate-put-front c = search needs
-
-put-front-requires : tie.Need-put-front-requires
-put-front-requires c κs = search needs
-
-slice-aggregate-put-fec : tie.Need-slice-aggregate-put-fec
-slice-aggregate-put-fec c = search needs
-
-put-fec-requires : tie.Need-put-fec-requires
-put-fec-requires c κs = search needs
-
-slice-aggregate-put-address : tie.Need-slice-aggregate-put-address
-slice-aggregate-put-address c = search needs
-
 put-address-requires : tie.Need-put-address-requires
 put-address-requires c κs =
     let h = c .before .before .before .before .before .before .before .before .args .h in
     (omega (arith, fec-most h), omega (arith, fec-most h))
-
-slice-aggregate-put-crc : tie.Need-slice-aggregate-put-crc
-slice-aggregate-put-crc c = search needs
 
 put-crc-requires : tie.Need-put-crc-requires
 put-crc-requires c κs =
@@ -50,12 +32,6 @@ slice-aggregate-put c =
     let h = c .before .before .before .before .before .before .before .before .before .before .before .before .before .before .before .args .h in
     sym (length-take-le _ _ (omega (arith, fec-most h, address-most (h .address))))
 
-put-requires : tie.Need-put-requires
-put-requires c κs = search needs
-
-same-length : tie.Need-same-length
-same-length c = search needs
-
 returns : tie.Need-returns
 returns c =
     let crc = c .before .before .before .before .before .before in
@@ -69,6 +45,30 @@ returns c =
     (address .put-address .ensures .0)
     (address .put-address .ensures .1)
     (crc .put-crc .ensures))
+
+slice-aggregate-put-front : tie.Need-slice-aggregate-put-front
+slice-aggregate-put-front c = search needs
+
+put-front-requires : tie.Need-put-front-requires
+put-front-requires c κs = search needs
+
+slice-aggregate-put-fec : tie.Need-slice-aggregate-put-fec
+slice-aggregate-put-fec c = search needs
+
+put-fec-requires : tie.Need-put-fec-requires
+put-fec-requires c κs = search needs
+
+slice-aggregate-put-address : tie.Need-slice-aggregate-put-address
+slice-aggregate-put-address c = search needs
+
+slice-aggregate-put-crc : tie.Need-slice-aggregate-put-crc
+slice-aggregate-put-crc c = search needs
+
+put-requires : tie.Need-put-requires
+put-requires c κs = search needs
+
+same-length : tie.Need-same-length
+same-length c = search needs
 
 pub write-header-spec : {M : Type 1} → statement M
 write-header-spec =

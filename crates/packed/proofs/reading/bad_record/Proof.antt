@@ -5,15 +5,9 @@ use Rattle.packed_rules.specs.Packed.{badRecord}
 use Rattle.packed.proofs.reading.bad_record.Statement.{statement}
 use Rattle.packed.proofs.reading.bad_record.Tie as tie
 
-bad-place-at-requires : tie.Need-bad-place-at-requires
-bad-place-at-requires c κs = search needs
-
 returns : tie.Need-returns
 unfolding badRecord
 returns c = rw (told (c .before .bad-place-at .ensures) (c .if1 .taken))
-
-bad-place-at-requires-2 : tie.Need-bad-place-at-requires-2
-bad-place-at-requires-2 c κs = search needs
 
 returns-2 : tie.Need-returns-2
 unfolding badRecord
@@ -23,12 +17,6 @@ returns-2 c =
       told (c .before .bad-place-at2 .ensures)
           (c .if2 .taken),
     )
-
-mul-bad-place-at : tie.Need-mul-bad-place-at
-mul-bad-place-at c = search needs
-
-bad-place-at-requires-3 : tie.Need-bad-place-at-requires-3
-bad-place-at-requires-3 c κs = search needs
 
 returns-3 : tie.Need-returns-3
 unfolding badRecord
@@ -40,12 +28,6 @@ returns-3 c =
       told (second .before .bad-place-at2 .ensures) (second .if2 .left),
       told (c .before .bad-place-at3 .ensures) (c .if3 .taken),
     )
-
-mul-bad-place-at-2 : tie.Need-mul-bad-place-at-2
-mul-bad-place-at-2 c = search needs
-
-bad-place-at-requires-4 : tie.Need-bad-place-at-requires-4
-bad-place-at-requires-4 c κs = search needs
 
 returns-4 : tie.Need-returns-4
 unfolding badRecord
@@ -59,6 +41,24 @@ returns-4 c =
       told (third .before .bad-place-at3 .ensures) (third .if3 .left),
       ← c .bad-place-at4 .ensures,
     )
+
+bad-place-at-requires : tie.Need-bad-place-at-requires
+bad-place-at-requires c κs = search needs
+
+bad-place-at-requires-2 : tie.Need-bad-place-at-requires-2
+bad-place-at-requires-2 c κs = search needs
+
+mul-bad-place-at : tie.Need-mul-bad-place-at
+mul-bad-place-at c = search needs
+
+bad-place-at-requires-3 : tie.Need-bad-place-at-requires-3
+bad-place-at-requires-3 c κs = search needs
+
+mul-bad-place-at-2 : tie.Need-mul-bad-place-at-2
+mul-bad-place-at-2 c = search needs
+
+bad-place-at-requires-4 : tie.Need-bad-place-at-requires-4
+bad-place-at-requires-4 c κs = search needs
 
 pub bad-record-spec : {M : Type 1} → statement M
 bad-record-spec =

@@ -28,9 +28,6 @@ add-kept c = omega arith
 shared-slice-read-kept : tie.Need-shared-slice-read-kept Inv-loop μ-loop
 shared-slice-read-kept c = omega arith
 
-array-write-kept : tie.Need-array-write-kept Inv-loop μ-loop
-array-write-kept c = search needs
-
 add-j : tie.Need-add-j Inv-loop μ-loop
 add-j c = omega arith
 
@@ -53,6 +50,9 @@ returns c =
     let d = c .before .loop in
     let all : d .j ≡ most-f = omega (arith, d .inv .0, c .loop-test .left) in
     filled-all (d .kept) _ (d .j) (omega arith) (d .inv .2) ∙ ap (λ (n : ℕ). map isSet (take n (drop (a .i) (a .s .now)))) all
+
+array-write-kept : tie.Need-array-write-kept Inv-loop μ-loop
+array-write-kept c = search needs
 
 pub flags-from-spec : {M : Type 1} → statement M
 flags-from-spec =

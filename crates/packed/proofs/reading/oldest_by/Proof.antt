@@ -8,14 +8,14 @@ use Rattle.packed.proofs.reading.oldest_by.Tie as tie
 returns : tie.Need-returns
 returns c = by-some (c .before .before .args .n) _ _ (c .if1 .taken)
 
+returns-2 : tie.Need-returns-2
+returns-2 c = c .byte-at .ensures ∙ by-none (c .before .before .before .args .n) _ _ (c .before .if1 .left)
+
 mul-byte-at : tie.Need-mul-byte-at
 mul-byte-at c = search needs
 
 byte-at-requires : tie.Need-byte-at-requires
 byte-at-requires c κs = search needs
-
-returns-2 : tie.Need-returns-2
-returns-2 c = c .byte-at .ensures ∙ by-none (c .before .before .before .args .n) _ _ (c .before .if1 .left)
 
 pub oldest-by-spec : {M : Type 1} → statement M
 oldest-by-spec = tie.close (tie.spec returns mul-byte-at byte-at-requires returns-2)

@@ -5,12 +5,6 @@ use Rattle.packed_rules.proofs.Unpacks.{by-none, by-some, free-first}
 use Rattle.packed.proofs.reading.place_by.Statement.{statement}
 use Rattle.packed.proofs.reading.place_by.Tie as tie
 
-fresh-requires : tie.Need-fresh-requires
-fresh-requires c κs = search needs
-
-place-at-requires : tie.Need-place-at-requires
-place-at-requires c κs = search needs
-
 returns : tie.Need-returns
 returns c =
     c .place-at .ensures ∙ free-first _ (c .before .fresh .ensures)
@@ -21,6 +15,12 @@ place-from-requires c κs = c .before .before .pre (c .if1 .left)
 
 returns-2 : tie.Need-returns-2
 returns-2 c = c .place-from .ensures ∙ by-none (c .before .before .before .args .n) _ _ (c .before .if1 .left)
+
+fresh-requires : tie.Need-fresh-requires
+fresh-requires c κs = search needs
+
+place-at-requires : tie.Need-place-at-requires
+place-at-requires c κs = search needs
 
 pub place-by-spec : {M : Type 1} → statement M
 place-by-spec =

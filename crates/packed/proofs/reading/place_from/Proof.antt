@@ -4,6 +4,23 @@ use Rattle.packed_rules.specs.Packed.{placeFrom}
 use Rattle.packed.proofs.reading.place_from.Statement.{statement}
 use Rattle.packed.proofs.reading.place_from.Tie as tie
 
+returns : tie.Need-returns
+unfolding placeFrom
+returns c =
+    let rsk = c .before .before .before .before in
+    let condition = rsk .before .before .before .before in
+    rw (
+      condition .byte-at .ensures,
+      rsk .before .before .before .read2 .ensures,
+      rsk .before .before .read4 .ensures,
+      rsk .before .byte-at2 .ensures,
+      rsk .byte-at3 .ensures,
+      c .before .before .before .byte-at4 .ensures,
+      c .before .before .read22 .ensures,
+      c .before .read23 .ensures,
+      c .flags-from .ensures,
+    )
+
 byte-at-requires : tie.Need-byte-at-requires
 byte-at-requires c κs = search needs
 
@@ -54,23 +71,6 @@ add-flags-from c = search needs
 
 flags-from-requires : tie.Need-flags-from-requires
 flags-from-requires c κs = search needs
-
-returns : tie.Need-returns
-unfolding placeFrom
-returns c =
-    let rsk = c .before .before .before .before in
-    let condition = rsk .before .before .before .before in
-    rw (
-      condition .byte-at .ensures,
-      rsk .before .before .before .read2 .ensures,
-      rsk .before .before .read4 .ensures,
-      rsk .before .byte-at2 .ensures,
-      rsk .byte-at3 .ensures,
-      c .before .before .before .byte-at4 .ensures,
-      c .before .before .read22 .ensures,
-      c .before .read23 .ensures,
-      c .flags-from .ensures,
-    )
 
 pub place-from-spec : {M : Type 1} → statement M
 place-from-spec =

@@ -4,6 +4,12 @@ use Rattle.packed_rules.proofs.Lays.{figures-are}
 use Rattle.packed.proofs.writing.figures.Statement.{statement}
 use Rattle.packed.proofs.writing.figures.Tie as tie
 
+returns : tie.Need-returns
+returns c =
+    let number = c .before .before .before .before in
+    figures-are (number .before .args .p) (number .bytes2 .ensures) (c .before .before .before .bytes4 .ensures)
+    (c .before .before .bytes22 .ensures) (c .before .bytes23 .ensures) (c .flag .ensures)
+
 bytes2-requires : tie.Need-bytes2-requires
 bytes2-requires c κs = search needs
 
@@ -48,12 +54,6 @@ array-read-t35 c = search needs
 
 array-read-t38 : tie.Need-array-read-t38
 array-read-t38 c = search needs
-
-returns : tie.Need-returns
-returns c =
-    let number = c .before .before .before .before in
-    figures-are (number .before .args .p) (number .bytes2 .ensures) (c .before .before .before .bytes4 .ensures)
-    (c .before .before .bytes22 .ensures) (c .before .bytes23 .ensures) (c .flag .ensures)
 
 pub figures-spec : {M : Type 1} → statement M
 figures-spec =

@@ -22,15 +22,6 @@ abbrev μ-loop : tie.MeasureT-loop
 loop-holds : tie.Need-loop-holds Inv-loop μ-loop
 loop-holds c = let z : ℕ = 0 in (omega arith, length-replicate most-f z, refl)
 
-array-read-flag : tie.Need-array-read-flag Inv-loop μ-loop
-array-read-flag c = search needs
-
-flag-requires : tie.Need-flag-requires Inv-loop μ-loop
-flag-requires c κs = search needs
-
-array-write-bytes : tie.Need-array-write-bytes Inv-loop μ-loop
-array-write-bytes c = search needs
-
 add-i : tie.Need-add-i Inv-loop μ-loop
 add-i c = omega arith
 
@@ -54,6 +45,15 @@ returns c =
     let d = c .before .loop in
     filled-all (d .bytes) _ (d .i) (omega (arith, c .loop-test .left)) (d .inv .2)
     ∙ ap (map bit) (take-all (d .i) kept (omega (arith, c .loop-test .left)))
+
+array-read-flag : tie.Need-array-read-flag Inv-loop μ-loop
+array-read-flag c = search needs
+
+flag-requires : tie.Need-flag-requires Inv-loop μ-loop
+flag-requires c κs = search needs
+
+array-write-bytes : tie.Need-array-write-bytes Inv-loop μ-loop
+array-write-bytes c = search needs
 
 pub flags-spec : {M : Type 1} → statement M
 flags-spec =

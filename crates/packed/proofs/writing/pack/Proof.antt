@@ -7,6 +7,20 @@ use Rattle.packed.proofs.writing.pack.Tie as tie
 returns : tie.Need-returns
 returns c = no-room (c .before .before .args .t) (c .before .before .args .out .now) (c .if1 .taken)
 
+returns-2 : tie.Need-returns-2
+returns-2 c =
+    let oldest = c .before .before in
+    let fourth = oldest .before .before .before .before .before in
+    let third = fourth .before .before .before .before in
+    let second = third .before .before .before .before in
+    let first = second .before .before .before .before in
+    let roomy = first .before .before in
+    let a = roomy .before .before .args in
+    table-laid (a .t) (a .out .now) _ _ _ _ _ _ (roomy .if1 .left) (first .put-place .ensures) (second .put-place2 .ensures)
+    (third .put-place3 .ensures)
+    (fourth .put-place4 .ensures)
+    (oldest .put .ensures)
+
 put-place-requires : tie.Need-put-place-requires
 put-place-requires c κs = search needs
 
@@ -36,20 +50,6 @@ put-requires c κs = search needs
 
 same-length : tie.Need-same-length
 same-length c = search needs
-
-returns-2 : tie.Need-returns-2
-returns-2 c =
-    let oldest = c .before .before in
-    let fourth = oldest .before .before .before .before .before in
-    let third = fourth .before .before .before .before in
-    let second = third .before .before .before .before in
-    let first = second .before .before .before .before in
-    let roomy = first .before .before in
-    let a = roomy .before .before .args in
-    table-laid (a .t) (a .out .now) _ _ _ _ _ _ (roomy .if1 .left) (first .put-place .ensures) (second .put-place2 .ensures)
-    (third .put-place3 .ensures)
-    (fourth .put-place4 .ensures)
-    (oldest .put .ensures)
 
 pub pack-spec : {M : Type 1} → statement M
 pack-spec =

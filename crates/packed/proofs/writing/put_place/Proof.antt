@@ -8,6 +8,21 @@ use Rattle.packed_rules.proofs.Lays.{place-laid}
 use Rattle.packed.proofs.writing.put_place.Statement.{statement}
 use Rattle.packed.proofs.writing.put_place.Tie as tie
 
+returns : tie.Need-returns
+returns c =
+    let flagged = c .before .before in
+    let figured = flagged .before .before .before .before .before .before .before in
+    let placed = figured .before .before .before .before in
+    let start = placed .before .before in
+    let a = start .args in
+    let p = placed .place-at .result in
+    let long : length (p .kept) ≡ most-f = as-long (p .kept) _ (placed .place-at .ok .1 .1 .1 .1 .1 .1 .1 .1 .1 .1 .0 .1 .0 .1) in
+    place-laid (a .t) (a .i) p (a .out .now) _ _ _ _ (a .at) _ _ (placed .place-at .ensures) (start .pre) long
+    (figured .before .before .figures .ensures)
+    (flagged .before .before .flags .ensures)
+    (figured .put .ensures)
+    (flagged .put2 .ensures)
+
 place-at-requires : tie.Need-place-at-requires
 place-at-requires c κs = search needs
 
@@ -34,21 +49,6 @@ put-requires-2 c κs = search needs
 
 same-length : tie.Need-same-length
 same-length c = search needs
-
-returns : tie.Need-returns
-returns c =
-    let flagged = c .before .before in
-    let figured = flagged .before .before .before .before .before .before .before in
-    let placed = figured .before .before .before .before in
-    let start = placed .before .before in
-    let a = start .args in
-    let p = placed .place-at .result in
-    let long : length (p .kept) ≡ most-f = as-long (p .kept) _ (placed .place-at .ok .1 .1 .1 .1 .1 .1 .1 .1 .1 .1 .0 .1 .0 .1) in
-    place-laid (a .t) (a .i) p (a .out .now) _ _ _ _ (a .at) _ _ (placed .place-at .ensures) (start .pre) long
-    (figured .before .before .figures .ensures)
-    (flagged .before .before .flags .ensures)
-    (figured .put .ensures)
-    (flagged .put2 .ensures)
 
 pub put-place-spec : {M : Type 1} → statement M
 put-place-spec =

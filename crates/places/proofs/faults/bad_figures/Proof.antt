@@ -8,15 +8,6 @@ use Rattle.places_rules.proofs.Checks.{count-over, size-over, last-over, size-u
 use Rattle.places.proofs.faults.bad_figures.Statement.{statement}
 use Rattle.places.proofs.faults.bad_figures.Tie as tie
 
-cast-count : tie.Need-cast-count
-cast-count c = search needs
-
-cast-size : tie.Need-cast-size
-cast-size c = search needs
-
-cast-last : tie.Need-cast-last
-cast-last c = search needs
-
 returns : tie.Need-returns
 returns c = count-over _ (omega arith)
 
@@ -38,6 +29,15 @@ returns-4 c = size-unknown _ (omega arith) (c .before .before .if2 .left) (c .be
 
 returns-5 : tie.Need-returns-5
 returns-5 c = last-longer _ (omega arith) (c .before .before .if2 .left) (c .before .if3 .left) (c .if4 .left)
+
+cast-count : tie.Need-cast-count
+cast-count c = search needs
+
+cast-size : tie.Need-cast-size
+cast-size c = search needs
+
+cast-last : tie.Need-cast-last
+cast-last c = search needs
 
 pub bad-figures-spec : {M : Type 1} → statement M
 bad-figures-spec =

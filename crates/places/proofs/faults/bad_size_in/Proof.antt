@@ -7,9 +7,6 @@ use Rattle.places.proofs.faults.bad_size_in.Tie as tie
 returns : tie.Need-returns
 returns c = size-coded _ _ (c .before .before .if1 .taken)
 
-is-last-requires : tie.Need-is-last-requires
-is-last-requires c κs = search needs
-
 returns-2 : tie.Need-returns-2
 returns-2 c =
     last-any _ _ (c .before .before .before .before .if1 .left) (c .before .before .before .is-last .ensures) (c .before .before .if2 .taken)
@@ -40,6 +37,9 @@ returns-6 c =
     let Is-last = c .before .before .before .before .before .before .is-last in
     inner-other _ _ (If1 .left) (Is-last .ensures) (c .before .before .before .before .before .if2 .left) (c .before .before .before .if4 .left)
     (c .if5 .left)
+
+is-last-requires : tie.Need-is-last-requires
+is-last-requires c κs = search needs
 
 pub bad-size-in-spec : {M : Type 1} → statement M
 bad-size-in-spec =

@@ -19,14 +19,14 @@ returns-4 c =
     let If2 = c .before .before .before .before .before .before .if2 in
     rsz-other _ _ (If1 .left) (If2 .left) (c .before .before .before .if3 .left) (c .if4 .taken)
 
-bad-size-in-requires : tie.Need-bad-size-in-requires
-bad-size-in-requires c κs = search needs
-
 returns-5 : tie.Need-returns-5
 returns-5 c =
     let If1 = c .before .before .before .before .before .before .before .before .before .before .if1 in
     let If2 = c .before .before .before .before .before .before .before .if2 in
     size-told _ _ (If1 .left) (If2 .left) (c .before .before .before .before .if3 .left) (c .before .if4 .left) (c .bad-size-in .ensures)
+
+bad-size-in-requires : tie.Need-bad-size-in-requires
+bad-size-in-requires c κs = search needs
 
 pub mismatch-spec : {M : Type 1} → statement M
 mismatch-spec =

@@ -5,9 +5,6 @@ use Rattle.places_rules.proofs.Checks.{due-9, due-10, due-11, due-12, due-none}
 use Rattle.places.proofs.faults.place_fault.Statement.{statement}
 use Rattle.places.proofs.faults.place_fault.Tie as tie
 
-mismatch-requires : tie.Need-mismatch-requires
-mismatch-requires c κs = search needs
-
 returns : tie.Need-returns
 returns c = due-9 _ _ (told (c .before .mismatch .ensures) (c .if1 .taken))
 
@@ -18,12 +15,6 @@ returns-3 : tie.Need-returns-3
 returns-3 c =
     due-11 _ _ (told (c .before .before .before .before .before .mismatch .ensures) (c .before .before .before .before .if1 .left))
     (c .before .before .if2 .left) (c .if3 .taken)
-
-cast-is-kept : tie.Need-cast-is-kept
-cast-is-kept c = search needs
-
-is-kept-requires : tie.Need-is-kept-requires
-is-kept-requires c κs = search needs
 
 returns-4 : tie.Need-returns-4
 returns-4 c =
@@ -38,6 +29,15 @@ returns-5 c =
     let If1 = c .before .before .before .before .before .before .before .if1 in
     due-none _ _ (told (Mismatch .ensures) (If1 .left)) (c .before .before .before .before .before .if2 .left)
     (c .before .before .before .if3 .left) (told (c .before .is-kept .ensures) (c .if4 .left))
+
+mismatch-requires : tie.Need-mismatch-requires
+mismatch-requires c κs = search needs
+
+cast-is-kept : tie.Need-cast-is-kept
+cast-is-kept c = search needs
+
+is-kept-requires : tie.Need-is-kept-requires
+is-kept-requires c κs = search needs
 
 pub place-fault-spec : {M : Type 1} → statement M
 place-fault-spec =

@@ -4,12 +4,12 @@ use Rattle.places_rules.specs.Places.{freshTable}
 use Rattle.places.proofs.record.fresh.Statement.{statement}
 use Rattle.places.proofs.record.fresh.Tie as tie
 
-free-place-requires : tie.Need-free-place-requires
-free-place-requires c κs = search needs
-
 returns : tie.Need-returns
 unfolding freshTable
 returns c = rw (c .free-place .ensures)
+
+free-place-requires : tie.Need-free-place-requires
+free-place-requires c κs = search needs
 
 pub fresh-spec : {M : Type 1} → statement M
 fresh-spec = tie.close (tie.spec free-place-requires returns)

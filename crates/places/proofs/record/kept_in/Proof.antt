@@ -4,6 +4,9 @@ use Rattle.places_rules.proofs.Records.{keeps}
 use Rattle.places.proofs.record.kept_in.Statement.{statement}
 use Rattle.places.proofs.record.kept_in.Tie as tie
 
+returns : tie.Need-returns
+returns c = keeps _ _ (c .before .before .before .size-with .ensures) (c .before .before .last-with .ensures) (c .with-fragment .ensures)
+
 size-with-requires : tie.Need-size-with-requires
 size-with-requires c κs = search needs
 
@@ -15,9 +18,6 @@ cast-with-fragment c = search needs
 
 with-fragment-requires : tie.Need-with-fragment-requires
 with-fragment-requires c κs = search needs
-
-returns : tie.Need-returns
-returns c = keeps _ _ (c .before .before .before .size-with .ensures) (c .before .before .last-with .ensures) (c .with-fragment .ensures)
 
 pub kept-in-spec : {M : Type 1} → statement M
 kept-in-spec =

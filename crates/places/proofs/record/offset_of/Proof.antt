@@ -7,23 +7,11 @@ use Rattle.places_rules.proofs.Records.{offset-last, offset-long, offset-other}
 use Rattle.places.proofs.record.offset_of.Statement.{statement}
 use Rattle.places.proofs.record.offset_of.Tie as tie
 
-cast-plen : tie.Need-cast-plen
-cast-plen c = search needs
-
-is-last-requires : tie.Need-is-last-requires
-is-last-requires c κs = search needs
-
-sub-result : tie.Need-sub-result
-sub-result c = search needs
-
 returns : tie.Need-returns
 returns c = offset-last _ (c .before .before .is-last .ensures) (c .before .if1 .taken)
 
 returns-2 : tie.Need-returns-2
 returns-2 c = offset-long _ (c .before .before .is-last .ensures) (c .before .if1 .taken) (omega arith)
-
-cast-result : tie.Need-cast-result
-cast-result c = search needs
 
 mul-result : tie.Need-mul-result
 mul-result c =
@@ -34,6 +22,18 @@ mul-result c =
 
 returns-3 : tie.Need-returns-3
 returns-3 c = offset-other _ (c .before .before .is-last .ensures) (c .before .if1 .left)
+
+cast-plen : tie.Need-cast-plen
+cast-plen c = search needs
+
+is-last-requires : tie.Need-is-last-requires
+is-last-requires c κs = search needs
+
+sub-result : tie.Need-sub-result
+sub-result c = search needs
+
+cast-result : tie.Need-cast-result
+cast-result c = search needs
 
 pub offset-of-spec : {M : Type 1} → statement M
 offset-of-spec =

@@ -8,17 +8,11 @@ use Rattle.places_rules.proofs.Records.{first-0, first-1, first-2, first-3, fir
 use Rattle.places.proofs.record.open_at.Statement.{statement}
 use Rattle.places.proofs.record.open_at.Tie as tie
 
-is-free-requires : tie.Need-is-free-requires
-is-free-requires c κs = search needs
-
 returns : tie.Need-returns
 unfolding openAt
 returns c =
     let A = c .before .before .args in
     first-0 (λ (i : ℕ). eqb (placeAt (A .t) i .condition) free) (A .t .oldest) (told (c .before .is-free .ensures) (c .if1 .taken))
-
-is-free-requires-2 : tie.Need-is-free-requires-2
-is-free-requires-2 c κs = search needs
 
 returns-2 : tie.Need-returns-2
 unfolding openAt
@@ -27,9 +21,6 @@ returns-2 c =
     first-1 (λ (i : ℕ). eqb (placeAt (A .t) i .condition) free) (A .t .oldest)
     (told (c .before .before .before .is-free .ensures) (c .before .before .if1 .left)) (told (c .before .is-free2 .ensures) (c .if2 .taken))
 
-is-free-requires-3 : tie.Need-is-free-requires-3
-is-free-requires-3 c κs = search needs
-
 returns-3 : tie.Need-returns-3
 unfolding openAt
 returns-3 c =
@@ -37,12 +28,6 @@ returns-3 c =
     first-2 (λ (i : ℕ). eqb (placeAt (A .t) i .condition) free) (A .t .oldest)
     (told (c .before .before .before .before .before .is-free .ensures) (c .before .before .before .before .if1 .left))
     (told (c .before .before .before .is-free2 .ensures) (c .before .before .if2 .left)) (told (c .before .is-free3 .ensures) (c .if3 .taken))
-
-is-free-requires-4 : tie.Need-is-free-requires-4
-is-free-requires-4 c κs = search needs
-
-cast-result : tie.Need-cast-result
-cast-result c = search needs
 
 returns-4 : tie.Need-returns-4
 unfolding openAt
@@ -65,6 +50,21 @@ returns-5 c =
     (told (Is-free2 .ensures) (c .before .before .before .before .before .if2 .left))
     (told (c .before .before .before .before .is-free3 .ensures) (c .before .before .before .if3 .left))
     (told (c .before .before .is-free4 .ensures) (c .before .if4 .left))
+
+is-free-requires : tie.Need-is-free-requires
+is-free-requires c κs = search needs
+
+is-free-requires-2 : tie.Need-is-free-requires-2
+is-free-requires-2 c κs = search needs
+
+is-free-requires-3 : tie.Need-is-free-requires-3
+is-free-requires-3 c κs = search needs
+
+is-free-requires-4 : tie.Need-is-free-requires-4
+is-free-requires-4 c κs = search needs
+
+cast-result : tie.Need-cast-result
+cast-result c = search needs
 
 pub open-at-spec : {M : Type 1} → statement M
 open-at-spec =

@@ -8,12 +8,6 @@ use Rattle.places_rules.proofs.Records.{as-long, with-past}
 use Rattle.places.proofs.record.with_place.Statement.{statement}
 use Rattle.places.proofs.record.with_place.Tie as tie
 
-mul-places : tie.Need-mul-places
-mul-places c = search needs
-
-array-set-from-places : tie.Need-array-set-from-places
-array-set-from-places c = search needs
-
 returns : tie.Need-returns
 unfolding withPlace
 returns c = refl
@@ -23,6 +17,12 @@ returns-2 c =
     let A = c .before .before .args in
     let long : length (A .t .places) ≡ four = as-long (A .t .places) _ (c .before .before .good .0 .1 .1 .0 .1 .0 .1) in
     with-past (A .t) (A .i) (A .p) (omega (arith, long))
+
+mul-places : tie.Need-mul-places
+mul-places c = search needs
+
+array-set-from-places : tie.Need-array-set-from-places
+array-set-from-places c = search needs
 
 pub with-place-spec : {M : Type 1} → statement M
 with-place-spec = tie.close (tie.spec mul-places array-set-from-places returns returns-2)

@@ -6,18 +6,6 @@ use Rattle.receiver_rules.proofs.Arrivals.{refusal-is, turned-long, arrives-ref
 use Rattle.receiver.proofs.keeping.accept.Statement.{statement}
 use Rattle.receiver.proofs.keeping.accept.Tie as tie
 
-held-at-requires : tie.Need-held-at-requires
-held-at-requires c κs = search needs
-
-place-at-requires : tie.Need-place-at-requires
-place-at-requires c κs = search needs
-
-place-fault-requires : tie.Need-place-fault-requires
-place-fault-requires c κs = search needs
-
-refusal-requires : tie.Need-refusal-requires
-refusal-requires c κs = search needs
-
 returns : tie.Need-returns
 returns c =
     let A = c .before .before .before .before .before .before .before .before .before .args in
@@ -40,12 +28,6 @@ keep-requires c κs =
           (c .before .before .before .place-fault .ensures) (c .before .before .if2 .left),
     )
 
-same-length : tie.Need-same-length
-same-length c = search needs
-
-same-length-2 : tie.Need-same-length-2
-same-length-2 c = search needs
-
 returns-2 : tie.Need-returns-2
 returns-2 c =
     let A = c .before .before .before .before .before .before .before .before .before .before .before .before .before .before .before .args in
@@ -60,18 +42,6 @@ returns-2 c =
     arrives-there (a .t) (a .h) (a .lent .now) (a .payload .now) (a .out .now) (Held-at .ensures) (If1 .taken) (Place-at .ensures)
     (Place-fault .ensures) (If2 .left) (c .before .before .before .before .keep .ensures (a .t) size refl)
 
-open-at-requires : tie.Need-open-at-requires
-open-at-requires c κs = search needs
-
-displaced-at-requires : tie.Need-displaced-at-requires
-displaced-at-requires c κs = search needs
-
-turned-requires : tie.Need-turned-requires
-turned-requires c κs = search needs
-
-opened-by-requires : tie.Need-opened-by-requires
-opened-by-requires c κs = search needs
-
 keep-requires-2 : tie.Need-keep-requires-2
 keep-requires-2 c κs =
     let A = c .before .before .before .before .before .before .before .before .before .before .before .args in
@@ -83,12 +53,6 @@ keep-requires-2 c κs =
       p .2,
       new-fine (a .t) (a .h) (p .2 .sound) (c .before .before .opened-by .ensures),
     )
-
-same-length-3 : tie.Need-same-length-3
-same-length-3 c = search needs
-
-same-length-4 : tie.Need-same-length-4
-same-length-4 c = search needs
 
 returns-3 : tie.Need-returns-3
 returns-3 c =
@@ -106,6 +70,42 @@ returns-3 c =
     arrives-new (a .t) (a .h) (a .lent .now) (a .payload .now) (a .out .now) (Held-at .ensures) (If1 .left) _ _ _ (Open-at .ensures)
     (Displaced-at .ensures) (Turned .ensures) (Opened-by .ensures)
     (c .before .before .before .before .keep2 .ensures _ (turned-long (a .t) _ (Turned .ensures) size) refl)
+
+held-at-requires : tie.Need-held-at-requires
+held-at-requires c κs = search needs
+
+place-at-requires : tie.Need-place-at-requires
+place-at-requires c κs = search needs
+
+place-fault-requires : tie.Need-place-fault-requires
+place-fault-requires c κs = search needs
+
+refusal-requires : tie.Need-refusal-requires
+refusal-requires c κs = search needs
+
+same-length : tie.Need-same-length
+same-length c = search needs
+
+same-length-2 : tie.Need-same-length-2
+same-length-2 c = search needs
+
+open-at-requires : tie.Need-open-at-requires
+open-at-requires c κs = search needs
+
+displaced-at-requires : tie.Need-displaced-at-requires
+displaced-at-requires c κs = search needs
+
+turned-requires : tie.Need-turned-requires
+turned-requires c κs = search needs
+
+opened-by-requires : tie.Need-opened-by-requires
+opened-by-requires c κs = search needs
+
+same-length-3 : tie.Need-same-length-3
+same-length-3 c = search needs
+
+same-length-4 : tie.Need-same-length-4
+same-length-4 c = search needs
 
 pub accept-spec : {M : Type 1} → statement M
 accept-spec =

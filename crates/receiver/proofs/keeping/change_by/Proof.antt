@@ -8,12 +8,6 @@ use Rattle.receiver_rules.proofs.Steps.{header-refused, header-passed, payload-
 use Rattle.receiver.proofs.keeping.change_by.Statement.{statement}
 use Rattle.receiver.proofs.keeping.change_by.Tie as tie
 
-room-fault-requires : tie.Need-room-fault-requires
-room-fault-requires c κs = search needs
-
-refusal-requires : tie.Need-refusal-requires
-refusal-requires c κs = search needs
-
 returns : tie.Need-returns
 returns c =
     let A = c .before .before .before .before .before .before .args in
@@ -21,35 +15,11 @@ returns c =
     step-room (a .own) (a .table) (a .lent .now) (a .datagram .now) (a .out .now) (c .before .before .room-fault .ensures)
     (c .before .if1 .taken) (refusal-is _ _ (c .refusal .ensures))
 
-parse-requires : tie.Need-parse-requires
-parse-requires c κs = search needs
-
-enum-known-m : tie.Need-enum-known-m
-enum-known-m c = search needs
-
-refusal-requires-2 : tie.Need-refusal-requires-2
-refusal-requires-2 c κs = search needs
-
-enum-known-h : tie.Need-enum-known-h
-enum-known-h c = search needs
-
-cast-at : tie.Need-cast-at
-cast-at c = search needs
-
 sub-at : tie.Need-sub-at
 sub-at c =
     let a = c .before .before .before .before .before .before .before .before .before .before .args in
     let p = header-passed (a .own) (a .datagram .now) (c .before .before .before .before .parse .ensures) (c .before .before .h .given .1) in
     payload-within (a .own) (a .datagram .now) (p .0) (p .1)
-
-sub-accept : tie.Need-sub-accept
-sub-accept c = search needs
-
-part-accept-start : tie.Need-part-accept-start
-part-accept-start c = search needs
-
-part-accept-end : tie.Need-part-accept-end
-part-accept-end c = search needs
 
 accept-requires : tie.Need-accept-requires
 accept-requires c κs =
@@ -78,12 +48,6 @@ returns-2 c =
     (header-refused (a .own) (a .datagram .now) (c .before .before .before .before .parse .ensures) (c .before .before .m .given .1))
     (refusal-is _ _ (c .refusal2 .ensures))
 
-same-length : tie.Need-same-length
-same-length c = search needs
-
-same-length-2 : tie.Need-same-length-2
-same-length-2 c = search needs
-
 returns-3 : tie.Need-returns-3
 returns-3 c =
     let A = c .before .before .before .before .before .before .before .before .before .before .before .before .before .before .before .before
@@ -96,6 +60,42 @@ returns-3 c =
     let p = header-passed (a .own) (a .datagram .now) (Parse .ensures) (H .given .1) in
     step-arrives (a .own) (a .table) (a .lent .now) (a .datagram .now) (a .out .now) (Room-fault .ensures) (If1 .left) _ p
     (c .before .before .before .before .accept .ensures)
+
+room-fault-requires : tie.Need-room-fault-requires
+room-fault-requires c κs = search needs
+
+refusal-requires : tie.Need-refusal-requires
+refusal-requires c κs = search needs
+
+parse-requires : tie.Need-parse-requires
+parse-requires c κs = search needs
+
+enum-known-m : tie.Need-enum-known-m
+enum-known-m c = search needs
+
+refusal-requires-2 : tie.Need-refusal-requires-2
+refusal-requires-2 c κs = search needs
+
+enum-known-h : tie.Need-enum-known-h
+enum-known-h c = search needs
+
+cast-at : tie.Need-cast-at
+cast-at c = search needs
+
+sub-accept : tie.Need-sub-accept
+sub-accept c = search needs
+
+part-accept-start : tie.Need-part-accept-start
+part-accept-start c = search needs
+
+part-accept-end : tie.Need-part-accept-end
+part-accept-end c = search needs
+
+same-length : tie.Need-same-length
+same-length c = search needs
+
+same-length-2 : tie.Need-same-length-2
+same-length-2 c = search needs
 
 pub change-by-spec : {M : Type 1} → statement M
 change-by-spec =

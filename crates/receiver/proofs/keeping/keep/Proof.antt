@@ -7,12 +7,6 @@ use Rattle.receiver_rules.proofs.Offsets.{offset-fits, kept-long, keeps-at}
 use Rattle.receiver.proofs.keeping.keep.Statement.{statement}
 use Rattle.receiver.proofs.keeping.keep.Tie as tie
 
-mul-put : tie.Need-mul-put
-mul-put c = search needs
-
-offset-of-requires : tie.Need-offset-of-requires
-offset-of-requires c κs = search needs
-
 add-put : tie.Need-add-put
 add-put c =
     omega (
@@ -21,12 +15,6 @@ add-put c =
       offset-fits (c .before .before .before .before .before .args .h)
           (c .before .before .before .before .before .pre .2 .sound),
     )
-
-put-requires : tie.Need-put-requires
-put-requires c κs = search needs
-
-kept-in-requires : tie.Need-kept-in-requires
-kept-in-requires c κs = search needs
 
 settle-requires : tie.Need-settle-requires
 settle-requires c κs =
@@ -44,12 +32,6 @@ settle-requires c κs =
       ap badPlace (c .before .before .kept-in .ensures) ∙ p .3,
     )
 
-same-length : tie.Need-same-length
-same-length c = search needs
-
-same-length-2 : tie.Need-same-length-2
-same-length-2 c = search needs
-
 returns : tie.Need-returns
 returns c =
     let A = c .before .before .before .before .before .before .before .before .before .before .before .before .before .before .args in
@@ -61,6 +43,24 @@ returns c =
     let p = P in
     keeps-at (a .i) (a .h) (a .lent .now) (a .payload .now) (p .0) (p .1 .all) (p .2) (Offset-of .ensures) (Put .ensures) t (a .p) (a .d)
     (c .before .before .before .before .before .kept-in .ensures) (c .before .before .settle .ensures t size turn)
+
+mul-put : tie.Need-mul-put
+mul-put c = search needs
+
+offset-of-requires : tie.Need-offset-of-requires
+offset-of-requires c κs = search needs
+
+put-requires : tie.Need-put-requires
+put-requires c κs = search needs
+
+kept-in-requires : tie.Need-kept-in-requires
+kept-in-requires c κs = search needs
+
+same-length : tie.Need-same-length
+same-length c = search needs
+
+same-length-2 : tie.Need-same-length-2
+same-length-2 c = search needs
 
 pub keep-spec : {M : Type 1} → statement M
 keep-spec =

@@ -4,6 +4,13 @@ use Rattle.receiver_rules.proofs.Steps.{step-changed}
 use Rattle.receiver.proofs.keeping.receive.Statement.{statement}
 use Rattle.receiver.proofs.keeping.receive.Tie as tie
 
+returns : tie.Need-returns
+returns c =
+    let A = c .before .before .before .before .before .before .before .before .before .before .before .before .before .args in
+    let Change-by = c .before .before .before .before .before .before .before .change-by in
+    let a = A in
+    step-changed (a .own) (a .table) (a .lent .now) (a .datagram .now) (a .out .now) _ _ _ (c .with-place .ensures) (Change-by .ensures)
+
 change-by-requires : tie.Need-change-by-requires
 change-by-requires c κs = search needs
 
@@ -15,13 +22,6 @@ same-length c = search needs
 
 same-length-2 : tie.Need-same-length-2
 same-length-2 c = search needs
-
-returns : tie.Need-returns
-returns c =
-    let A = c .before .before .before .before .before .before .before .before .before .before .before .before .before .args in
-    let Change-by = c .before .before .before .before .before .before .before .change-by in
-    let a = A in
-    step-changed (a .own) (a .table) (a .lent .now) (a .datagram .now) (a .out .now) _ _ _ (c .with-place .ensures) (Change-by .ensures)
 
 pub receive-spec : {M : Type 1} → statement M
 receive-spec =

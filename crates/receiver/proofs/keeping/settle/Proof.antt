@@ -8,6 +8,58 @@ use Rattle.receiver_rules.proofs.Forming.{changes, closes, formed-at, settles-w
 use Rattle.receiver.proofs.keeping.settle.Statement.{statement}
 use Rattle.receiver.proofs.keeping.settle.Tie as tie
 
+enum-told : tie.Need-enum-told
+enum-told c = search needs
+
+returns : tie.Need-returns
+returns c =
+    let A = c .before .before .before .before .before .before .before .before .before .args in
+    let P = c .before .before .before .before .before .before .before .before .before .pre in
+    λ t size turn.
+    let a = A in
+    let u = withPlace t (a .i) (a .p) in
+    let there = written-place t (a .i) (a .p) size (P .0) in
+    settles-waiting u (a .i) (a .d) (a .lent .now) (a .out .now)
+    (formed-at u (a .i) (a .lent .now) (a .out .now) (sym there) (c .enum-told .given .1) (c .before .before .before .before .form .ensures))
+    (changes t _ turn)
+
+returns-2 : tie.Need-returns-2
+returns-2 c =
+    let A = c .before .before .before .before .before .before .before .before .before .before .before .args in
+    let P = c .before .before .before .before .before .before .before .before .before .before .before .pre in
+    let Form = c .before .before .before .before .before .before .form in
+    λ t size turn.
+    let a = A in
+    let u = withPlace t (a .i) (a .p) in
+    let there = written-place t (a .i) (a .p) size (P .0) in
+    settles-delivered u (a .i) (a .d) (a .lent .now) (a .out .now)
+    (formed-at u (a .i) (a .lent .now) (a .out .now) (sym there) (c .before .before .length .given .1) (Form .ensures)) (changes t _ turn
+    ∙ closes t (a .i) _ (a .p) size (P .0) (c .in-condition .ensures))
+
+returns-3 : tie.Need-returns-3
+returns-3 c =
+    let A = c .before .before .before .before .before .before .before .before .before .before .args in
+    let P = c .before .before .before .before .before .before .before .before .before .before .pre in
+    λ t size turn.
+    let a = A in
+    let u = withPlace t (a .i) (a .p) in
+    let there = written-place t (a .i) (a .p) size (P .0) in
+    settles-damaged u (a .i) (a .d) (a .lent .now) (a .out .now)
+    (formed-at u (a .i) (a .lent .now) (a .out .now) (sym there) (c .before .enum-told2 .given .1)
+    (c .before .before .before .before .before .form .ensures)) (changes t _ turn ∙ closes t (a .i) _ (a .p) size (P .0) (c .in-condition2 .ensures))
+
+returns-4 : tie.Need-returns-4
+returns-4 c =
+    let A = c .before .before .before .before .before .before .before .before .before .before .args in
+    let P = c .before .before .before .before .before .before .before .before .before .before .pre in
+    λ t size turn.
+    let a = A in
+    let p = P in
+    let u = withPlace t (a .i) (a .p) in
+    let there = written-place t (a .i) (a .p) size (p .0) in
+    absurd (never-refused u (a .i) (a .lent .now) (a .out .now) (p .0) (p .1) (ap badPlace there ∙ p .2)
+    (formed-at u (a .i) (a .lent .now) (a .out .now) (sym there) (c .before .n .given .1) (c .before .before .before .before .before .form .ensures)))
+
 mul-form : tie.Need-mul-form
 mul-form c = search needs
 
@@ -22,9 +74,6 @@ part-form-end c = search needs
 
 form-requires : tie.Need-form-requires
 form-requires c κs = search needs
-
-enum-told : tie.Need-enum-told
-enum-told c = search needs
 
 enum-known-length : tie.Need-enum-known-length
 enum-known-length c = search needs
@@ -44,63 +93,14 @@ enum-known-n c = search needs
 same-length : tie.Need-same-length
 same-length c = search needs
 
-returns : tie.Need-returns
-returns c =
-    let A = c .before .before .before .before .before .before .before .before .before .args in
-    let P = c .before .before .before .before .before .before .before .before .before .pre in
-    λ t size turn.
-    let a = A in
-    let u = withPlace t (a .i) (a .p) in
-    let there = written-place t (a .i) (a .p) size (P .0) in
-    settles-waiting u (a .i) (a .d) (a .lent .now) (a .out .now)
-    (formed-at u (a .i) (a .lent .now) (a .out .now) (sym there) (c .enum-told .given .1) (c .before .before .before .before .form .ensures))
-    (changes t _ turn)
-
 same-length-2 : tie.Need-same-length-2
 same-length-2 c = search needs
-
-returns-2 : tie.Need-returns-2
-returns-2 c =
-    let A = c .before .before .before .before .before .before .before .before .before .before .before .args in
-    let P = c .before .before .before .before .before .before .before .before .before .before .before .pre in
-    let Form = c .before .before .before .before .before .before .form in
-    λ t size turn.
-    let a = A in
-    let u = withPlace t (a .i) (a .p) in
-    let there = written-place t (a .i) (a .p) size (P .0) in
-    settles-delivered u (a .i) (a .d) (a .lent .now) (a .out .now)
-    (formed-at u (a .i) (a .lent .now) (a .out .now) (sym there) (c .before .before .length .given .1) (Form .ensures)) (changes t _ turn
-    ∙ closes t (a .i) _ (a .p) size (P .0) (c .in-condition .ensures))
 
 same-length-3 : tie.Need-same-length-3
 same-length-3 c = search needs
 
-returns-3 : tie.Need-returns-3
-returns-3 c =
-    let A = c .before .before .before .before .before .before .before .before .before .before .args in
-    let P = c .before .before .before .before .before .before .before .before .before .before .pre in
-    λ t size turn.
-    let a = A in
-    let u = withPlace t (a .i) (a .p) in
-    let there = written-place t (a .i) (a .p) size (P .0) in
-    settles-damaged u (a .i) (a .d) (a .lent .now) (a .out .now)
-    (formed-at u (a .i) (a .lent .now) (a .out .now) (sym there) (c .before .enum-told2 .given .1)
-    (c .before .before .before .before .before .form .ensures)) (changes t _ turn ∙ closes t (a .i) _ (a .p) size (P .0) (c .in-condition2 .ensures))
-
 same-length-4 : tie.Need-same-length-4
 same-length-4 c = search needs
-
-returns-4 : tie.Need-returns-4
-returns-4 c =
-    let A = c .before .before .before .before .before .before .before .before .before .before .args in
-    let P = c .before .before .before .before .before .before .before .before .before .before .pre in
-    λ t size turn.
-    let a = A in
-    let p = P in
-    let u = withPlace t (a .i) (a .p) in
-    let there = written-place t (a .i) (a .p) size (p .0) in
-    absurd (never-refused u (a .i) (a .lent .now) (a .out .now) (p .0) (p .1) (ap badPlace there ∙ p .2)
-    (formed-at u (a .i) (a .lent .now) (a .out .now) (sym there) (c .before .n .given .1) (c .before .before .before .before .before .form .ensures)))
 
 pub settle-spec : {M : Type 1} → statement M
 settle-spec =

@@ -6,9 +6,6 @@ use Rattle.receiver_rules.proofs.Shows.{query-refused, query-shown}
 use Rattle.receiver.proofs.table.query.Statement.{statement}
 use Rattle.receiver.proofs.table.query.Tie as tie
 
-room-fault-requires : tie.Need-room-fault-requires
-room-fault-requires c κs = search needs
-
 returns : tie.Need-returns
 returns c = query-refused _ _ _ (c .before .room-fault .ensures) (c .if1 .taken)
 
@@ -28,6 +25,9 @@ returns-2 : tie.Need-returns-2
 returns-2 c =
     query-shown _ _ _ (c .before .before .before .before .before .room-fault .ensures) (c .before .before .before .before .if1 .left) _
     (c .before .before .before .seen-at .ensures) (c .before .before .seen-at2 .ensures) (c .before .seen-at3 .ensures) (c .seen-at4 .ensures)
+
+room-fault-requires : tie.Need-room-fault-requires
+room-fault-requires c κs = search needs
 
 pub query-spec : {M : Type 1} → statement M
 query-spec =

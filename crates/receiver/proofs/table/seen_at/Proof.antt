@@ -8,9 +8,6 @@ use Rattle.receiver_rules.proofs.Ranges.{any-fine}
 use Rattle.receiver.proofs.table.seen_at.Statement.{statement}
 use Rattle.receiver.proofs.table.seen_at.Tie as tie
 
-place-at-requires : tie.Need-place-at-requires
-place-at-requires c κs = search needs
-
 seen-requires : tie.Need-seen-requires
 seen-requires c κs =
     let A = c .before .args in
@@ -18,6 +15,9 @@ seen-requires c κs =
 
 returns : tie.Need-returns
 returns c = c .seen .ensures ∙ ap shownOf (c .before .place-at .ensures)
+
+place-at-requires : tie.Need-place-at-requires
+place-at-requires c κs = search needs
 
 pub seen-at-spec : {M : Type 1} → statement M
 seen-at-spec = tie.close (tie.spec place-at-requires seen-requires returns)

@@ -8,15 +8,6 @@ use Rattle.sender_rules.proofs.Checks.{figured, unready}
 use Rattle.sender.proofs.calls.fragment.Statement.{statement}
 use Rattle.sender.proofs.calls.fragment.Tie as tie
 
-ready-requires : tie.Need-ready-requires
-ready-requires c κs = search needs
-
-enum-known-planned : tie.Need-enum-known-planned
-enum-known-planned c = search needs
-
-enum-known-planned-2 : tie.Need-enum-known-planned-2
-enum-known-planned-2 c = search needs
-
 send-one-requires : tie.Need-send-one-requires
 send-one-requires c κs =
     let a = c .before .before .before .before .before .before .before .args in
@@ -30,6 +21,15 @@ returns c =
     let told = c .before .planned .given in
     let due = unready (a .g) (a .packet .now) (told .0 .0) (sym (ap numberOf (told .1)) ∙ c .before .before .before .ready .ensures) in
     one-refused (a .g) (a .number) (a .packet .now) (a .out .now) (a .index) _ (due .1) (due .0)
+
+ready-requires : tie.Need-ready-requires
+ready-requires c κs = search needs
+
+enum-known-planned : tie.Need-enum-known-planned
+enum-known-planned c = search needs
+
+enum-known-planned-2 : tie.Need-enum-known-planned-2
+enum-known-planned-2 c = search needs
 
 same-length : tie.Need-same-length
 same-length c = search needs

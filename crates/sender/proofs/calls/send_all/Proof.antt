@@ -60,12 +60,6 @@ returns c =
     let size = figures.whole-is (a .g) (a .packet .now) (a .p) (P) _ (c .before .before .before .payload-length .ensures .0) (a .number) in
     cases.all-1 (a .g) (a .number) (a .packet .now) (a .out .now) (P .passed) (omega (arith, size, c .if1 .taken))
 
-slice-aggregate-lay-block : tie.Need-slice-aggregate-lay-block
-slice-aggregate-lay-block c = search needs
-
-lay-block-requires : tie.Need-lay-block-requires
-lay-block-requires c κs = search needs
-
 array-share-prefix-block : tie.Need-array-share-prefix-block
 array-share-prefix-block c =
     let A = c .before .before .before .before .before .before .before .before .before .before .args in
@@ -92,9 +86,6 @@ put-fragments-requires c κs =
       omega (arith, size, c .before .before .before .before .before .if1 .left),
     )
 
-same-length : tie.Need-same-length
-same-length c = search needs
-
 returns-2 : tie.Need-returns-2
 unfolding allNumber
 returns-2 c =
@@ -107,6 +98,15 @@ returns-2 c =
     let values = figures.split-is (a .g) (a .packet .now) (a .p) (P) _ (Payload-length .ensures .0) in
     cases.all-done (a .g) (a .number) (a .packet .now) (a .out .now) (P .passed) _ _ values (omega (arith, size, If1 .left))
     (c .before .before .put-fragments .ensures)
+
+slice-aggregate-lay-block : tie.Need-slice-aggregate-lay-block
+slice-aggregate-lay-block c = search needs
+
+lay-block-requires : tie.Need-lay-block-requires
+lay-block-requires c κs = search needs
+
+same-length : tie.Need-same-length
+same-length c = search needs
 
 pub send-all-spec : {M : Type 1} → statement M
 send-all-spec =

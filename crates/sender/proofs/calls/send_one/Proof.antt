@@ -40,12 +40,6 @@ returns-2 c =
     let size = figures.size-is (a .g) (a .packet .now) (a .p) (P) (a .number) (a .index) _ (c .before .before .payload-length .ensures .0) in
     cases.one-1 (a .g) (a .number) (a .packet .now) (a .out .now) (a .index) (P .passed) less (omega (arith, size, c .if2 .taken))
 
-slice-aggregate-lay-block : tie.Need-slice-aggregate-lay-block
-slice-aggregate-lay-block c = search needs
-
-lay-block-requires : tie.Need-lay-block-requires
-lay-block-requires c κs = search needs
-
 array-share-prefix-block : tie.Need-array-share-prefix-block
 array-share-prefix-block c =
     let A = c .before .before .before .before .before .before .before .before .before .before .args in
@@ -75,9 +69,6 @@ put-fragment-requires c κs =
       omega (arith, size, c .before .before .before .before .before .if2 .left),
     )
 
-same-length : tie.Need-same-length
-same-length c = search needs
-
 returns-3 : tie.Need-returns-3
 unfolding sentNumber
 returns-3 c =
@@ -91,6 +82,15 @@ returns-3 c =
     let size = figures.size-is (a .g) (a .packet .now) (a .p) (P) (a .number) (a .index) _ (Payload-length .ensures .0) in
     cases.one-done (a .g) (a .number) (a .packet .now) (a .out .now) (a .index) (P .passed) less _ _ size (omega (arith, size, If2 .left))
     (c .before .before .put-fragment .ensures)
+
+slice-aggregate-lay-block : tie.Need-slice-aggregate-lay-block
+slice-aggregate-lay-block c = search needs
+
+lay-block-requires : tie.Need-lay-block-requires
+lay-block-requires c κs = search needs
+
+same-length : tie.Need-same-length
+same-length c = search needs
 
 pub send-one-spec : {M : Type 1} → statement M
 send-one-spec =

@@ -28,17 +28,17 @@ cast-t10 c =
     let most = figures.rs-most (a .g) (a .packet .now) (a .p) (c .before .before .before .before .pre .0) in
     omega (arith, most .0, most .1)
 
-payload-length-requires : tie.Need-payload-length-requires
-payload-length-requires c κs = search needs
-
-cast-t12 : tie.Need-cast-t12
-cast-t12 c = search needs
-
 returns : tie.Need-returns
 returns c =
     let a = c .before .before .before .before .before .args in
     figures.headed (a .g) (a .packet .now) (a .p) (c .before .before .before .before .before .pre .0) (a .number) (a .i) _
     (c .payload-length .ensures .0)
+
+payload-length-requires : tie.Need-payload-length-requires
+payload-length-requires c κs = search needs
+
+cast-t12 : tie.Need-cast-t12
+cast-t12 c = search needs
 
 pub header-of-spec : {M : Type 1} → statement M
 header-of-spec =

@@ -7,12 +7,6 @@ use Rattle.sender_rules.proofs.Laying.{block-laid}
 use Rattle.sender.proofs.parts.lay_block.Statement.{statement}
 use Rattle.sender.proofs.parts.lay_block.Tie as tie
 
-encode-requires : tie.Need-encode-requires
-encode-requires c κs = search needs
-
-same-length : tie.Need-same-length
-same-length c = search needs
-
 returns : tie.Need-returns
 returns c =
     let A = c .before .before .before .before .before .before .before .args in
@@ -22,6 +16,12 @@ returns c =
 
 returns-2 : tie.Need-returns-2
 returns-2 c = λ (fec : c .before .before .before .args .g .fec ≡ true). clash fec (c .if1 .left)
+
+encode-requires : tie.Need-encode-requires
+encode-requires c κs = search needs
+
+same-length : tie.Need-same-length
+same-length c = search needs
 
 pub lay-block-spec : {M : Type 1} → statement M
 lay-block-spec = tie.close (tie.spec encode-requires same-length returns returns-2)

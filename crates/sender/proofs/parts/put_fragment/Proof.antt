@@ -4,12 +4,6 @@ use Rattle.sender_rules.proofs.Laying.{behind-header, room-behind, fragment-lai
 use Rattle.sender.proofs.parts.put_fragment.Statement.{statement}
 use Rattle.sender.proofs.parts.put_fragment.Tie as tie
 
-header-of-requires : tie.Need-header-of-requires
-header-of-requires c κs = search needs
-
-write-header-requires : tie.Need-write-header-requires
-write-header-requires c κs = search needs
-
 sub-put-payload : tie.Need-sub-put-payload
 sub-put-payload c =
     let A = c .before .before .before .before .before .before .before .before .args in
@@ -20,9 +14,6 @@ sub-put-payload c =
 
 part-put-payload-start : tie.Need-part-put-payload-start
 part-put-payload-start c = sub-put-payload c
-
-part-put-payload-end : tie.Need-part-put-payload-end
-part-put-payload-end c = search needs
 
 put-payload-requires : tie.Need-put-payload-requires
 put-payload-requires c κs =
@@ -36,9 +27,6 @@ put-payload-requires c κs =
           (c .before .before .before .before .before .header-of .ensures) (P .3) (c .before .before .before .write-header .ensures),
     )
 
-same-length : tie.Need-same-length
-same-length c = search needs
-
 returns : tie.Need-returns
 returns c =
     let A = c .before .before .before .before .before .before .before .before .before .before .before .before .args in
@@ -48,6 +36,18 @@ returns c =
     let a = A in
     fragment-laid (a .g) (a .packet .now) (a .p) (P .0) (a .out .now) _ _ _ (a .number) (a .i) (Header-of .ensures) (P .3)
     (Write-header .ensures) _ (c .before .before .put-payload .ensures)
+
+header-of-requires : tie.Need-header-of-requires
+header-of-requires c κs = search needs
+
+write-header-requires : tie.Need-write-header-requires
+write-header-requires c κs = search needs
+
+part-put-payload-end : tie.Need-part-put-payload-end
+part-put-payload-end c = search needs
+
+same-length : tie.Need-same-length
+same-length c = search needs
 
 pub put-fragment-spec : {M : Type 1} → statement M
 put-fragment-spec =

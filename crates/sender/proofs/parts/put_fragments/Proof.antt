@@ -41,9 +41,6 @@ sub-put-fragment c =
 part-put-fragment-start : tie.Need-part-put-fragment-start Inv-loop μ-loop
 part-put-fragment-start c = sub-put-fragment c
 
-part-put-fragment-end : tie.Need-part-put-fragment-end Inv-loop μ-loop
-part-put-fragment-end c = search needs
-
 put-fragment-requires : tie.Need-put-fragment-requires Inv-loop μ-loop
 put-fragment-requires c κs =
     let A = c .before .before .before .before .before .before .before .args in
@@ -112,6 +109,9 @@ returns c =
     let a = A in
     let inv = L .inv in
     run.run-whole (a .g) (a .packet .now) (a .p) (P .0) (a .number) (a .out .now) (L .i) (L .out) (inv .0) (c .loop-test .left) (inv .2)
+
+part-put-fragment-end : tie.Need-part-put-fragment-end Inv-loop μ-loop
+part-put-fragment-end c = search needs
 
 pub put-fragments-spec : {M : Type 1} → statement M
 put-fragments-spec =

@@ -6,12 +6,6 @@ use Rattle.sender_rules.proofs.PayloadPlaces.{start-within, ends-plain}
 use Rattle.sender.proofs.parts.put_payload.Statement.{statement}
 use Rattle.sender.proofs.parts.put_payload.Tie as tie
 
-interleave-requires : tie.Need-interleave-requires
-interleave-requires c κs = search needs
-
-same-length : tie.Need-same-length
-same-length c = search needs
-
 returns : tie.Need-returns
 returns c =
     let A = c .before .before .before .before .before .before .before .before .args in
@@ -27,9 +21,6 @@ mul-from c =
     let a = c .before .before .before .before .before .args in
     omega (arith, start-within (a .g) (a .packet .now) (a .p) (P .0) (a .i) (P .2))
 
-payload-length-requires : tie.Need-payload-length-requires
-payload-length-requires c κs = search needs
-
 add-end : tie.Need-add-end
 add-end c =
     let A = c .before .before .before .before .before .before .args in
@@ -37,24 +28,12 @@ add-end c =
     let a = A in
     omega (arith, start-within (a .g) (a .packet .now) (a .p) (P .0) (a .i) (P .2), c .payload-length .ensures .1)
 
-sub-put : tie.Need-sub-put
-sub-put c = search needs
-
-part-put-start : tie.Need-part-put-start
-part-put-start c = search needs
-
 part-put-end : tie.Need-part-put-end
 part-put-end c =
     let A = c .before .before .before .before .before .before .before .args in
     let P = c .before .before .before .before .before .before .before .pre in
     let a = A in
     ends-plain (a .g) (a .packet .now) (a .p) (P .0) (a .i) (c .before .before .before .if1 .left) _ (P .2) (c .before .payload-length .ensures .0)
-
-put-requires : tie.Need-put-requires
-put-requires c κs = search needs
-
-same-length-2 : tie.Need-same-length-2
-same-length-2 c = search needs
 
 returns-2 : tie.Need-returns-2
 returns-2 c =
@@ -64,6 +43,27 @@ returns-2 c =
     let a = A in
     copied (a .g) (a .packet .now) (a .p) (P .0) (a .out .now) _ _ (a .i) _ (If1 .left)
     (c .before .before .before .before .before .payload-length .ensures .0) (P .3) (c .before .before .put .ensures)
+
+interleave-requires : tie.Need-interleave-requires
+interleave-requires c κs = search needs
+
+same-length : tie.Need-same-length
+same-length c = search needs
+
+payload-length-requires : tie.Need-payload-length-requires
+payload-length-requires c κs = search needs
+
+sub-put : tie.Need-sub-put
+sub-put c = search needs
+
+part-put-start : tie.Need-part-put-start
+part-put-start c = search needs
+
+put-requires : tie.Need-put-requires
+put-requires c κs = search needs
+
+same-length-2 : tie.Need-same-length-2
+same-length-2 c = search needs
 
 pub put-payload-spec : {M : Type 1} → statement M
 put-payload-spec =

@@ -6,12 +6,6 @@ use Rattle.sender_rules.proofs.Checks.{af-refused, af-granted}
 use Rattle.sender.proofs.ready.af_fault.Statement.{statement}
 use Rattle.sender.proofs.ready.af_fault.Tie as tie
 
-check-requires : tie.Need-check-requires
-check-requires c κs = search needs
-
-enum-known-checked : tie.Need-enum-known-checked
-enum-known-checked c = search needs
-
 enum-told : tie.Need-enum-told
 enum-told c = search needs
 
@@ -25,6 +19,12 @@ returns-2 : tie.Need-returns-2
 returns-2 c =
     af-granted (c .before .before .before .before .args .packet .now) _ (sym (ap numberOf (c .enum-told .given .1))
     ∙ c .before .before .check .ensures)
+
+check-requires : tie.Need-check-requires
+check-requires c κs = search needs
+
+enum-known-checked : tie.Need-enum-known-checked
+enum-known-checked c = search needs
 
 pub af-fault-spec : {M : Type 1} → statement M
 af-fault-spec = tie.close (tie.spec check-requires enum-known-checked enum-told returns returns-2)

@@ -7,9 +7,6 @@ use Rattle.walk.proofs.names.fault.Tie as tie
 use Rattle.walk.proofs.names.fault.Reads as reads
 use Rattle.walk.proofs.names.fault.Lts as lts
 
-mul-if1 : tie.Need-mul-if1
-mul-if1 c = search needs
-
 returns : tie.Need-returns
 returns c = too-many _ (omega (arith, c .if1 .taken))
 
@@ -18,6 +15,9 @@ returns-2 c = cut-short _ (omega (arith, c .before .if1 .left)) (λ z. omega (ar
 
 returns-3 : tie.Need-returns-3
 returns-3 c = well-formed _ (omega (arith, c .before .if1 .left)) (omega (arith, c .if2 .left))
+
+mul-if1 : tie.Need-mul-if1
+mul-if1 c = search needs
 
 pub fault-spec : {M : Type 1} → statement M
 fault-spec = tie.close (tie.spec mul-if1 returns returns-2 returns-3)

@@ -8,6 +8,19 @@ use Rattle.walk.proofs.steps.goes_on.Reads as reads
 use Rattle.walk.proofs.steps.goes_on.Lts as lts
 use Rattle.walk.proofs.names.is_container.Reads as is-container-reads
 
+returns : tie.Need-returns
+returns c =
+    let a = c .before .before .before .before .before .args in
+    into _ (a .d) (a .ends) (a .i) (c .before .before .if1 .taken) (sym (c .before .is-container .ensures) ∙ c .if2 .taken)
+
+returns-2 : tie.Need-returns-2
+returns-2 c =
+    let a = c .before .before .before .before .before .args in
+    behind _ (a .d) (a .ends) (a .i) (c .before .before .if1 .taken) (sym (c .before .is-container .ensures) ∙ c .if2 .left)
+
+returns-3 : tie.Need-returns-3
+returns-3 c = let a = c .before .before .before .args in behind-deepest _ (a .d) (a .ends) (a .i) (c .if1 .left)
+
 add-after : tie.Need-add-after
 add-after c = search needs
 
@@ -25,19 +38,6 @@ array-write-inner c = search needs
 
 add-t9 : tie.Need-add-t9
 add-t9 c = search needs
-
-returns : tie.Need-returns
-returns c =
-    let a = c .before .before .before .before .before .args in
-    into _ (a .d) (a .ends) (a .i) (c .before .before .if1 .taken) (sym (c .before .is-container .ensures) ∙ c .if2 .taken)
-
-returns-2 : tie.Need-returns-2
-returns-2 c =
-    let a = c .before .before .before .before .before .args in
-    behind _ (a .d) (a .ends) (a .i) (c .before .before .if1 .taken) (sym (c .before .is-container .ensures) ∙ c .if2 .left)
-
-returns-3 : tie.Need-returns-3
-returns-3 c = let a = c .before .before .before .args in behind-deepest _ (a .d) (a .ends) (a .i) (c .if1 .left)
 
 pub goes-on-spec : {M : Type 1} → statement M
 goes-on-spec =

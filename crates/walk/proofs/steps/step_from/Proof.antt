@@ -23,26 +23,8 @@ Inv-loop s names from depth ends at₀ d₀ at d = (d ≤ deepest) × (stepFrom 
 abbrev μ-loop : tie.MeasureT-loop
 μ-loop s names from depth ends at₀ d₀ at d = d
 
-lesser-requires : tie.Need-lesser-requires Inv-loop μ-loop
-lesser-requires c κs = search needs
-
 loop-holds : tie.Need-loop-holds Inv-loop μ-loop
 loop-holds c = (omega arith, refl)
-
-mul-lesser : tie.Need-mul-lesser Inv-loop μ-loop
-mul-lesser c = search needs
-
-array-read-lesser : tie.Need-array-read-lesser Inv-loop μ-loop
-array-read-lesser c = search needs
-
-lesser-requires-2 : tie.Need-lesser-requires-2 Inv-loop μ-loop
-lesser-requires-2 c κs = search needs
-
-step-in-requires : tie.Need-step-in-requires Inv-loop μ-loop
-step-in-requires c κs = search needs
-
-enum-known-step : tie.Need-enum-known-step Inv-loop μ-loop
-enum-known-step c = search needs
 
 goes-on-requires : tie.Need-goes-on-requires Inv-loop μ-loop
 goes-on-requires c κs =
@@ -61,12 +43,6 @@ returns c =
     ∙ step-item (now (a .s)) (namesOf (now (a .names))) (l .loop .at) (a .t5) (l .loop .d) _ _ _ (k .before .before .before .lesser2 .ensures) e
     (c .goes-on .ensures))
 
-enum-known-step-2 : tie.Need-enum-known-step-2 Inv-loop μ-loop
-enum-known-step-2 c = search needs
-
-stays-requires : tie.Need-stays-requires Inv-loop μ-loop
-stays-requires c κs = search needs
-
 returns-2 : tie.Need-returns-2 Inv-loop μ-loop
 unfolding endOf
 returns-2 c =
@@ -80,12 +56,6 @@ returns-2 c =
     ∙ step-end (now (a .s)) (namesOf (now (a .names))) (l .loop .at) (a .t5) (l .loop .d) _ _ (k .before .before .before .lesser2 .ensures) e
     (omega (arith, at-end .if1 .taken)))
 
-sub-d : tie.Need-sub-d Inv-loop μ-loop
-sub-d c = search needs
-
-loop-less : tie.Need-loop-less Inv-loop μ-loop
-loop-less c = search needs
-
 loop-again : tie.Need-loop-again Inv-loop μ-loop
 unfolding endOf
 loop-again c =
@@ -98,12 +68,6 @@ loop-again c =
           (k .before .before .before .lesser2 .ensures) e (c .if1 .left),
     )
 
-enum-known-step-3 : tie.Need-enum-known-step-3 Inv-loop μ-loop
-enum-known-step-3 c = search needs
-
-stays-requires-2 : tie.Need-stays-requires-2 Inv-loop μ-loop
-stays-requires-2 c κs = search needs
-
 returns-3 : tie.Need-returns-3 Inv-loop μ-loop
 unfolding endOf
 returns-3 c =
@@ -114,6 +78,42 @@ returns-3 c =
     c .stays2 .ensures
     ∙ sym (ap (λ (d : ℕ). stepFrom (now (a .s)) (namesOf (now (a .names))) (a .from) d (a .t5)) (sym (l .before .lesser .ensures)) ∙ l .loop .inv .1
     ∙ step-refused (now (a .s)) (namesOf (now (a .names))) (l .loop .at) (a .t5) (l .loop .d) _ _ (k .before .before .before .lesser2 .ensures) e)
+
+lesser-requires : tie.Need-lesser-requires Inv-loop μ-loop
+lesser-requires c κs = search needs
+
+mul-lesser : tie.Need-mul-lesser Inv-loop μ-loop
+mul-lesser c = search needs
+
+array-read-lesser : tie.Need-array-read-lesser Inv-loop μ-loop
+array-read-lesser c = search needs
+
+lesser-requires-2 : tie.Need-lesser-requires-2 Inv-loop μ-loop
+lesser-requires-2 c κs = search needs
+
+step-in-requires : tie.Need-step-in-requires Inv-loop μ-loop
+step-in-requires c κs = search needs
+
+enum-known-step : tie.Need-enum-known-step Inv-loop μ-loop
+enum-known-step c = search needs
+
+enum-known-step-2 : tie.Need-enum-known-step-2 Inv-loop μ-loop
+enum-known-step-2 c = search needs
+
+stays-requires : tie.Need-stays-requires Inv-loop μ-loop
+stays-requires c κs = search needs
+
+sub-d : tie.Need-sub-d Inv-loop μ-loop
+sub-d c = search needs
+
+loop-less : tie.Need-loop-less Inv-loop μ-loop
+loop-less c = search needs
+
+enum-known-step-3 : tie.Need-enum-known-step-3 Inv-loop μ-loop
+enum-known-step-3 c = search needs
+
+stays-requires-2 : tie.Need-stays-requires-2 Inv-loop μ-loop
+stays-requires-2 c κs = search needs
 
 pub step-from-spec : {M : Type 1} → statement M
 step-from-spec =

@@ -276,45 +276,12 @@ walk-value-returns t c = one-deeper _ _ _ _ _ _ (c .walk-packet .ensures)
 
 pub +walk-item+walk-packet+walk-value-spec : {M : Type 1} → statement M
 +walk-item+walk-packet+walk-value-spec =
-    close μ-walk-item μ-walk-packet μ-walk-value (λ t. walk-item-lts.spec
-    (item-calls t)
-    (walk-item-at t)
-    walk-item.Post
-    (walk-item-fault-of-requires t)
-    (walk-item-returns t)
-    (walk-item-is-container-requires t)
-    (walk-item-returns-2 t)
-    (walk-item-returns-3 t)
-    (walk-item-walk-value-requires t)
-    (walk-item-returns-4 t)
-    (walk-item-returns-5 t))
-    (λ t. walk-packet-lts.spec
-    (packet-calls t)
-    (walk-packet-at t)
-    walk-packet.Post
-    walk-packet-Inv-loop
-    walk-packet-μ-loop
-    (walk-packet-no-marks-requires t)
-    (walk-packet-loop-holds t)
-    (walk-packet-step-in-requires t)
-    (walk-packet-enum-known-step t)
-    (walk-packet-slot-requires t)
-    (walk-packet-array-read-walk-item t)
-    (walk-packet-walk-item-requires t)
-    (walk-packet-returns t)
-    (walk-packet-array-write-marks t)
-    (walk-packet-add-at t)
-    (walk-packet-loop-less t)
-    (walk-packet-loop-again t)
-    (walk-packet-enum-told t)
-    (walk-packet-returns-2 t)
-    (walk-packet-enum-known-step-2 t)
-    (walk-packet-returns-3 t))
-    λ t. walk-value-lts.spec
-    (value-calls t)
-    (walk-value-at t)
-    walk-value.Post
-    (walk-value-add-walk-packet t)
-    (walk-value-add-walk-packet-2 t)
-    (walk-value-walk-packet-requires t)
-    (walk-value-returns t)
+    close μ-walk-item μ-walk-packet μ-walk-value (λ t. walk-item-lts.spec (item-calls t) (walk-item-at t) walk-item.Post
+    (walk-item-fault-of-requires t) (walk-item-returns t) (walk-item-is-container-requires t) (walk-item-returns-2 t) (walk-item-returns-3 t)
+    (walk-item-walk-value-requires t) (walk-item-returns-4 t) (walk-item-returns-5 t)) (λ t. walk-packet-lts.spec (packet-calls t) (walk-packet-at t)
+    walk-packet.Post walk-packet-Inv-loop walk-packet-μ-loop (walk-packet-no-marks-requires t) (walk-packet-loop-holds t)
+    (walk-packet-step-in-requires t) (walk-packet-enum-known-step t) (walk-packet-slot-requires t) (walk-packet-array-read-walk-item t)
+    (walk-packet-walk-item-requires t) (walk-packet-returns t) (walk-packet-array-write-marks t) (walk-packet-add-at t) (walk-packet-loop-less t)
+    (walk-packet-loop-again t) (walk-packet-enum-told t) (walk-packet-returns-2 t) (walk-packet-enum-known-step-2 t) (walk-packet-returns-3 t))
+    λ t. walk-value-lts.spec (value-calls t) (walk-value-at t) walk-value.Post (walk-value-add-walk-packet t) (walk-value-add-walk-packet-2 t)
+    (walk-value-walk-packet-requires t) (walk-value-returns t)

@@ -19,9 +19,6 @@ placed : (c : tie.Else2) → tooMuch (c .before .before .before .before .before 
 placed c =
     told (c .before .too-much .ensures) (c .if2 .left)
 
-bad-count-requires : tie.Need-bad-count-requires
-bad-count-requires c κs = search needs
-
 returns : tie.Need-returns
 unfolding numberOf
 returns c =
@@ -61,9 +58,6 @@ lay-requires c κs =
     let a = c .before .before .before .before .before .before .before .before .before .args in
     (cases.fits-place (a .f) (a .s) (placed (c .before .before .before)), c .before .before .if3 .left, c .before .if4 .left)
 
-same-length : tie.Need-same-length
-same-length c = search needs
-
 returns-5 : tie.Need-returns-5
 unfolding numberOf
 returns-5 c =
@@ -72,6 +66,12 @@ returns-5 c =
     let a = A in
     cases.cells-done (a .held .now) (a .out .now) (a .f) (a .s) (counted (Before)) (placed (c .before .before .before .before .before .before))
     (c .before .before .before .before .before .if3 .left) _ (c .before .before .before .before .if4 .left) (c .before .before .lay .ensures)
+
+bad-count-requires : tie.Need-bad-count-requires
+bad-count-requires c κs = search needs
+
+same-length : tie.Need-same-length
+same-length c = search needs
 
 pub deinterleave-spec : {M : Type 1} → statement M
 deinterleave-spec =

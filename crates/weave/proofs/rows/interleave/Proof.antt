@@ -19,9 +19,6 @@ placed : (c : tie.Else2) → tooMuch (c .before .before .before .before .before 
 placed c =
     told (c .before .too-much .ensures) (c .if2 .left)
 
-bad-count-requires : tie.Need-bad-count-requires
-bad-count-requires c κs = search needs
-
 returns : tie.Need-returns
 unfolding numberOf
 returns c =
@@ -53,9 +50,6 @@ returns-4 c =
     cases.weave-1 (a .block .now) (a .out .now) (a .f) (a .s) (a .i) (counted (c .before .before .before .before)) (placed (c .before .before))
     (c .before .if3 .left) (c .if4 .taken)
 
-rows-within-requires : tie.Need-rows-within-requires
-rows-within-requires c κs = search needs
-
 pick-requires : tie.Need-pick-requires
 pick-requires c κs =
     let Rows-within = c .before .rows-within in
@@ -64,12 +58,6 @@ pick-requires c κs =
       omega (arith, Rows-within .ensures .0, c .before .before .if4 .left),
       Rows-within .ensures .1,
     )
-
-blank-requires : tie.Need-blank-requires
-blank-requires c κs = search needs
-
-same-length : tie.Need-same-length
-same-length c = search needs
 
 returns-5 : tie.Need-returns-5
 unfolding numberOf
@@ -83,6 +71,18 @@ returns-5 c =
     (placed (d .before .before .before)) (d .before .before .if3 .left) _ (d .before .if4 .left)
     (cases.both-written (a .block .now) (a .f) (a .s) (a .i) (rows .result) (rows .ensures .0) (rows .ensures .2) (a .out .now) _ _
     (Pick .ensures) (c .before .before .blank .ensures))
+
+bad-count-requires : tie.Need-bad-count-requires
+bad-count-requires c κs = search needs
+
+rows-within-requires : tie.Need-rows-within-requires
+rows-within-requires c κs = search needs
+
+blank-requires : tie.Need-blank-requires
+blank-requires c κs = search needs
+
+same-length : tie.Need-same-length
+same-length c = search needs
 
 pub interleave-spec : {M : Type 1} → statement M
 interleave-spec =

@@ -7,18 +7,6 @@ use Rattle.weave_rules.proofs.CallCases.{row-inside, row-outside}
 use Rattle.weave.proofs.rows.rows_within.Statement.{statement}
 use Rattle.weave.proofs.rows.rows_within.Tie as tie
 
-returns : tie.Need-returns
-returns c = search needs
-
-sub-rows : tie.Need-sub-rows
-sub-rows c = search needs
-
-sub-rows-2 : tie.Need-sub-rows-2
-sub-rows-2 c = search needs
-
-div-rows : tie.Need-div-rows
-div-rows c = search needs
-
 add-rows : tie.Need-add-rows
 add-rows c = let a = c .before .args in omega (arith, div-le-self (a .len - a .i - 1) (a .f))
 
@@ -36,6 +24,18 @@ returns-3 c =
       λ (t : ℕ) (h : t < a .s). row-inside (a .len) (a .f) (a .i) (c .before .before .pre) (c .before .if1 .left) t (omega arith),
       λ (t : ℕ) (h : a .s ≤ t) (l : t < a .s). absurd (omega arith),
     )
+
+returns : tie.Need-returns
+returns c = search needs
+
+sub-rows : tie.Need-sub-rows
+sub-rows c = search needs
+
+sub-rows-2 : tie.Need-sub-rows-2
+sub-rows-2 c = search needs
+
+div-rows : tie.Need-div-rows
+div-rows c = search needs
 
 pub rows-within-spec : {M : Type 1} → statement M
 rows-within-spec =

@@ -15,17 +15,17 @@ returns-2 c =
     let a = c .before .before .args in
     rw (k-over (a .k) (c .before .if1 .left) (c .if2 .taken))
 
-mul-result : tie.Need-mul-result
-mul-result c = search needs
-
-add-result : tie.Need-add-result
-add-result c = search needs
-
 returns-3 : tie.Need-returns-3
 unfolding badChunk
 returns-3 c =
     let a = c .before .before .args in
     rw (k-fits (a .k) (c .before .if1 .left) (c .if2 .left))
+
+mul-result : tie.Need-mul-result
+mul-result c = search needs
+
+add-result : tie.Need-add-result
+add-result c = search needs
 
 pub bad-chunk-spec : {M : Type 1} → statement M
 bad-chunk-spec = tie.close (tie.spec returns returns-2 mul-result add-result returns-3)

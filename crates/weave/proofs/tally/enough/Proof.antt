@@ -24,9 +24,6 @@ sound : (c : tie.Else3) → badChunk (c .before .before .before .before .before 
 sound c =
     told (c .before .bad-chunk .ensures) (c .if3 .left)
 
-bad-count-requires : tie.Need-bad-count-requires
-bad-count-requires c κs = search needs
-
 returns : tie.Need-returns
 returns c =
     let a = c .before .before .args in
@@ -62,9 +59,6 @@ mul-suffices c =
     let a = c .before .before .before .before .before .before .args in
     omega (arith, cases.fits-place (a .f) (a .s) (placed (c .before .before)))
 
-div-suffices : tie.Need-div-suffices
-div-suffices c = search needs
-
 suffices-requires : tie.Need-suffices-requires
 suffices-requires c κs =
     let A = c .before .before .before .before .before .before .args in
@@ -88,6 +82,12 @@ returns-5 c =
     let a = A in
     cases.held-not (a .kept) (a .f) (a .s) (a .k) (counted (c .before .before .before .before .before .before))
     (placed (c .before .before .before .before)) (sound (c .before .before)) _ (c .before .suffices .ensures) (c .if4 .left)
+
+bad-count-requires : tie.Need-bad-count-requires
+bad-count-requires c κs = search needs
+
+div-suffices : tie.Need-div-suffices
+div-suffices c = search needs
 
 pub enough-spec : {M : Type 1} → statement M
 enough-spec =

@@ -21,12 +21,6 @@ loop-holds : tie.Need-loop-holds Inv-loop μ-loop
 unfolding count
 loop-holds c = (omega arith, refl, omega arith, refl, sums-none (notKept (c .args .t1)) (replicate (most-f + 1) 0) refl)
 
-array-read-lost : tie.Need-array-read-lost Inv-loop μ-loop
-array-read-lost c = search needs
-
-lost-requires : tie.Need-lost-requires Inv-loop μ-loop
-lost-requires c κs = search needs
-
 add-w : tie.Need-add-w Inv-loop μ-loop
 add-w c = omega arith
 
@@ -35,9 +29,6 @@ add-i c = omega arith
 
 mul-sums : tie.Need-mul-sums Inv-loop μ-loop
 mul-sums c = omega arith
-
-array-write-sums : tie.Need-array-write-sums Inv-loop μ-loop
-array-write-sums c = search needs
 
 loop-less : tie.Need-loop-less Inv-loop μ-loop
 loop-less c = omega arith
@@ -56,6 +47,15 @@ loop-again c = let d = c .before .before .loop in
 returns : tie.Need-returns Inv-loop μ-loop
 returns c = λ i (h : i ≤ c .before .before .args .f).
     c .before .loop .inv .4 .at i (omega arith)
+
+array-read-lost : tie.Need-array-read-lost Inv-loop μ-loop
+array-read-lost c = search needs
+
+lost-requires : tie.Need-lost-requires Inv-loop μ-loop
+lost-requires c κs = search needs
+
+array-write-sums : tie.Need-array-write-sums Inv-loop μ-loop
+array-write-sums c = search needs
 
 pub sums-of-spec : {M : Type 1} → statement M
 sums-of-spec =
