@@ -95,15 +95,15 @@ fn summed(p: [u8; PARITY], c: &[u8], k: usize) -> [u8; PARITY]
 }
 
 // What the chunk c of k data bytes leaves when it is divided by the generator, with a table that `make_table` made: zeros where it is a word
-// of the code. Zeros too where k is over 207, or c has not k bytes and their parity.
+// of the code. 255 in every place, and so no word, where k is over 207, or c has not k bytes and their parity.
 pub fn remainder_of(t: &[u8; TABLE], k: usize, c: &[u8]) -> [u8; PARITY]
     ensures { λ r. ⌜ r ≡ remainderBy (now (t .entry)) k (now (c .entry)) ⌝ }
 {
     if MOST_K < k {
-        return [0u8; PARITY];
+        return [255u8; PARITY];
     }
     if c.len() != k + PARITY {
-        return [0u8; PARITY];
+        return [255u8; PARITY];
     }
     let p = parity_of(t, &c[..k]);
     summed(p, c, k)

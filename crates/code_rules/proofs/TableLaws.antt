@@ -100,13 +100,13 @@ steps-end t d = refl
 -- ---- the remainder by any table, by the tests at its head
 
 -- more data bytes than a chunk has
-pub remainder-long : (t : List ℕ) (k : ℕ) (c : List ℕ) → 207 < k → replicate 48 0 ≡ remainderBy t k c
+pub remainder-long : (t : List ℕ) (k : ℕ) (c : List ℕ) → 207 < k → replicate 48 255 ≡ remainderBy t k c
 unfolding remainderBy
 remainder-long t k c h = rw (lt-ltb 207 k h)
 
 module _ (t : List ℕ) (k : ℕ) (c : List ℕ) (h : k ≤ 207) where
   -- no chunk of k data bytes
-  pub remainder-other : (length c ≡ k + 48 → ⊥) → replicate 48 0 ≡ remainderBy t k c
+  pub remainder-other : (length c ≡ k + 48 → ⊥) → replicate 48 255 ≡ remainderBy t k c
   unfolding remainderBy
   remainder-other e = rw (le-ltb 207 k h, ne-eqb (length c) (k + 48) e)
 

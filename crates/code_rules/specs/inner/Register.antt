@@ -34,8 +34,8 @@ registerBy t d (suc i) = eightBy t (registerBy t d i) d (i * 8)
 unfoldable pub parityBy : List ℕ → List ℕ → List ℕ
 parityBy t d = registerBy t (laid d) ((most-k + 1) / 8)
 
--- the sum of that for the first k bytes of c and the 48 behind them; zeros where c is no chunk of k data bytes
+-- the sum of that for the first k bytes of c and the 48 behind them; 255 in every place, so never zeros, where c is no chunk of k data bytes
 unfoldable pub remainderBy : List ℕ → ℕ → List ℕ → List ℕ
 remainderBy t k c =
-    cond (ltb most-k k) (replicate parity 0)
-    (cond (eqb (length c) (k + parity)) (sumOf (parityBy t (take k c)) (drop k c)) (replicate parity 0))
+    cond (ltb most-k k) (replicate parity 255)
+    (cond (eqb (length c) (k + parity)) (sumOf (parityBy t (take k c)) (drop k c)) (replicate parity 255))
