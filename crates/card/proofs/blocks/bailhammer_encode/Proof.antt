@@ -5,9 +5,7 @@ use Rattle.card.proofs.blocks.bailhammer_encode.Statement.{statement}
 use Rattle.card.proofs.blocks.bailhammer_encode.Tie as tie
 
 returns : tie.Need-returns
-returns c =
-    let done = c .before .before .before .encode in
-    handed-on (done .ensures) (c .written-number .ensures)
+returns c = handed-on (c .before .before .before .encode .ensures) (c .written-number .ensures)
 
 encode-requires : tie.Need-encode-requires
 encode-requires c κs = search needs

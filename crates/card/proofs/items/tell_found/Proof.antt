@@ -20,24 +20,20 @@ tell-requires-2 c κs = rw (c .before .found-values2 .ensures) (refl, refl)
 returns : tie.Need-returns
 unfolding locatedNumber
 returns c =
-    let said = c .before .before in
-    let listed = said .before .before in
-    let known = listed .before .before .before .before in
-    told-granted found-widths _ (known .before .before .before .args .told .now) (ap locatedNumber (known .l .given .1))
-    (listed .found-values .ensures) (said .tell .ensures)
+    let listed = c .before .before .before .before in
+    told-granted found-widths _ _ (ap locatedNumber (listed .before .before .before .before .l .given .1)) (listed .found-values .ensures)
+    (c .before .before .tell .ensures)
 
 returns-2 : tie.Need-returns-2
 unfolding locatedNumber
 returns-2 c =
-    let said = c .before .before in
-    let listed = said .before .before in
-    let known = listed .before .before .before .before in
-    told-granted found-widths _ (known .before .before .before .args .told .now) (ap locatedNumber (known .l2 .given .1))
-    (listed .found-values2 .ensures) (said .tell2 .ensures)
+    let listed = c .before .before .before .before in
+    told-granted found-widths _ _ (ap locatedNumber (listed .before .before .before .before .l2 .given .1)) (listed .found-values2 .ensures)
+    (c .before .before .tell2 .ensures)
 
 returns-3 : tie.Need-returns-3
 unfolding locatedNumber
-returns-3 c = told-refused found-widths (c .before .before .before .before .args .told .now) (ap locatedNumber (c .before .l3 .given .1))
+returns-3 c = told-refused found-widths _ (ap locatedNumber (c .before .l3 .given .1))
 
 enum-known-l : tie.Need-enum-known-l
 enum-known-l c = search needs

@@ -5,9 +5,7 @@ use Rattle.card.proofs.packets.bailhammer_item.Statement.{statement}
 use Rattle.card.proofs.packets.bailhammer_item.Tie as tie
 
 returns : tie.Need-returns
-returns c =
-    let done = c .before .before .before .write in
-    handed-on (done .ensures) (c .written-number .ensures)
+returns c = handed-on (c .before .before .before .write .ensures) (c .written-number .ensures)
 
 write-requires : tie.Need-write-requires
 write-requires c κs = search needs

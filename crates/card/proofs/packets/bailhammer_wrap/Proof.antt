@@ -5,9 +5,7 @@ use Rattle.card.proofs.packets.bailhammer_wrap.Statement.{statement}
 use Rattle.card.proofs.packets.bailhammer_wrap.Tie as tie
 
 returns : tie.Need-returns
-returns c =
-    let done = c .before .before .before .wrap in
-    handed-on (done .ensures) (c .written-number .ensures)
+returns c = handed-on (c .before .before .before .wrap .ensures) (c .written-number .ensures)
 
 wrap-requires : tie.Need-wrap-requires
 wrap-requires c κs = search needs

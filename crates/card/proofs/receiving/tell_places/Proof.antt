@@ -17,15 +17,13 @@ tell-requires c κs = as-wide places-widths (c .before .shown-values .result) (s
 returns : tie.Need-returns
 unfolding queriedIn
 returns c =
-    let said = c .before .before in
-    let listed = said .before .before in
-    let known = listed .before .before .before .before in
-    told-granted places-widths _ (known .before .before .before .args .told .now) (ap queriedIn (known .q .given .1))
-    (listed .shown-values .ensures) (said .tell .ensures)
+    let listed = c .before .before .before .before in
+    told-granted places-widths _ _ (ap queriedIn (listed .before .before .before .before .q .given .1)) (listed .shown-values .ensures)
+    (c .before .before .tell .ensures)
 
 returns-2 : tie.Need-returns-2
 unfolding queriedIn
-returns-2 c = told-refused places-widths (c .before .before .before .before .args .told .now) (ap queriedIn (c .before .q2 .given .1))
+returns-2 c = told-refused places-widths _ (ap queriedIn (c .before .q2 .given .1))
 
 enum-known-q : tie.Need-enum-known-q
 enum-known-q c = search needs

@@ -1,13 +1,12 @@
 -- `tell_receipt` meets its contract: a refusal tells nothing. Assumes nothing.
-use mathlib.Core.Path.{_≡_, sym, ap, _∙_}
+use mathlib.Core.Path.{_≡_, refl, sym, ap, _∙_}
 use mathlib.Core.List.{List}
 use Prim.Native.Nat.{ℕ}
 use Rattle.base_rules.specs.Bytes.{bytesOf}
-use Rattle.places_rules.specs.declared.Displaced.{Displaced}
 use Rattle.receiver_rules.specs.Promise.{numberOf}
 use Rattle.receiver_rules.specs.declared.Received.{Received}
 use Rattle.card_rules.specs.Told.{toldIn, inWidths}
-use Rattle.card_rules.specs.Receiving.{receiptTold, receipt-widths, toldAfter}
+use Rattle.card_rules.specs.Receiving.{receipt-widths, toldAfter}
 use Rattle.card_rules.proofs.TellLaws.{as-wide}
 use borrow.Author.Needs.{needs}
 use Rattle.card.proofs.receiving.tell_receipt.Statement.{statement}
@@ -16,10 +15,14 @@ use Rattle.card.proofs.receiving.tell_receipt.Tie as tie
 abbrev number : Received → ℕ
 number a = numberOf a .0
 
--- what is told, with its figures by name
-told-in : (handed n missing : ℕ) (d : Displaced) (before after values : List ℕ) → values ≡ receiptTold handed n missing d
-    → after ≡ toldIn before (inWidths receipt-widths values) → after ≡ toldIn before (inWidths receipt-widths (receiptTold handed n missing d))
-told-in handed n missing d before after values e h = h ∙ ap (λ (l : List ℕ). toldIn before (inWidths receipt-widths l)) e
+-- the number and what is told, where the answer a is the case x, which shows these figures
+told-in : (before after : List ℕ) {a x : Received} {values shown : List ℕ} → a ≡ x → values ≡ shown
+    → after ≡ toldIn before (inWidths receipt-widths values) → toldIn before (inWidths receipt-widths shown) ≡ toldAfter x before
+    → (number x ≡ number a) × (after ≡ toldAfter a before)
+told-in before after is e h same = (
+  sym (ap number is),
+  h ∙ ap (λ (l : List ℕ). toldIn before (inWidths receipt-widths l)) e ∙ same ∙ sym (ap (λ (x : Received). toldAfter x before) is),
+)
 
 tell-requires : tie.Need-tell-requires
 unfolding inWidths bytesOf
@@ -36,40 +39,20 @@ tell-requires-3 c κs = as-wide receipt-widths (c .before .receipt-values3 .resu
 returns : tie.Need-returns
 unfolding numberOf toldAfter
 returns c =
-    let said = c .before .before in
-    let listed = said .before .before in
-    let known = listed .before .before .before .before in
-    let given = known .a .given in
-    let before = known .before .before .before .args .told .now in (
-      sym (ap number (given .1)),
-      told-in 0 0 0 _ before _ _ (listed .receipt-values .ensures) (said .tell .ensures) ∙ sym (ap (λ (x : Received). toldAfter x before) (given .1)),
-    )
+    let listed = c .before .before .before .before in
+    told-in _ _ (listed .before .before .before .before .a .given .1) (listed .receipt-values .ensures) (c .before .before .tell .ensures) refl
 
 returns-2 : tie.Need-returns-2
 unfolding numberOf toldAfter
 returns-2 c =
-    let said = c .before .before in
-    let listed = said .before .before in
-    let known = listed .before .before .before .before in
-    let given = known .a2 .given in
-    let before = known .before .before .before .args .told .now in (
-      sym (ap number (given .1)),
-      told-in 1 (given .0 .0) (given .0 .1 .0) _ before _ _ (listed .receipt-values2 .ensures) (said .tell2 .ensures)
-          ∙ sym (ap (λ (x : Received). toldAfter x before) (given .1)),
-    )
+    let listed = c .before .before .before .before in
+    told-in _ _ (listed .before .before .before .before .a2 .given .1) (listed .receipt-values2 .ensures) (c .before .before .tell2 .ensures) refl
 
 returns-3 : tie.Need-returns-3
 unfolding numberOf toldAfter
 returns-3 c =
-    let said = c .before .before in
-    let listed = said .before .before in
-    let known = listed .before .before .before .before in
-    let given = known .a3 .given in
-    let before = known .before .before .before .args .told .now in (
-      sym (ap number (given .1)),
-      told-in 0 0 0 _ before _ _ (listed .receipt-values3 .ensures) (said .tell3 .ensures)
-          ∙ sym (ap (λ (x : Received). toldAfter x before) (given .1)),
-    )
+    let listed = c .before .before .before .before in
+    told-in _ _ (listed .before .before .before .before .a3 .given .1) (listed .receipt-values3 .ensures) (c .before .before .tell3 .ensures) refl
 
 returns-4 : tie.Need-returns-4
 unfolding numberOf toldAfter

@@ -1,5 +1,5 @@
 -- `fill_cells` meets its contract. Assumes nothing.
-use mathlib.Core.Path.{_≡_, refl, sym, _∙_, subst}
+use mathlib.Core.Path.{_≡_, refl, sym, _∙_}
 use Prim.Native.Nat.{ℕ, _+_, _*_, _/_}
 use native.Mathlib.Omega.{arith}
 use native.Mathlib.Nat.{div-mul-le-self}
@@ -7,8 +7,6 @@ use borrow.Author.Needs.{needs}
 use lib.ListN.{length, take}
 use lib.Seq.{length-take-le}
 use Rattle.weave_rules.proofs.CallCases.{chunk-some, f-some, f-most, fits-place}
-use Rattle.code_rules.specs.inner.Block.{BlockTried}
-use Rattle.code_rules.specs.Calls.{lostCells}
 use Rattle.code_rules.proofs.CellLaws as laws
 use Rattle.code_decoder.proofs.calls.fill_cells.Statement.{statement}
 use Rattle.code_decoder.proofs.calls.fill_cells.Tie as tie
@@ -47,37 +45,29 @@ fill-lost-requires c κs =
       enough = P .told ∙ c .before .if2 .taken;
     }
 
+-- the call leaves as many bytes as it was lent
+size : (c : tie.After-fill-lost)
+    → let A = c .before .before .before .before .before .args in
+    length (c .fill-lost .last .1 .1 .1 .1 .0) ≡ A .f * A .s / (A .k + 48) * (A .k + 48)
+size c =
+    let A = c .before .before .before .before .before .args in
+    let all : ℕ = A .f * A .s / (A .k + 48) * (A .k + 48) in
+    let same : length (c .fill-lost .last .1 .1 .1 .1 .0) ≡ length (take all (A .block .now)) = search needs in
+    same ∙ length-take-le all (A .block .now) (c .before .before .before .if1 .left)
+
 returns-2 : tie.Need-returns-2
 returns-2 c =
-    let F = c .before .before .before .fill-lost in
-    let E = c .before .before .before .before .before in
-    let A = E .before .before .before .args in
-    let old = A .block .now in
-    let n : ℕ = A .k + 48 in
-    let all : ℕ = A .f * A .s / n * n in
-    let cells = lostCells (A .kept) (A .f) 0 all in
-    let whole = E .before .if1 .left in
-    let new = F .last .1 .1 .1 .1 .0 in
-    let same : length new ≡ length (take all old) = search needs in
-    let tried = subst (BlockTried (A .k) cells (A .f * A .s / n) (take all old) new) (c .if3 .taken) (F .ensures) in
-    laws.fill-done (A .kept) (A .f) (A .s) (A .k) old (A .enough) (E .before .before .before .pre) whole new _
-    (same ∙ length-take-le all old whole) refl (E .if2 .taken) tried
+    let F = c .before .before .before in
+    let E = F .before .before in
+    laws.fill-done _ _ _ _ _ _ (E .before .before .before .pre) (E .before .if1 .left) (F .fill-lost .last .1 .1 .1 .1 .0) _ (size F) refl
+    (E .if2 .taken) (rw (c .if3 .taken) at (F .fill-lost .ensures))
 
 returns-3 : tie.Need-returns-3
 returns-3 c =
-    let F = c .before .before .before .fill-lost in
-    let E = c .before .before .before .before .before in
-    let A = E .before .before .before .args in
-    let old = A .block .now in
-    let n : ℕ = A .k + 48 in
-    let all : ℕ = A .f * A .s / n * n in
-    let cells = lostCells (A .kept) (A .f) 0 all in
-    let whole = E .before .if1 .left in
-    let new = F .last .1 .1 .1 .1 .0 in
-    let same : length new ≡ length (take all old) = search needs in
-    let tried = subst (BlockTried (A .k) cells (A .f * A .s / n) (take all old) new) (c .if3 .left) (F .ensures) in
-    laws.fill-nothing (A .kept) (A .f) (A .s) (A .k) old (A .enough) (E .before .before .before .pre) whole new _
-    (same ∙ length-take-le all old whole) refl (E .if2 .taken) tried
+    let F = c .before .before .before in
+    let E = F .before .before in
+    laws.fill-nothing _ _ _ _ _ _ (E .before .before .before .pre) (E .before .if1 .left) (F .fill-lost .last .1 .1 .1 .1 .0) _ (size F) refl
+    (E .if2 .taken) (rw (c .if3 .left) at (F .fill-lost .ensures))
 
 returns-4 : tie.Need-returns-4
 returns-4 c =

@@ -1,61 +1,40 @@
 -- `encode_one` meets its contract. Assumes nothing.
 use mathlib.Core.Path.{_≡_, sym, ap, _∙_}
-use mathlib.Core.List.{List}
-use Prim.Native.Nat.{ℕ, _+_, _-_, _*_, _≤_, _<_}
+use Prim.Native.Nat.{_+_, _-_, _*_, _≤_}
 use native.Mathlib.Omega.{arith}
 use borrow.Author.Needs.{needs}
 use lib.ListN.{length, take, drop}
-use Rattle.code_rules.specs.inner.Block.{EncSized}
 use Rattle.code_rules.proofs.EncodedLaws.{one-encoded}
 use Rattle.code_rules.proofs.PartLaws.{room, length-part, mid-part}
 use Rattle.code_encoder.proofs.blocks.encode_one.Statement.{statement}
 use Rattle.code_encoder.proofs.blocks.encode_one.Tie as tie
 
 -- chunk j ends within the data and within the room
-ends : (k c j : ℕ) (src out : List ℕ) → EncSized k c src out → j < c → (j * k + k ≤ length src) × (j * (k + 48) + (k + 48) ≤ length out)
-ends k c j src out s h = (omega (arith, room k c j h, s .datas), omega (arith, room (k + 48) c j h, s .chunks))
+ends : (c : tie.After-slice-known)
+    → let A = c .before .before .args in
+    (A .j * A .k + A .k ≤ length (A .src .now)) × (A .j * (A .k + 48) + (A .k + 48) ≤ length (A .out .now))
+ends c =
+    let A = c .before .before .args in
+    let P = c .before .before .pre in
+    (omega (arith, room (A .k) (A .c) (A .j) (P .1), P .0 .datas), omega (arith, room (A .k + 48) (A .c) (A .j) (P .1), P .0 .chunks))
 
 mul-a : tie.Need-mul-a
-mul-a c =
-    let A = c .before .before .args in
-    let P = c .before .before .pre in
-    let E = ends (A .k) (A .c) (A .j) (A .src .now) (A .out .now) (P .0) (P .1) in
-    omega (arith, E .0, E .1)
+mul-a c = omega (arith, ends c)
 
 add-b : tie.Need-add-b
-add-b c =
-    let A = c .before .before .args in
-    let P = c .before .before .pre in
-    let E = ends (A .k) (A .c) (A .j) (A .src .now) (A .out .now) (P .0) (P .1) in
-    omega (arith, E .0, E .1)
+add-b c = omega (arith, ends c)
 
 mul-f : tie.Need-mul-f
-mul-f c =
-    let A = c .before .before .args in
-    let P = c .before .before .pre in
-    let E = ends (A .k) (A .c) (A .j) (A .src .now) (A .out .now) (P .0) (P .1) in
-    omega (arith, E .0, E .1)
+mul-f c = omega (arith, ends c)
 
 add-e : tie.Need-add-e
-add-e c =
-    let A = c .before .before .args in
-    let P = c .before .before .pre in
-    let E = ends (A .k) (A .c) (A .j) (A .src .now) (A .out .now) (P .0) (P .1) in
-    omega (arith, E .0, E .1)
+add-e c = omega (arith, ends c)
 
 part-encode-chunk-end : tie.Need-part-encode-chunk-end
-part-encode-chunk-end c =
-    let A = c .before .before .args in
-    let P = c .before .before .pre in
-    let E = ends (A .k) (A .c) (A .j) (A .src .now) (A .out .now) (P .0) (P .1) in
-    omega (arith, E .0, E .1)
+part-encode-chunk-end c = omega (arith, ends c)
 
 part-encode-chunk-end-2 : tie.Need-part-encode-chunk-end-2
-part-encode-chunk-end-2 c =
-    let A = c .before .before .before .args in
-    let P = c .before .before .before .pre in
-    let E = ends (A .k) (A .c) (A .j) (A .src .now) (A .out .now) (P .0) (P .1) in
-    omega (arith, E .0, E .1)
+part-encode-chunk-end-2 c = omega (arith, ends (c .before))
 
 encode-chunk-requires : tie.Need-encode-chunk-requires
 encode-chunk-requires c κs =

@@ -9,10 +9,8 @@ use Rattle.console.proofs.items.answer_item.Tie as tie
 
 cast-t19 : tie.Need-cast-t19
 cast-t19 c =
-    let Decimal-to = c .before .before .before .before .before .before .before .before .before .before .before .before .before .before .before
-    .before .decimal-to in
-    let Bits = c .before .before .before .before .before .before .before .before .before .before .before .before .before .before .bits in
-    omega (arith, Decimal-to .ensures, ap sizeOf (Bits .given .1))
+    let told = c .before .before .before .before .before .before .before .before .before .before .before .before .before .before in
+    omega (arith, told .before .before .decimal-to .ensures, ap sizeOf (told .bits .given .1))
 
 array-share-prefix-value : tie.Need-array-share-prefix-value
 array-share-prefix-value c = omega (arith, ap sizeOf (c .before .before .before .n .given .1))
@@ -22,9 +20,8 @@ slice-aggregate-make-and-write c = front _ _ (array-share-prefix-value (c .befor
 
 array-borrow-prefix-buffer : tie.Need-array-borrow-prefix-buffer
 array-borrow-prefix-buffer c =
-    let Decimal-to2 = c .before .before .before .before .before .before .before .before .before .before .before .before .before .decimal-to2 in
-    let Room = c .before .before .before .before .before .before .before .before .before .before .before .room in
-    omega (arith, Decimal-to2 .ensures, ap sizeOf (Room .given .1))
+    let told = c .before .before .before .before .before .before .before .before .before .before .before in
+    omega (arith, told .before .before .decimal-to2 .ensures, ap sizeOf (told .room .given .1))
 
 slice-aggregate-make-and-write-2 : tie.Need-slice-aggregate-make-and-write-2
 slice-aggregate-make-and-write-2 c = front _ _ (array-borrow-prefix-buffer (c .before))

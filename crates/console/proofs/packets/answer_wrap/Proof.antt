@@ -9,11 +9,9 @@ use Rattle.console.proofs.packets.answer_wrap.Tie as tie
 
 cast-wrap-and-write : tie.Need-cast-wrap-and-write
 cast-wrap-and-write c =
-    let Decimal-to = c .before .before .before .before .before .before .before .before .before .before .before .before .before .before .before
-    .before .before .before .before .before .decimal-to in
-    let Seq = c .before .before .before .before .before .before .before .before .before .before .before .before .before .before .before .before
-    .before .before .seq in
-    omega (arith, Decimal-to .ensures, ap sizeOf (Seq .given .1))
+    let told = c .before .before .before .before .before .before .before .before .before .before .before .before .before .before .before .before
+    .before .before in
+    omega (arith, told .before .before .decimal-to .ensures, ap sizeOf (told .seq .given .1))
 
 array-share-prefix-payload : tie.Need-array-share-prefix-payload
 array-share-prefix-payload c = omega (arith, ap sizeOf (c .before .before .before .n .given .1))
@@ -23,9 +21,8 @@ slice-aggregate-wrap-and-write c = front _ _ (array-share-prefix-payload (c .bef
 
 array-borrow-prefix-packet : tie.Need-array-borrow-prefix-packet
 array-borrow-prefix-packet c =
-    let Decimal-to3 = c .before .before .before .before .before .before .before .before .before .before .before .before .before .decimal-to3 in
-    let Room = c .before .before .before .before .before .before .before .before .before .before .before .room in
-    omega (arith, Decimal-to3 .ensures, ap sizeOf (Room .given .1))
+    let told = c .before .before .before .before .before .before .before .before .before .before .before in
+    omega (arith, told .before .before .decimal-to3 .ensures, ap sizeOf (told .room .given .1))
 
 slice-aggregate-wrap-and-write-2 : tie.Need-slice-aggregate-wrap-and-write-2
 slice-aggregate-wrap-and-write-2 c = front _ _ (array-borrow-prefix-packet (c .before))

@@ -15,10 +15,8 @@ slice-aggregate-take c = front _ _ (array-share-prefix-datagram (c .before))
 
 array-borrow-prefix-packet : tie.Need-array-borrow-prefix-packet
 array-borrow-prefix-packet c =
-    let Decimal-to2 = c .before .before .before .before .before .before .before .before .before .before .before .before .before .before
-    .decimal-to2 in
-    let Room = c .before .before .before .before .before .before .before .before .before .before .before .before .room in
-    omega (arith, Decimal-to2 .ensures, ap sizeOf (Room .given .1))
+    let told = c .before .before .before .before .before .before .before .before .before .before .before .before in
+    omega (arith, told .before .before .decimal-to2 .ensures, ap sizeOf (told .room .given .1))
 
 slice-aggregate-take-2 : tie.Need-slice-aggregate-take-2
 slice-aggregate-take-2 c = front _ _ (array-borrow-prefix-packet (c .before))

@@ -9,10 +9,8 @@ use Rattle.console.proofs.sending.answer_wanted.Tie as tie
 
 cast-send : tie.Need-cast-send
 cast-send c =
-    let Decimal-to = c .before .before .before .before .before .before .before .before .before .before .before .before .before .before .before
-    .before .decimal-to in
-    let Pseq = c .before .before .before .before .before .before .before .before .before .before .before .before .before .before .pseq in
-    omega (arith, Decimal-to .ensures, ap sizeOf (Pseq .given .1))
+    let told = c .before .before .before .before .before .before .before .before .before .before .before .before .before .before in
+    omega (arith, told .before .before .decimal-to .ensures, ap sizeOf (told .pseq .given .1))
 
 array-share-prefix-packet : tie.Need-array-share-prefix-packet
 array-share-prefix-packet c = omega (arith, ap sizeOf (c .before .before .before .n .given .1))
@@ -22,9 +20,8 @@ slice-aggregate-send c = front _ _ (array-share-prefix-packet (c .before))
 
 array-borrow-prefix-buffer : tie.Need-array-borrow-prefix-buffer
 array-borrow-prefix-buffer c =
-    let Decimal-to2 = c .before .before .before .before .before .before .before .before .before .before .before .before .before .decimal-to2 in
-    let Room = c .before .before .before .before .before .before .before .before .before .before .before .room in
-    omega (arith, Decimal-to2 .ensures, ap sizeOf (Room .given .1))
+    let told = c .before .before .before .before .before .before .before .before .before .before .before in
+    omega (arith, told .before .before .decimal-to2 .ensures, ap sizeOf (told .room .given .1))
 
 slice-aggregate-send-2 : tie.Need-slice-aggregate-send-2
 slice-aggregate-send-2 c = front _ _ (array-borrow-prefix-buffer (c .before))

@@ -12,11 +12,14 @@ use Rattle.form_rules.proofs.Decoding as laws
 use Rattle.form.proofs.coded.decode.Statement.{statement}
 use Rattle.form.proofs.coded.decode.Tie as tie
 
--- what the two calls leave
-known : (c : tie.After-cells4) (r : Filled) → c .before .fill .result ≡ r
-    → laws.Decoding (c .before .before .before .before .before .before .before .before .before .before .before .before .args .p)
-    (c .before .before .before .before .before .before .before .before .before .before .before .before .args .held .now)
-    (c .before .before .before .before .before .deinterleave .last .1 .1 .1 .0) (c .before .fill .last .1 .1 .1 .1 .0) r
+-- what the two calls leave, where the second answers r
+abbrev Leaves : tie.After-cells4 → Filled → Type 0
+Leaves c r =
+    let A = c .before .before .before .before .before .before .before .before .before .before .before .before .args in
+    laws.Decoding (A .p) (A .held .now) (c .before .before .before .before .before .deinterleave .last .1 .1 .1 .0)
+    (c .before .fill .last .1 .1 .1 .1 .0) r
+
+known : (c : tie.After-cells4) (r : Filled) → c .before .fill .result ≡ r → Leaves c r
 known c r is =
     let P = c .before .before .before .before .before .before .before .before .before .before .before .before .pre in
     let Deinterleave = c .before .before .before .before .before .deinterleave in
@@ -24,82 +27,66 @@ known c r is =
     let size : length (Deinterleave .last .1 .1 .1 .0) ≡ place = search needs in
     laws.decoding _ _ (Fill .result) (P .0) (P .1) (search needs) size (Deinterleave .ensures) (Fill .ensures) is
 
+-- where the chunks are filled in
+filled : (c : tie.After-enum-told) → Leaves (c .before .before) Done
+filled c = known (c .before .before) Done (c .enum-told .given .1)
+
+-- the buffer that is lent has the length of a place, and keeps it where the data are gathered in it
+lent : (c : tie.After-gather)
+    → let S = c .before .before .before .before .before .before .before .before .before in
+    length (S .before .before .before .before .before .before .before .before .args .buffer .now) ≡ place
+lent c =
+    let S = c .before .before .before .before .before .before .before .before .before in
+    S .before .before .before .before .before .before .before .before .pre .2
+
+gathered : (c : tie.After-gather) → length (c .gather .last .1 .1 .1 .0) ≡ place
+unfolding receivedC
+gathered c = laws.result-room (filled (c .before .before .before)) _ _ (lent c) (c .gather .ensures)
+
 enum-told : tie.Need-enum-told
 enum-told c = search needs
 
 mul-c : tie.Need-mul-c
-mul-c c = omega (arith, laws.figured (known (c .before .before) Done (c .enum-told .given .1)) .placed)
+mul-c c = omega (arith, laws.figured (filled c) .placed)
 
 gather-requires : tie.Need-gather-requires
 unfolding receivedC
 gather-requires c κs =
     let P = c .before .before .before .before .before .before .before .before .before .before .before .before .before .before .before .before .pre in
-    let room = laws.chunks-room (known (c .before .before .before .before) Done (c .before .before .enum-told .given .1)) in
+    let room = laws.chunks-room (filled (c .before .before)) in
     (room .0, omega (arith, room .1, P .2), omega (arith, room .2))
 
 mul-l : tie.Need-mul-l
 unfolding receivedC
-mul-l c =
-    let Before = c .before .before .before .before .before .before .before in
-    omega (arith, laws.chunks-room (known (Before) Done (c .before .before .before .before .before .enum-told .given .1)) .1)
+mul-l c = omega (arith, laws.chunks-room (filled (c .before .before .before .before .before)) .1)
 
 sub-l : tie.Need-sub-l
 unfolding receivedC
-sub-l c =
-    let Before = c .before .before .before .before .before .before .before .before in
-    let Enum-told = c .before .before .before .before .before .before .enum-told in
-    laws.zeros-within (known (Before) Done (Enum-told .given .1))
+sub-l c = laws.zeros-within (filled (c .before .before .before .before .before .before))
 
 mul-all-zero : tie.Need-mul-all-zero
 unfolding receivedC
-mul-all-zero c =
-    let Before = c .before .before .before .before .before .before .before .before in
-    let Enum-told = c .before .before .before .before .before .before .enum-told in
-    omega (arith, laws.chunks-room (known (Before) Done (Enum-told .given .1)) .1)
+mul-all-zero c = omega (arith, laws.chunks-room (filled (c .before .before .before .before .before .before)) .1)
 
 part-all-zero-end : tie.Need-part-all-zero-end
 unfolding receivedC
 part-all-zero-end c =
-    let A = c .before .before .before .before .before .before .before .before .before .before .before .before .before .before .before .before
-    .before .before .before .before .before .args in
-    let P = c .before .before .before .before .before .before .before .before .before .before .before .before .before .before .before .before
-    .before .before .before .before .before .pre in
-    let Before = c .before .before .before .before .before .before .before .before .before in
-    let Enum-told = c .before .before .before .before .before .before .before .enum-told in
-    let d = known (Before) Done (Enum-told .given .1) in
-    omega (arith, laws.chunks-room d .1, laws.result-room d (A .buffer .now) _ (P .2) (c .before .before .before .before .gather .ensures))
+    let G = c .before .before .before .before in
+    omega (arith, laws.chunks-room (filled (G .before .before .before)) .1, gathered G)
 
 returns : tie.Need-returns
 unfolding receivedC
 returns c =
-    let A = c .before .before .before .before .before .before .before .before .before .before .before .before .before .before .before .before
-    .before .before .before .before .before .before .before .before .args in
-    let P = c .before .before .before .before .before .before .before .before .before .before .before .before .before .before .before .before
-    .before .before .before .before .before .before .before .before .pre in
-    let Before = c .before .before .before .before .before .before .before .before .before .before .before .before in
-    let Enum-told = c .before .before .before .before .before .before .before .before .before .before .enum-told in
-    let Gather = c .before .before .before .before .before .before .before .gather in
-    let d = known (Before) Done (Enum-told .given .1) in
-    let buffer = A .buffer .now in (
-      laws.proposes d buffer _ (P .2) (Gather .ensures) (c .before .all-zero .ensures .0 (c .if1 .taken)),
-      laws.result-room d buffer _ (P .2) (Gather .ensures),
-    )
+    let G = c .before .before .before .before .before .before .before in
+    let zero = c .before .all-zero .ensures in
+    (laws.proposes (filled (G .before .before .before)) _ _ (lent G) (G .gather .ensures) (zero .0 (c .if1 .taken)), gathered G)
 
 returns-2 : tie.Need-returns-2
 unfolding receivedC
 returns-2 c =
-    let A = c .before .before .before .before .before .before .before .before .before .before .before .before .before .before .before .before
-    .before .before .before .before .before .before .before .before .args in
-    let P = c .before .before .before .before .before .before .before .before .before .before .before .before .before .before .before .before
-    .before .before .before .before .before .before .before .before .pre in
-    let Before = c .before .before .before .before .before .before .before .before .before .before .before .before in
-    let Enum-told = c .before .before .before .before .before .before .before .before .before .before .enum-told in
-    let Gather = c .before .before .before .before .before .before .before .gather in
-    let d = known (Before) Done (Enum-told .given .1) in
-    let buffer = A .buffer .now in (
-      laws.damaged d buffer _ (P .2) (Gather .ensures) (λ e. clash (c .before .all-zero .ensures .1 e) (c .if1 .left)),
-      laws.result-room d buffer _ (P .2) (Gather .ensures),
-    )
+    let G = c .before .before .before .before .before .before .before in
+    let zero = c .before .all-zero .ensures in
+    (laws.damaged (filled (G .before .before .before)) _ _ (lent G) (G .gather .ensures) (λ e. clash (zero .1 e) (c .if1 .left)), gathered G)
 
 returns-3 : tie.Need-returns-3
 returns-3 c =

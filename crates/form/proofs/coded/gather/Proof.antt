@@ -3,7 +3,8 @@ use mathlib.Core.Path.{_≡_}
 use Prim.Native.Nat.{_+_, _-_, _*_, _≤_}
 use native.Mathlib.Omega.{arith}
 use borrow.Author.Needs.{needs}
-use Rattle.base_rules.specs.Bounds.{parity}
+use lib.ListN.{length}
+use Rattle.base_rules.specs.Bounds.{parity, place}
 use Rattle.base_rules.specs.Bytes.{splice}
 use Rattle.form_rules.specs.inner.Proposals.{dataOf}
 use Rattle.form_rules.proofs.Gathering as gathering
@@ -22,73 +23,32 @@ loop-holds c =
     let a = c .before .before .args in
     (omega arith, omega arith, omega arith, gathering.gathered-none (a .cells .now) (a .buffer .now) (a .k))
 
+-- the chunk of a turn lies within the cells, and its data within the buffer
+inside : (c : tie.In-loop Inv-loop μ-loop)
+    → let L = c .before .loop in
+    let a = c .before .before .before .before .args in
+    (L .from + (a .k + parity) ≤ length (a .cells .now)) × (L .at + a .k ≤ length (a .buffer .now)) × (length (a .cells .now) ≤ place)
+inside c =
+    let L = c .before .loop in
+    let a = c .before .before .before .before .args in
+    let p = c .before .before .before .before .pre in
+    let s = gathering.starts (a .cells .now) (a .buffer .now) (a .k) (a .c) (p .0) (p .1) (L .counter) (c .loop-test .taken) in
+    (omega (arith, L .inv .1, s .0), omega (arith, L .inv .2, s .1), p .2)
+
 add-put : tie.Need-add-put Inv-loop μ-loop
-add-put c =
-    let L = c .before .before .loop in
-    let a = c .before .before .before .before .before .args in
-    let p = c .before .before .before .before .before .pre in
-    let inv = L .inv in
-    omega (
-      arith,
-      inv .1,
-      p .2,
-      gathering.starts (a .cells .now) (a .buffer .now) (a .k) (a .c) (p .0) (p .1) (L .counter)
-          (c .before .loop-test .taken) .0,
-    )
+add-put c = omega (arith, inside (c .before))
 
 part-put-end : tie.Need-part-put-end Inv-loop μ-loop
-part-put-end c =
-    let L = c .before .before .loop in
-    let a = c .before .before .before .before .before .args in
-    let p = c .before .before .before .before .before .pre in
-    let inv = L .inv in
-    omega (arith, inv .1, gathering.starts (a .cells .now) (a .buffer .now) (a .k) (a .c) (p .0) (p .1) (L .counter) (c .before .loop-test .taken) .0)
+part-put-end c = omega (arith, inside (c .before))
 
 add-from : tie.Need-add-from Inv-loop μ-loop
-add-from c =
-    let A = c .before .before .before .before .before .before .before .before .before .args in
-    let P = c .before .before .before .before .before .before .before .before .before .pre in
-    let L = c .before .before .before .before .before .before .loop in
-    let a = A in
-    let p = P in
-    omega (
-      arith,
-      p .2,
-      gathering.starts (a .cells .now) (a .buffer .now) (a .k) (a .c) (p .0) (p .1) (L .counter)
-          (c .before .before .before .before .before .loop-test .taken) .0,
-    )
+add-from c = omega (arith, inside (c .before .before .before .before .before))
 
 add-from-2 : tie.Need-add-from-2 Inv-loop μ-loop
-add-from-2 c =
-    let A = c .before .before .before .before .before .before .before .before .before .args in
-    let P = c .before .before .before .before .before .before .before .before .before .pre in
-    let L = c .before .before .before .before .before .before .loop in
-    let a = A in
-    let p = P in
-    let inv = L .inv in
-    omega (
-      arith,
-      inv .1,
-      p .2,
-      gathering.starts (a .cells .now) (a .buffer .now) (a .k) (a .c) (p .0) (p .1) (L .counter)
-          (c .before .before .before .before .before .loop-test .taken) .0,
-    )
+add-from-2 c = omega (arith, inside (c .before .before .before .before .before))
 
 add-at : tie.Need-add-at Inv-loop μ-loop
-add-at c =
-    let A = c .before .before .before .before .before .before .before .before .before .args in
-    let P = c .before .before .before .before .before .before .before .before .before .pre in
-    let L = c .before .before .before .before .before .before .loop in
-    let a = A in
-    let p = P in
-    let inv = L .inv in
-    omega (
-      arith,
-      inv .2,
-      p .2,
-      gathering.starts (a .cells .now) (a .buffer .now) (a .k) (a .c) (p .0) (p .1) (L .counter)
-          (c .before .before .before .before .before .loop-test .taken),
-    )
+add-at c = omega (arith, inside (c .before .before .before .before .before))
 
 add-counter : tie.Need-add-counter Inv-loop μ-loop
 add-counter c =
@@ -100,18 +60,16 @@ loop-less c = omega (arith, c .before .before .before .before .before .loop-test
 
 loop-again : tie.Need-loop-again Inv-loop μ-loop
 loop-again c =
-    let A = c .before .before .before .before .before .before .before .before .before .args in
-    let P = c .before .before .before .before .before .before .before .before .before .pre in
     let L = c .before .before .before .before .before .before .loop in
-    let Loop-test = c .before .before .before .before .before .loop-test in
-    let a = A in
-    let p = P in
+    let a = c .before .before .before .before .before .before .before .before .before .args in
+    let p = c .before .before .before .before .before .before .before .before .before .pre in
+    let below = c .before .before .before .before .before .loop-test .taken in
     let inv = L .inv in (
-      omega (arith, Loop-test .taken),
+      omega (arith, below),
       omega (arith, inv .1),
       omega (arith, inv .2),
       gathering.gathered-more (a .cells .now) (a .buffer .now) (a .k) (a .c) (p .0) (p .1) (L .counter) (L .from) (L .at) (L .buffer) _ _
-          (Loop-test .taken) (inv .1) (inv .2) (inv .3) (c .before .before .put .ensures),
+          below (inv .1) (inv .2) (inv .3) (c .before .before .put .ensures),
     )
 
 same-length : tie.Need-same-length Inv-loop μ-loop

@@ -9,10 +9,7 @@ use Rattle.sender.proofs.calls.fragment.Statement.{statement}
 use Rattle.sender.proofs.calls.fragment.Tie as tie
 
 send-one-requires : tie.Need-send-one-requires
-send-one-requires c κs =
-    let a = c .before .before .before .before .before .before .before .args in
-    let told = c .before .before .planned2 .given in
-    figured (a .g) (a .packet .now) (told .0 .0) (sym (ap numberOf (told .1)) ∙ c .before .before .before .before .ready .ensures)
+send-one-requires c κs = figured _ _ _ (sym (ap numberOf (c .before .before .planned2 .given .1)) ∙ c .before .before .before .before .ready .ensures)
 
 returns : tie.Need-returns
 unfolding sentNumber

@@ -9,10 +9,7 @@ use Rattle.sender.proofs.calls.fragments.Statement.{statement}
 use Rattle.sender.proofs.calls.fragments.Tie as tie
 
 send-all-requires : tie.Need-send-all-requires
-send-all-requires c κs =
-    let a = c .before .before .before .before .before .before .before .args in
-    let told = c .before .before .planned2 .given in
-    figured (a .g) (a .packet .now) (told .0 .0) (sym (ap numberOf (told .1)) ∙ c .before .before .before .before .ready .ensures)
+send-all-requires c κs = figured _ _ _ (sym (ap numberOf (c .before .before .planned2 .given .1)) ∙ c .before .before .before .before .ready .ensures)
 
 returns : tie.Need-returns
 unfolding allNumber

@@ -15,72 +15,52 @@ returns c =
     let P = c .before .before .before .before .pre in
     let a = c .before .before .before .before .args in
     cases.one-42 (a .g) (a .number) (a .packet .now) (a .out .now) (a .index) (P .passed)
-    (omega (arith, c .if1 .taken, figures.is-f (a .g) (a .packet .now) (a .p) (P)))
+    (omega (arith, c .if1 .taken, figures.is-f _ _ _ P))
 
 payload-length-requires : tie.Need-payload-length-requires
 payload-length-requires c κs =
     let P = c .before .before .before .before .pre in
     let a = c .before .before .before .before .args in
-    (P, figures.asked (a .g) (a .packet .now) (a .p) (P) (a .index) (c .if1 .left))
+    (P, figures.asked _ _ _ P (a .index) (c .if1 .left))
 
 add-size : tie.Need-add-size
 add-size c =
-    let A = c .before .before .before .before .before .before .args in
     let P = c .before .before .before .before .before .before .pre in
-    let a = A in
-    omega (arith, figures.h-most (a .g) (a .packet .now) (a .p) (P), c .before .payload-length .ensures .1)
+    omega (arith, figures.h-most _ _ _ P, c .before .payload-length .ensures .1)
 
 returns-2 : tie.Need-returns-2
 unfolding sentNumber
 returns-2 c =
-    let A = c .before .before .before .before .before .before .before .args in
+    let a = c .before .before .before .before .before .before .before .args in
     let P = c .before .before .before .before .before .before .before .pre in
-    let a = A in
-    let less = figures.asked (a .g) (a .packet .now) (a .p) (P) (a .index) (c .before .before .before .if1 .left) in
-    let size = figures.size-is (a .g) (a .packet .now) (a .p) (P) (a .number) (a .index) _ (c .before .before .payload-length .ensures .0) in
+    let less = figures.asked _ _ _ P (a .index) (c .before .before .before .if1 .left) in
+    let size = figures.size-is _ _ _ P (a .number) (a .index) _ (c .before .before .payload-length .ensures .0) in
     cases.one-1 (a .g) (a .number) (a .packet .now) (a .out .now) (a .index) (P .passed) less (omega (arith, size, c .if2 .taken))
 
 array-share-prefix-block : tie.Need-array-share-prefix-block
 array-share-prefix-block c =
-    let A = c .before .before .before .before .before .before .before .before .before .before .args in
-    let P = c .before .before .before .before .before .before .before .before .before .before .pre in
-    let a = A in
-    omega (arith, figures.total-most (a .g) (a .packet .now) (a .p) (P))
+    omega (arith, figures.total-most _ _ _ (c .before .before .before .before .before .before .before .before .before .before .pre))
 
 slice-aggregate-put-fragment : tie.Need-slice-aggregate-put-fragment
-slice-aggregate-put-fragment c =
-    let A = c .before .before .before .before .before .before .before .before .before .before .before .args in
-    let P = c .before .before .before .before .before .before .before .before .before .before .before .pre in
-    let a = A in
-    sym (length-take-le _ _ (omega (arith, figures.total-most (a .g) (a .packet .now) (a .p) (P))))
+slice-aggregate-put-fragment c = sym (length-take-le _ _ (array-share-prefix-block (c .before)))
 
 put-fragment-requires : tie.Need-put-fragment-requires
 put-fragment-requires c κs =
-    let A = c .before .before .before .before .before .before .before .before .before .before .before .before .args in
-    let P = c .before .before .before .before .before .before .before .before .before .before .before .before .pre in
-    let If1 = c .before .before .before .before .before .before .before .before .if1 in
-    let Payload-length = c .before .before .before .before .before .before .before .payload-length in
-    let a = A in
-    let less = figures.asked (a .g) (a .packet .now) (a .p) (P) (a .index) (If1 .left) in
-    let size = figures.size-is (a .g) (a .packet .now) (a .p) (P) (a .number) (a .index) _ (Payload-length .ensures .0) in (
-      P,
-      figures.handed (a .g) (a .packet .now) (a .p) (P) _ (c .before .before .before .lay-block .ensures),
-      less,
-      omega (arith, size, c .before .before .before .before .before .if2 .left),
-    )
+    let E = c .before .before .before .before .before in
+    let S = E .before .before .before .before .before .before .before in
+    let less = figures.asked _ _ _ (S .pre) (S .args .index) (E .before .before .before .if1 .left) in
+    let size = figures.size-is _ _ _ (S .pre) (S .args .number) (S .args .index) _ (E .before .before .payload-length .ensures .0) in
+    (S .pre, figures.handed _ _ _ (S .pre) _ (c .before .before .before .lay-block .ensures), less, omega (arith, size, E .if2 .left))
 
 returns-3 : tie.Need-returns-3
 unfolding sentNumber
 returns-3 c =
-    let A = c .before .before .before .before .before .before .before .before .before .before .before .before .before .before .before .args in
-    let P = c .before .before .before .before .before .before .before .before .before .before .before .before .before .before .before .pre in
-    let If1 = c .before .before .before .before .before .before .before .before .before .before .before .if1 in
-    let Payload-length = c .before .before .before .before .before .before .before .before .before .before .payload-length in
-    let If2 = c .before .before .before .before .before .before .before .before .if2 in
-    let a = A in
-    let less = figures.asked (a .g) (a .packet .now) (a .p) (P) (a .index) (If1 .left) in
-    let size = figures.size-is (a .g) (a .packet .now) (a .p) (P) (a .number) (a .index) _ (Payload-length .ensures .0) in
-    cases.one-done (a .g) (a .number) (a .packet .now) (a .out .now) (a .index) (P .passed) less _ _ size (omega (arith, size, If2 .left))
+    let E = c .before .before .before .before .before .before .before .before in
+    let S = E .before .before .before .before .before .before .before in
+    let a = S .args in
+    let less = figures.asked _ _ _ (S .pre) (a .index) (E .before .before .before .if1 .left) in
+    let size = figures.size-is _ _ _ (S .pre) (a .number) (a .index) _ (E .before .before .payload-length .ensures .0) in
+    cases.one-done (a .g) (a .number) (a .packet .now) (a .out .now) (a .index) (S .pre .passed) less _ _ size (omega (arith, size, E .if2 .left))
     (c .before .before .put-fragment .ensures)
 
 slice-aggregate-lay-block : tie.Need-slice-aggregate-lay-block

@@ -16,8 +16,7 @@ counted c = told (c .before .bad-count .ensures) (c .if1 .left)
 
 placed : (c : tie.Else2) → tooMuch (c .before .before .before .before .before .before .args .f)
     (c .before .before .before .before .before .before .args .s) ≡ false
-placed c =
-    told (c .before .too-much .ensures) (c .if2 .left)
+placed c = told (c .before .too-much .ensures) (c .if2 .left)
 
 returns : tie.Need-returns
 unfolding numberOf
@@ -48,8 +47,7 @@ returns-3 c =
 returns-4 : tie.Need-returns-4
 unfolding numberOf
 returns-4 c =
-    let A = c .before .before .before .before .before .before .before .before .args in
-    let a = A in
+    let a = c .before .before .before .before .before .before .before .before .args in
     cases.cells-room (a .held .now) (a .out .now) (a .f) (a .s) (counted (c .before .before .before .before)) (placed (c .before .before))
     (c .before .if3 .left) (c .if4 .taken)
 
@@ -61,11 +59,10 @@ lay-requires c κs =
 returns-5 : tie.Need-returns-5
 unfolding numberOf
 returns-5 c =
-    let A = c .before .before .before .before .before .before .before .before .before .before .before .before .args in
-    let Before = c .before .before .before .before .before .before .before .before in
-    let a = A in
-    cases.cells-done (a .held .now) (a .out .now) (a .f) (a .s) (counted (Before)) (placed (c .before .before .before .before .before .before))
-    (c .before .before .before .before .before .if3 .left) _ (c .before .before .before .before .if4 .left) (c .before .before .lay .ensures)
+    let d = c .before .before .before .before in
+    let a = d .before .before .before .before .before .before .before .before .args in
+    cases.cells-done (a .held .now) (a .out .now) (a .f) (a .s) (counted (d .before .before .before .before)) (placed (d .before .before))
+    (d .before .if3 .left) _ (d .if4 .left) (c .before .before .lay .ensures)
 
 bad-count-requires : tie.Need-bad-count-requires
 bad-count-requires c κs = search needs

@@ -16,8 +16,7 @@ counted c = told (c .before .bad-count .ensures) (c .if1 .left)
 
 placed : (c : tie.Else2) → tooMuch (c .before .before .before .before .before .before .args .f)
     (c .before .before .before .before .before .before .args .s) ≡ false
-placed c =
-    told (c .before .too-much .ensures) (c .if2 .left)
+placed c = told (c .before .too-much .ensures) (c .if2 .left)
 
 returns : tie.Need-returns
 unfolding numberOf
@@ -31,8 +30,7 @@ too-much-requires c κs = counted c
 returns-2 : tie.Need-returns-2
 unfolding numberOf
 returns-2 c =
-    let A = c .before .before .before .before .before .before .args in
-    let a = A in
+    let a = c .before .before .before .before .before .before .args in
     cases.weave-8 (a .block .now) (a .out .now) (a .f) (a .s) (a .i) (counted (c .before .before))
     (told (c .before .too-much .ensures) (c .if2 .taken))
 
@@ -45,8 +43,7 @@ returns-3 c =
 returns-4 : tie.Need-returns-4
 unfolding numberOf
 returns-4 c =
-    let A = c .before .before .before .before .before .before .before .before .args in
-    let a = A in
+    let a = c .before .before .before .before .before .before .before .before .args in
     cases.weave-1 (a .block .now) (a .out .now) (a .f) (a .s) (a .i) (counted (c .before .before .before .before)) (placed (c .before .before))
     (c .before .if3 .left) (c .if4 .taken)
 
@@ -62,9 +59,8 @@ pick-requires c κs =
 returns-5 : tie.Need-returns-5
 unfolding numberOf
 returns-5 c =
-    let Before = c .before .before .before .before .before .before .before .before in
+    let d = c .before .before .before .before .before .before .before .before in
     let Pick = c .before .before .before .before .before .before .pick in
-    let d = Before in
     let a = d .before .before .before .before .before .before .before .before .before .args in
     let rows = d .rows-within in
     cases.weave-done (a .block .now) (a .out .now) (a .f) (a .s) (a .i) (counted (d .before .before .before .before .before))
@@ -72,14 +68,14 @@ returns-5 c =
     (cases.both-written (a .block .now) (a .f) (a .s) (a .i) (rows .result) (rows .ensures .0) (rows .ensures .2) (a .out .now) _ _
     (Pick .ensures) (c .before .before .blank .ensures))
 
-bad-count-requires : tie.Need-bad-count-requires
-bad-count-requires c κs = search needs
-
 rows-within-requires : tie.Need-rows-within-requires
 rows-within-requires c κs = search needs
 
 blank-requires : tie.Need-blank-requires
 blank-requires c κs = search needs
+
+bad-count-requires : tie.Need-bad-count-requires
+bad-count-requires c κs = search needs
 
 same-length : tie.Need-same-length
 same-length c = search needs
