@@ -58,7 +58,7 @@ module _ (kept : List Bool) (f : ℕ) where
   -- as many masks as cells
   pub length-lost : (a n : ℕ) → length (lostCells kept f a n) ≡ n
   unfolding lostCells
-  length-lost a n = length-table (λ q. bit (gone (notKept kept) f q)) a n
+  length-lost a n = length-table _ a n
 
   -- cells behind the first q of a buffer
   pub lost-on : (d : List ℕ) (q m : ℕ) {x y : List ℕ} → x ≡ splice d 0 (lostCells kept f 0 q) → y ≡ splice x q (lostCells kept f q m)

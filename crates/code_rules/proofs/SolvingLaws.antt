@@ -154,8 +154,7 @@ solved-by q sc s e h d b = lane-by sc _ (replicate 48 0) d b ∙ ap (λ n. lane 
 -- zeros for no size of a chunk
 pub locators-long : (k : ℕ) (mask : List ℕ) → 207 < k → locatorsBy k mask ≡ replicate 48 0
 unfolding locatorsBy
-locators-long k mask h =
-    ap (λ b. cond b (replicate 48 0) (cond (eqb (length mask) (k + 48)) (lanesOf (locs k mask)) (replicate 48 0))) (lt-ltb 207 k h)
+locators-long k mask h = rw (lt-ltb 207 k h)
 
 module _ (k : ℕ) (mask : List ℕ) (h : k ≤ 207) where
   inner : locatorsBy k mask ≡ cond (eqb (length mask) (k + 48)) (lanesOf (locs k mask)) (replicate 48 0)
