@@ -25,7 +25,7 @@ use Rattle.receiver_rules.specs.Promise.{numberOf, Outcome, outcome, State, pay
 use Rattle.receiver_rules.proofs.Ranges.{written-place}
 use Rattle.sender_rules.specs.Fragments.{payloadFor, headerFor}
 use Rattle.link.specs.Run.{Call, after, Made, come, lost}
-use Rattle.link.specs.Demand.{Takes, count, enoughAfter, Answered}
+use Rattle.link.specs.Demand.{Takes, count, enoughAfter, FirstOnly, Answered}
 use Rattle.link.proofs.Basic.{held-absent}
 use Rattle.link.proofs.View.{Good, View, unheard, refuses, keeps, opens}
 use Rattle.link.proofs.Frame.{leftBy, Wrote, wrote-held, wrote-opened, see}
@@ -71,7 +71,7 @@ module _ (g : Settings) (n : ℕ) (packet : List ℕ) (takes : Takes g n packet)
 
   -- ---- it is kept in place `at`, which was p
 
-  module _ (u : Table) (size-u : length (u .places) ≡ four) (at : ℕ) (p : Place) (d : Displaced)
+  module _ (u : Table) (size-u : length (u .places) ≡ four) (at : ℕ) (p : Place) (d : Displaced) (only : FirstOnly n es d)
       (full : Full g n packet (come n es) at p (s .bytes)) (alone : Alone n (s .table) at)
       (new : come n es i ≡ false) (before : enoughAfter g n packet es ≡ false) (w : Wrote s u (fieldsOf (e .datagram)) at (e .left))
       (settled : SettledAfter (keepAt u at p d (headerFor g n packet i) (s .bytes) (payloadFor g packet i)) (e .lent) (e .left)) where
@@ -144,11 +144,11 @@ module _ (g : Settings) (n : ℕ) (packet : List ℕ) (takes : Takes g n packet)
         record {
           answered =
               record {
-                kept = λ c f. let v = waits-now (sym enough-now ∙ f) in ((d, v .answer), v .out);
+                kept = λ c f. let v = waits-now (sym enough-now ∙ f) in ((d, v .answer, only), v .out);
                 again = λ c f. clash c new;
                 delivered = λ c f.
                     let v = hands-now (sym enough-now ∙ f) in
-                    ((d, v .answer ∙ ap (λ (x : ℕ). numberOf (Delivered (length packet) x d)) lost-now), v .out);
+                    ((d, v .answer ∙ ap (λ (x : ℕ). numberOf (Delivered (length packet) x d)) lost-now, only), v .out);
                 late = λ f. clash f before;
               };
           stage =
@@ -188,6 +188,7 @@ module _ (g : Settings) (n : ℕ) (packet : List ℕ) (takes : Takes g n packet)
       kept-next (turned (s .table) (openAt (s .table))) (turned-four (s .table) (openAt (s .table)) (r .places)) (openAt (s .table))
       (openedBy (headerFor g n packet i))
       (displacedAt (s .table) (openAt (s .table)))
+      (λ j c. clash c (ap (λ (came : ℕ → Bool). came j) none))
       (subst (λ (came : ℕ → Bool). Full g n packet came (openAt (s .table)) (openedBy (headerFor g n packet i)) (s .bytes)) (sym none)
       (opened-full g packet (takes .passed) n i (b .below) (openAt (s .table)) (s .bytes)))
       (λ j k other. held-absent (s .table) n absent j k)
@@ -237,7 +238,7 @@ module _ (g : Settings) (n : ℕ) (packet : List ℕ) (takes : Takes g n packet)
         (payloadOf (e .datagram))) (e .lent) (e .left) =
         subst (λ (x : ℕ). SettledAfter (keepAt (s .table) x (placeAt (s .table) x) None (fieldsOf (e .datagram)) (s .bytes)
         (payloadOf (e .datagram))) (e .lent) (e .left)) at-is z in
-        kept-next (s .table) (r .places) at (placeAt (s .table) at) None (o .full) (o .alone) new before
+        kept-next (s .table) (r .places) at (placeAt (s .table) at) None (λ j c. refl) (o .full) (o .alone) new before
         (wrote-held (e .own) s r (e .datagram) (e .lent) (made .bytes) passes (e .left) at (sym at-is) (o .low)
         (ap (λ (x : ℕ). placeFault (placeAt (s .table) x) (fieldsOf (e .datagram))) (sym at-is) ∙ fault) here)
         (its-settled (s .table) at (λ h. placeAt (s .table) at) None here)

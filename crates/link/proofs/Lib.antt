@@ -19,6 +19,8 @@ pub mod Stage
 pub mod Brought
 pub mod Until
 pub mod Link
+pub mod Whole
+pub mod Alarm
 pub mod Witness
 pub mod Useless
 pub mod Runs

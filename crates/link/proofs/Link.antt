@@ -21,10 +21,10 @@ at-most-three until g n packet first es now scene begins others few among =
     let all = until g n packet first es now scene held in
     (held, all .0, all .1)
 
--- T3b by T1 and T3: with FEC, at most m fragments lost and three other numbers, a packet is handed out
+-- T3b by T1 and T3: with no more fragments lost than the plan assures, and at most three other numbers, a packet is handed out
 pub handed-out : T1 → T3 → T3b
-handed-out three survives g n packet first es now scene begins others few among fec bearable =
-    three g n packet first es now scene begins others few among .2 (survives g n packet es (scene .takes) fec (omega (arith, bearable)))
+handed-out three survives g n packet first es now scene begins others few among bearable =
+    three g n packet first es now scene begins others few among .2 (survives g n packet es (scene .takes) bearable)
 
 -- ---- the next packet
 

@@ -1,8 +1,10 @@
 -- The claims of specs/Demand.antt, Reached.antt, Useless.antt and Examples.antt, each by citation. Assumes nothing.
 use Rattle.link.specs.Demand.{T1, T2, T3, T3b, Again}
+use Rattle.link.specs.Whole.{Lifted, Demand3, NamesGone}
 use Rattle.link.specs.Reached.{StaysInRange, GoesRound, HeldOnce, PartsApart, HeldCame, StaysKept}
 use Rattle.link.specs.Useless.{SomeKeep, Falls}
 use Rattle.link.specs.Examples.{SomeRun, ThreeOthers, FourOthers}
+use Rattle.link.proofs.Alarm as alarm
 use Rattle.link.proofs.Examples.{handed-out-last, displaced-last}
 use Rattle.link.proofs.Holdings as holdings
 use Rattle.link.proofs.Link as link
@@ -11,6 +13,7 @@ use Rattle.link.proofs.Runs as runs
 use Rattle.link.proofs.Survives.{survives}
 use Rattle.link.proofs.Until.{until-displaced}
 use Rattle.link.proofs.Useless as useless
+use Rattle.link.proofs.Whole as whole
 
 pub t1 : T1
 t1 = link.at-most-three until-displaced
@@ -23,6 +26,15 @@ t3 = survives
 
 pub t3b : T3b
 t3b = link.handed-out t1 t3
+
+pub lifted : Lifted
+lifted = whole.lifted
+
+pub demand-3 : Demand3
+demand-3 = whole.demand-3
+
+pub names-gone : NamesGone
+names-gone = alarm.names-gone
 
 pub again : Again
 again = link.again

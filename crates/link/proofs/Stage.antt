@@ -100,7 +100,7 @@ pub condition-closed : (p : Place) (c : ℕ) → inCondition p c .condition ≡ 
 unfolding inCondition
 condition-closed p c = refl
 
-settled-names : {t : Table} {j : ℕ} {d : Displaced} {b o : List ℕ} {y : Outcome} → Settled t j d b o y → Names d (y .answer)
+pub settled-names : {t : Table} {j : ℕ} {d : Displaced} {b o : List ℕ} {y : Outcome} → Settled t j d b o y → Names d (y .answer)
 unfolding outcome
 settled-names (waits e) = by-kept
 settled-names (delivers P e a) = by-delivered _ _

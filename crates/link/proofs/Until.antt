@@ -7,15 +7,17 @@ use Prim.Native.Nat.{ℕ, _<_}
 use native.Mathlib.Omega.{arith}
 use lib.ListN.{length}
 use Rattle.base_rules.proofs.Logic.{either, clash}
+use Rattle.base_rules.specs.Bytes.{splice}
 use Rattle.cut_rules.specs.declared.Settings.{Settings}
+use Rattle.cut_rules.specs.Missing.{losses}
 use Rattle.header_rules.specs.Read.{faultOf}
 use Rattle.places_rules.specs.declared.Displaced.{Displaced}
 use Rattle.places_rules.specs.declared.Displaced.the-variants as displaced
 use Rattle.places_rules.specs.Places.{four, free, heldAt}
 use Rattle.receiver_rules.specs.declared.Received.the-variants.{Kept, Delivered, Refused}
 use Rattle.receiver_rules.specs.Promise.{displacedValues, numberOf, Outcome, outcome, State}
-use Rattle.link.specs.Run.{Call, after, Made, Run, start, next, Reached, Holds, ShownOpen, numberIn, come, All}
-use Rattle.link.specs.Demand.{Takes, Own, enoughAfter, Answered, DisplacedBy, Promised, HandedOut, T2}
+use Rattle.link.specs.Run.{Call, after, Made, Run, start, next, Reached, Holds, ShownOpen, numberIn, come, lost, All}
+use Rattle.link.specs.Demand.{Takes, count, Own, enoughAfter, Answered, DisplacedBy, Promised, HandedOut, T2}
 use Rattle.link.proofs.Basic.{less-or-not}
 use Rattle.link.proofs.View.{Good, View, unheard, refuses, keeps, opens}
 use Rattle.link.proofs.Frame.{see, good-run, good-reached}
@@ -95,16 +97,23 @@ module _ (g : Settings) (n : ℕ) (packet : List ℕ) (takes : Takes g n packet)
           (λ before. refused-or-handed 12 l m d (sym (a .again old before .0) ∙ told)))
           (λ new. let k = a .kept new f .0 in kept-or-handed (k .0) l m d (sym (k .1) ∙ told))
 
-      -- nor is a datagram of its number that is refused by its header
-      quiet-call : Own g n packet e → enoughAfter g n packet (e ∷ es) ≡ false
-          → (length missing : ℕ) (d : Displaced) → e .left .answer ≡ numberOf (Delivered length missing d) → numberIn e ≡ n → ⊥
-      quiet-call own f l m d told is = go (see r made)
+      -- so what hands out something of its number is the first with which it is enough
+      once-call : Own g n packet e → (length missing : ℕ) (d : Displaced) → e .left .answer ≡ numberOf (Delivered length missing d) → numberIn e ≡ n
+          → (enoughAfter g n packet es ≡ false) × (enoughAfter g n packet (e ∷ es) ≡ true)
+      once-call own l m d told is = go (see r made)
         where
-          heard-call : faultOf (e .own) (e .datagram) ≡ 0 → ⊥
-          heard-call passes = let one = its-own g n packet takes e own passes is in not-handed (one .0) (one .1) f l m d told
+          heard-call : faultOf (e .own) (e .datagram) ≡ 0 → (enoughAfter g n packet es ≡ false) × (enoughAfter g n packet (e ∷ es) ≡ true)
+          heard-call passes =
+              let one = its-own g n packet takes e own passes is in
+              either (enoughAfter g n packet es)
+              (λ yet. absurd (refused-or-handed 11 l m d (sym (brought (one .0) (one .1) .answered .late yet .0) ∙ told)))
+              (λ before.
+              either (enoughAfter g n packet (e ∷ es))
+              (λ now. (before, now))
+              (λ f. absurd (not-handed (one .0) (one .1) f l m d told)))
 
-          go : View (e .own) s (e .datagram) (e .lent) (e .left) → ⊥
-          go (unheard fault q) = refused-or-handed _ l m d (sym (refused-told e s _ q) ∙ told)
+          go : View (e .own) s (e .datagram) (e .lent) (e .left) → (enoughAfter g n packet es ≡ false) × (enoughAfter g n packet (e ∷ es) ≡ true)
+          go (unheard fault q) = absurd (refused-or-handed _ l m d (sym (refused-told e s _ q) ∙ told))
           go (refuses passes low fault q) = heard-call passes
           go (keeps passes low fault z) = heard-call passes
           go (opens passes high z) = heard-call passes
@@ -145,24 +154,32 @@ module _ (g : Settings) (n : ℕ) (packet : List ℕ) (takes : Takes g n packet)
         record {
           shown = λ some. shown-stage es s r st (held-now run held some);
           answered = λ e made i below is matches. brought es s r st e made i (brings g n packet takes e i below is matches) .answered;
-          quiet = λ e made its. quiet-call es s r st e made its;
+          once = λ e made its. once-call es s r st e made its;
           displaced = λ e made its some. leaves es s r st e made its (held-now run held some);
         }
 
     -- ---- it is handed out
 
     -- the call with which it is enough
+    pub told-now : {es : List Call} {s : State} → Run first es s → All (Own g n packet) es → All (λ e. Holds (after e) n) es
+        → (e : Call) → Made s e → Own g n packet e → enoughAfter g n packet es ≡ false → enoughAfter g n packet (e ∷ es) ≡ true
+        → ((d : Displaced) × (e .left .answer ≡ numberOf (Delivered (length packet) (losses (lost n (e ∷ es)) (count g packet)) d)))
+        × (e .left .out ≡ splice (e .lent) 0 packet)
+    told-now {es} {s} run own held e made its before now =
+        either-kind g n packet takes e its
+        (λ i b.
+        let a = brought es s (good-run (good-reached reached) run) (standing run own held) e made i b .answered .delivered before now in
+        ((a .0 .0, a .0 .1), a .1))
+        (λ f.
+        clash now (enough-with g n packet takes (e ∷ es) (come n es) (come-foreign n e es f) ∙ sym (enough-is g packet (takes .passed) n es)
+        ∙ before))
+
     turning : {es : List Call} {s : State} → Run first es s → All (Own g n packet) es → All (λ e. Holds (after e) n) es
         → (e : Call) → Made s e → Own g n packet e → enoughAfter g n packet es ≡ false → enoughAfter g n packet (e ∷ es) ≡ true
         → HandedOut g n packet (e ∷ es)
     turning {es} {s} run own held e made its before now =
-        either-kind g n packet takes e its
-        (λ i b.
-        let a = brought es s (good-run (good-reached reached) run) (standing run own held) e made i b .answered .delivered before now in
-        record { later = []; call = e; earlier = es; split = refl; before = before; enough-now = now; told = a .0; written = a .1 })
-        (λ f.
-        clash now (enough-with g n packet takes (e ∷ es) (come n es) (come-foreign n e es f) ∙ sym (enough-is g packet (takes .passed) n es)
-        ∙ before))
+        let a = told-now run own held e made its before now in
+        record { later = []; call = e; earlier = es; split = refl; before = before; enough-now = now; told = a .0; written = a .1 }
 
     handed-out : {es : List Call} {s : State} → Run first es s → All (Own g n packet) es → All (λ e. Holds (after e) n) es
         → enoughAfter g n packet es ≡ true → HandedOut g n packet es

@@ -68,16 +68,20 @@ enoughAfter g n packet es =
     (suffice (lost n es) (count g packet) (cut.n (length packet)) (cut.c (length packet)))
     (eqb (losses (lost n es) (count g packet)) 0)
 
+-- only the first fragment to come displaces another packet
+abbrev pub FirstOnly : ℕ → List Call → Displaced → Type 0
+FirstOnly n es d = (j : ℕ) → come n es j ≡ true → d ≡ None
+
 -- the answer to its fragment i in the call e, after the calls es: these four are all cases
 pub record Answered (g : Settings) (n : ℕ) (packet : List ℕ) (es : List Call) (e : Call) (i : ℕ) : Type 0 where
   -- a new fragment, not enough yet: kept, and out is untouched
   pub kept : come n es i ≡ false → enoughAfter g n packet (e ∷ es) ≡ false
-      → ((d : Displaced) × (e .left .answer ≡ numberOf (Kept d))) × (e .left .out ≡ e .lent)
+      → ((d : Displaced) × (e .left .answer ≡ numberOf (Kept d)) × FirstOnly n es d) × (e .left .out ≡ e .lent)
   -- a repeat before it is enough: 12
   pub again : come n es i ≡ true → enoughAfter g n packet es ≡ false → (e .left .answer ≡ numberOf (Refused 12)) × (e .left .out ≡ e .lent)
   -- the first after which it is enough: handed out byte for byte, with its length and the count of fragments that have not come
   pub delivered : enoughAfter g n packet es ≡ false → enoughAfter g n packet (e ∷ es) ≡ true
-      → ((d : Displaced) × (e .left .answer ≡ numberOf (Delivered (length packet) (losses (lost n (e ∷ es)) (count g packet)) d)))
+      → ((d : Displaced) × (e .left .answer ≡ numberOf (Delivered (length packet) (losses (lost n (e ∷ es)) (count g packet)) d)) × FirstOnly n es d)
       × (e .left .out ≡ splice (e .lent) 0 packet)
   -- "not again while its number is held": 11
   pub late : enoughAfter g n packet es ≡ true → (e .left .answer ≡ numberOf (Refused 11)) × (e .left .out ≡ e .lent)
@@ -100,9 +104,11 @@ pub record Promised (g : Settings) (n : ℕ) (packet : List ℕ) (es : List Call
   -- the next call, where it brings any of its fragments and "addresses match"
   pub answered : (e : Call) → Made now e → (i : ℕ) → i < count g packet → e .datagram ≡ fragmentFor g n packet i
       → badAddress (e .own) (g .address) ≡ false → Answered g n packet es e i
-  -- "until then nothing of its number is handed out": what the next call hands out before it is enough is of another number
-  pub quiet : (e : Call) → Made now e → Own g n packet e → enoughAfter g n packet (e ∷ es) ≡ false
-      → (length missing : ℕ) (d : Displaced) → e .left .answer ≡ numberOf (Delivered length missing d) → numberIn e ≡ n → ⊥
+  -- "at the first fragment after which", "not again while its number is held", "until then nothing of its number is handed out": whatever the
+  -- next call brings, it hands out something of this number only where it is enough with it and was not before
+  pub once : (e : Call) → Made now e → Own g n packet e → (length missing : ℕ) (d : Displaced)
+      → e .left .answer ≡ numberOf (Delivered length missing d) → numberIn e ≡ n
+      → (enoughAfter g n packet es ≡ false) × (enoughAfter g n packet (e ∷ es) ≡ true)
   -- the next call, after which it is no longer held
   pub displaced : (e : Call) → Made now e → Own g n packet e → 0 < length es → (Holds (after e) n → ⊥) → DisplacedBy g n packet es e
 
@@ -139,8 +145,8 @@ T2 =
 -- T3: "A sender set for m losses, 1 to 5, always leaves enough after any m"
 abbrev pub T3 : Type 0
 T3 =
-    (g : Settings) (n : ℕ) (packet : List ℕ) (es : List Call) → Takes g n packet → g .fec ≡ true
-    → losses (lost n es) (count g packet) ≤ g .m → enoughAfter g n packet es ≡ true
+    (g : Settings) (n : ℕ) (packet : List ℕ) (es : List Call) → Takes g n packet
+    → losses (lost n es) (count g packet) ≤ cut.assured g (length packet) → enoughAfter g n packet es ≡ true
 
 -- T3 with T1: such a packet is handed out where at most m of its fragments are lost
 abbrev pub T3b : Type 0
@@ -148,7 +154,7 @@ T3b =
     (g : Settings) (n : ℕ) (packet : List ℕ) (first : State) (es : List Call) (now : State)
     → Scene g n packet first es now
     → Begins n es → (others : List ℕ) → length others ≤ 3
-    → All (Among n others) es → g .fec ≡ true → losses (lost n es) (count g packet) ≤ g .m
+    → All (Among n others) es → losses (lost n es) (count g packet) ≤ cut.assured g (length packet)
     → HandedOut g n packet es
 
 -- "no earlier packet of its number is still held": once a packet was displaced, all this holds of the next one under its number too

@@ -3,3 +3,4 @@ pub mod Demand
 pub mod Reached
 pub mod Useless
 pub mod Examples
+pub mod Whole
