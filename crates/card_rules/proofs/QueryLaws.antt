@@ -18,7 +18,7 @@ use Rattle.packed_rules.specs.Packed.{table-bytes, packedOf, packCall, unpackCa
 use Rattle.packed_rules.proofs.Proved.{fresh-zeros}
 use Rattle.places_rules.specs.declared.Place.{Place}
 use Rattle.places_rules.specs.declared.Table.{Table}
-use Rattle.places_rules.specs.Places.{free, freshTable, placeAt}
+use Rattle.places_rules.specs.Places.{free, freshTable, placeAt, keyIn}
 use Rattle.receiver_rules.specs.Promise.{roomFault}
 use Rattle.receiver_rules.specs.Calls.{shownOf, seenValues, queriedNumber, queryCall, clearCall}
 use Rattle.receiver_rules.specs.declared.Seen.{Seen}
@@ -54,7 +54,7 @@ figures-spread (suc x) n v = rw (ne-eqb (suc x) free (λ (z : suc x ≡ 0). omeg
 
 place-spread : (p : Place) (v : List ℕ) → spread (shownOf p ++ v) ≡ placeTold p ++ spread v
 unfolding shownOf placeTold
-place-spread p v = figures-spread (p .condition) (p .number) v
+place-spread p v = figures-spread (p .condition) (keyIn p) v
 
 -- of four
 to-right : (a b c d : List ℕ) → a ++ b ++ c ++ d ≡ a ++ (b ++ (c ++ d))

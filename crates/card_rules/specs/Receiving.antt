@@ -12,7 +12,7 @@ use Rattle.places_rules.specs.declared.Place.{Place}
 use Rattle.places_rules.specs.declared.Table.{Table}
 use Rattle.places_rules.specs.declared.Displaced.{Displaced}
 use Rattle.places_rules.specs.declared.Displaced.the-variants.{None, Number}
-use Rattle.places_rules.specs.Places.{free, freshTable, placeAt}
+use Rattle.places_rules.specs.Places.{free, freshTable, placeAt, keyIn}
 use Rattle.packed_rules.specs.Packed.{packedOf, tableFrom, unpackFault}
 use Rattle.receiver_rules.specs.Promise.{numberOf, outcome, roomFault, Step}
 use Rattle.receiver_rules.specs.declared.Received.{Received}
@@ -30,7 +30,7 @@ onRecord bytes refusal call = cond (eqb (unpackFault bytes) 0) (call (tableFrom 
 
 -- what is told of a place: its condition, and its packet's number, 0 where it is free
 unfoldable pub placeTold : Place → List ℕ
-placeTold p = p .condition ∷ cond (eqb (p .condition) free) 0 (p .number) ∷ []
+placeTold p = p .condition ∷ cond (eqb (p .condition) free) 0 (keyIn p) ∷ []
 
 -- that of all four places,
 unfoldable pub placesTold : Table → List ℕ

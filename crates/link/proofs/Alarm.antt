@@ -12,12 +12,11 @@ use Rattle.places_rules.specs.declared.Place.{Place}
 use Rattle.places_rules.specs.declared.Table.{Table}
 use Rattle.places_rules.specs.declared.Displaced.{Displaced}
 use Rattle.places_rules.specs.declared.Displaced.the-variants as displaced
-use Rattle.places_rules.specs.Places.{four, open-now, placeAt, keyOf, holds, heldAt, openAt, displacedAt, turned}
+use Rattle.places_rules.specs.Places.{four, open-now, placeAt, keyIn, keyOf, holds, heldAt, openAt, displacedAt, turned}
 use Rattle.receiver_rules.specs.declared.Received.the-variants.{Refused}
 use Rattle.receiver_rules.specs.Promise.{displacedValues, numberOf, Outcome, outcome, State, keepAt}
 use Rattle.link.specs.Run.{Call, after, Made, Reached, Holds, ShownOpen}
-use Rattle.link.specs.Demand.{Names, by-kept, by-delivered, by-damaged}
-use Rattle.link.specs.Whole.{NamesGone}
+use Rattle.link.specs.Demand.{Names, by-kept, by-delivered, by-damaged, NamesGone}
 use Rattle.link.proofs.Basic.{same-or-not, held-absent, held-none, holds-yes, holds-other}
 use Rattle.link.proofs.View.{View, unheard, refuses, keeps, opens}
 use Rattle.link.proofs.Frame.{Wrote, wrote-opened, see, good-reached}
@@ -48,16 +47,16 @@ names-code (displaced.Number n) a by-kept = refl
 names-code (displaced.Number n) a (by-delivered l m) = refl
 names-code (displaced.Number n) a by-damaged = refl
 
-displaced-code : (t : Table) (i n : ℕ) → code (displacedAt t i) ≡ n + 1 → (placeAt t i .condition ≡ open-now) × (placeAt t i .number ≡ n)
+displaced-code : (t : Table) (i n : ℕ) → code (displacedAt t i) ≡ n + 1 → (placeAt t i .condition ≡ open-now) × (keyIn (placeAt t i) ≡ n)
 unfolding displacedAt code
 displaced-code t i n e =
     let p : Place = placeAt t i in
     either (eqb (p .condition) open-now)
     (λ is.
-    let z : p .number + 1 ≡ n + 1 = sym (ap (λ (v : Bool). code (cond v (displaced.Number (p .number)) displaced.None)) is) ∙ e in
+    let z : keyIn p + 1 ≡ n + 1 = sym (ap (λ (v : Bool). code (cond v (displaced.Number (keyIn p)) displaced.None)) is) ∙ e in
     (eqb-true _ _ is, omega (arith, z)))
     (λ no.
-    let z : 0 ≡ n + 1 = sym (ap (λ (v : Bool). code (cond v (displaced.Number (p .number)) displaced.None)) no) ∙ e in
+    let z : 0 ≡ n + 1 = sym (ap (λ (v : Bool). code (cond v (displaced.Number (keyIn p)) displaced.None)) no) ∙ e in
     absurd (omega (arith, z)))
 
 module _ (s : State) (c : Reached s) (e : Call) (made : Made s e) (n : ℕ) (names : Names (displaced.Number n) (e .left .answer)) where
@@ -72,7 +71,7 @@ module _ (s : State) (c : Reached s) (e : Call) (made : Made s e) (n : ℕ) (nam
       omega (arith, z)
 
   gone : View (e .own) s (e .datagram) (e .lent) (e .left) → ShownOpen s n × (Holds (after e) n → ⊥)
-  unfolding keepAt keyOf code
+  unfolding keepAt code
   gone (unheard fault q) = absurd (refused-none _ q)
   gone (refuses passes low fault q) = absurd (refused-none _ q)
   gone (keeps passes low fault z) =
@@ -83,11 +82,11 @@ module _ (s : State) (c : Reached s) (e : Call) (made : Made s e) (n : ℕ) (nam
       let j : ℕ = openAt t in
       let w : Wrote s (turned t j) (fieldsOf (e .datagram)) j (e .left) =
       wrote-opened (e .own) s (good-reached c) (e .datagram) (e .lent) (made .bytes) passes (e .left) _ z in
-      let was : (placeAt t j .condition ≡ open-now) × (placeAt t j .number ≡ n) =
+      let was : (placeAt t j .condition ≡ open-now) × (keyIn (placeAt t j) ≡ n) =
       displaced-code t j n (sym (names-code (displacedAt t j) _ (settled-names z)) ∙ its-code) in
       let held : holds (placeAt t j) n ≡ true = holds-yes (placeAt t j) n (λ q. omega (arith, was .0, q)) (was .1) in
-      let other : fieldsOf (e .datagram) .number ≡ n → ⊥ =
-      λ q. clash held (ap (λ (x : ℕ). holds (placeAt t j) x) (sym q) ∙ held-absent t (fieldsOf (e .datagram) .number) high j (w .below)) in
+      let other : keyOf (fieldsOf (e .datagram)) ≡ n → ⊥ =
+      λ q. clash held (ap (λ (x : ℕ). holds (placeAt t j) x) (sym q) ∙ held-absent t (keyOf (fieldsOf (e .datagram))) high j (w .below)) in
       let none : four ≤ heldAt (e .left .table) n =
       held-none (e .left .table) n
       (λ i l.

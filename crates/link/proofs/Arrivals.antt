@@ -16,9 +16,9 @@ use Rattle.cut_rules.specs.Plan.{houseOf}
 use Rattle.cut_rules.specs.Edge.{plain}
 use Rattle.cut_rules.specs.Sizes as cut
 use Rattle.header_rules.specs.Read.{faultOf}
-use Rattle.link.specs.Run.{Call, freshWith, heard, numberIn, come, All}
-use Rattle.link.specs.Demand.{Own, Among, Begins}
-use Rattle.link.specs.Examples.{Input, inputOf, Lawful, packet, number, other, Arrival, Its, Of, Broken, datagramOf, Playable}
+use Rattle.link.specs.Run.{Call, freshWith, heard, numberIn, come, All, Input, inputOf, Lawful}
+use Rattle.link.specs.Demand.{keyFor, Own, Among, Begins}
+use Rattle.link.specs.Examples.{packet, number, other, Arrival, Its, Of, Broken, datagramOf, Playable}
 use Rattle.link.proofs.Heard.{Foreign, brings-number, come-none, come-own, come-foreign}
 use Rattle.link.proofs.Runs.{some-run, bytes-fragment}
 use Rattle.link.proofs.Turns.{Brings-next, All-next}
@@ -98,7 +98,7 @@ foreign n e k = λ passes is. k .2 (sym (k .1) ∙ is)
 
 -- the fragments that came in the calls are those among the arrivals that they bring
 pub come-is : (xs : List Arrival) (es : List Call) → Kinds xs es → come number es ≡ came xs
-unfolding Kinds Kind came
+unfolding Kinds Kind came keyFor
 come-is [] [] k = come-none number
 come-is [] (e ∷ es) k = absurd k
 come-is (Its i ∷ xs) [] k = absurd k
@@ -112,7 +112,7 @@ come-is (Broken d ∷ xs) (e ∷ es) k = come-foreign number e es (λ passes. ab
 -- ---- what T1 supposes of them
 
 own : (a : Arrival) (e : Call) → Kind a e → Own houseOf number packet e
-unfolding Kind Own
+unfolding Kind Own keyFor
 own (Its i) e k = λ h is. (i, k .0, k .1)
 own (Of n) e k = λ h is. absurd (k .2 (sym (k .1) ∙ is))
 own (Broken d) e k = λ h is. absurd (k (eqb-true _ _ h))
@@ -124,7 +124,7 @@ among-these others (Of n) = among n others
 among-these others (Broken d) = true
 
 is-among : (others : List ℕ) (a : Arrival) (e : Call) → Kind a e → among-these others a ≡ true → Among number others e
-unfolding Kind Among among-these
+unfolding Kind Among among-these keyFor
 is-among others (Its i) e k t = λ h strange. absurd (strange (brings-number houseOf number packet e i (its-brings i e k)))
 is-among others (Of n) e k t = λ h strange. ap (λ (m : ℕ). among m others) (k .1) ∙ t
 is-among others (Broken d) e k t = λ h strange. absurd (k (eqb-true _ _ h))
@@ -158,7 +158,7 @@ is-its (Of n) = false
 is-its (Broken d) = false
 
 its-first : (a : Arrival) (e : Call) → Kind a e → is-its a ≡ true → (heard e ≡ true) × (numberIn e ≡ number)
-unfolding is-its
+unfolding is-its keyFor
 its-first (Its i) e k t = let b = its-brings i e k in (eq-eqb _ _ (b .passes), brings-number houseOf number packet e i b)
 its-first (Of n) e k t = clash t refl
 its-first (Broken d) e k t = clash t refl
@@ -189,7 +189,7 @@ is-number n (Of m) = eqb m n
 is-number n (Broken d) = false
 
 next-one : (n : ℕ) (a : Arrival) (e : Call) → Kind a e → is-number n a ≡ true → (faultOf (e .own) (e .datagram) ≡ 0) × (numberIn e ≡ n)
-unfolding Kind is-number
+unfolding Kind is-number keyFor
 next-one n (Its i) e k t = let b = its-brings i e k in (b .passes, brings-number houseOf number packet e i b ∙ eqb-true number n t)
 next-one n (Of m) e k t = (k .0, k .1 ∙ eqb-true m n t)
 next-one n (Broken d) e k t = clash t refl

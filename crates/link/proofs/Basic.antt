@@ -105,13 +105,13 @@ module _ (t : Table) (n : ℕ) where
 
 module _ (p : Place) (n : ℕ) where
   -- a place that is not free holds the number in its record
-  pub holds-yes : (p .condition ≡ free → ⊥) → p .number ≡ n → holds p n ≡ true
-  unfolding holds keyIn
-  holds-yes some e = simp (ne-eqb (p .condition) free some, eq-eqb (p .number) n e)
+  pub holds-yes : (p .condition ≡ free → ⊥) → keyIn p ≡ n → holds p n ≡ true
+  unfolding holds
+  holds-yes some e = simp (ne-eqb (p .condition) free some, eq-eqb (keyIn p) n e)
 
   -- the number that a place holds is the one in its record
-  pub holds-number : holds p n ≡ true → p .number ≡ n
-  unfolding holds keyIn
+  pub holds-number : holds p n ≡ true → keyIn p ≡ n
+  unfolding holds
   holds-number e = eqb-true _ _ (and-right (not (eqb (p .condition) free)) _ e)
 
   -- a place that holds a number is not free
@@ -120,9 +120,9 @@ module _ (p : Place) (n : ℕ) where
   holds-some e = eqb-false _ _ (not-true (eqb (p .condition) free) (and-left (not (eqb (p .condition) free)) _ e))
 
   -- a place holds no number but the one in its record
-  pub holds-other : (p .number ≡ n → ⊥) → holds p n ≡ false
-  unfolding holds keyIn
-  holds-other e = rw (ne-eqb (p .number) n e) (and-false (not (eqb (p .condition) free)))
+  pub holds-other : (keyIn p ≡ n → ⊥) → holds p n ≡ false
+  unfolding holds
+  holds-other e = rw (ne-eqb (keyIn p) n e) (and-false (not (eqb (p .condition) free)))
 
 -- ---- a place that was not written
 

@@ -25,7 +25,7 @@ use Rattle.header_rules.specs.Claims.{Fitting}
 use Rattle.sender_rules.specs.Calls.{packetFault}
 use Rattle.sender_rules.specs.Fragments.{fragmentFor}
 use Rattle.link.specs.Run.{Call, numberIn}
-use Rattle.link.specs.Demand.{Takes, count}
+use Rattle.link.specs.Demand.{Takes, count, keyFor}
 use Rattle.link.specs.Examples.{packet, number, other, Arrival, Its, Of, Broken, datagramOf}
 use Rattle.link.proofs.Heard.{Brings, brings, brings-number}
 
@@ -133,7 +133,7 @@ unfolding isShort
 too-short d h = rw (lt-ltb (length d) 14 h)
 
 kind : (a : Arrival) (e : Call) → possible a ≡ true → e .datagram ≡ datagramOf a → Kind a e
-unfolding possible datagramOf Kind badAddress faultOf
+unfolding possible datagramOf Kind badAddress faultOf keyFor
 kind (Its i) e p is = (omega (arith, ltb-true i 12 p, packet-count), is)
 kind (Of n) e p is =
     let b = brings plain n other (other-takes n (ltb-true n 65536 (and-left _ _ p))) e 0 (omega (arith, other-count)) is refl in

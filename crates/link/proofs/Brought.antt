@@ -25,7 +25,8 @@ use Rattle.receiver_rules.specs.Promise.{numberOf, Outcome, outcome, State, pay
 use Rattle.receiver_rules.proofs.Ranges.{written-place}
 use Rattle.sender_rules.specs.Fragments.{payloadFor, headerFor}
 use Rattle.link.specs.Run.{Call, after, Made, come, lost}
-use Rattle.link.specs.Demand.{Takes, count, enoughAfter, FirstOnly, Answered}
+use Rattle.link.specs.Demand.{Takes, count, keyFor, enoughAfter}
+use Rattle.link.specs.Steps.{FirstOnly, Answered}
 use Rattle.link.proofs.Basic.{held-absent}
 use Rattle.link.proofs.View.{Good, View, unheard, refuses, keeps, opens}
 use Rattle.link.proofs.Frame.{leftBy, Wrote, wrote-held, wrote-opened, see}
@@ -58,22 +59,22 @@ module _ (g : Settings) (n : ℕ) (packet : List ℕ) (takes : Takes g n packet)
     (i : ℕ) (b : Brings g n packet e i) where
   -- what came, with it
   abbrev more : ℕ → Bool
-  more j = eqb i j || come n es j
+  more j = eqb i j || come (keyFor g n) es j
 
-  came-now : come n (e ∷ es) ≡ more
+  came-now : come (keyFor g n) (e ∷ es) ≡ more
   came-now = come-own g n packet e es i b
 
   enough-now : enoughAfter g n packet (e ∷ es) ≡ suffices g packet more
   enough-now = enough-with g n packet takes (e ∷ es) more came-now
 
-  lost-now : losses (λ j. not (more j)) (count g packet) ≡ losses (lost n (e ∷ es)) (count g packet)
+  lost-now : losses (λ j. not (more j)) (count g packet) ≡ losses (lost (keyFor g n) (e ∷ es)) (count g packet)
   lost-now = ap (λ (came : ℕ → Bool). losses (λ j. not (came j)) (count g packet)) (sym came-now)
 
   -- ---- it is kept in place `at`, which was p
 
-  module _ (u : Table) (size-u : length (u .places) ≡ four) (at : ℕ) (p : Place) (d : Displaced) (only : FirstOnly n es d)
-      (full : Full g n packet (come n es) at p (s .bytes)) (alone : Alone n (s .table) at)
-      (new : come n es i ≡ false) (before : enoughAfter g n packet es ≡ false) (w : Wrote s u (fieldsOf (e .datagram)) at (e .left))
+  module _ (u : Table) (size-u : length (u .places) ≡ four) (at : ℕ) (p : Place) (d : Displaced) (only : FirstOnly (keyFor g n) es d)
+      (full : Full g n packet (come (keyFor g n) es) at p (s .bytes)) (alone : Alone (keyFor g n) (s .table) at)
+      (new : come (keyFor g n) es i ≡ false) (before : enoughAfter g n packet es ≡ false) (w : Wrote s u (fieldsOf (e .datagram)) at (e .left))
       (settled : SettledAfter (keepAt u at p d (headerFor g n packet i) (s .bytes) (payloadFor g packet i)) (e .lent) (e .left)) where
     abbrev t : Table
     t = withPlace u at (keptIn p (headerFor g n packet i))
@@ -91,13 +92,13 @@ module _ (g : Settings) (n : ℕ) (packet : List ℕ) (takes : Takes g n packet)
     full-t : Full g n packet more at (placeAt t at) held
     full-t =
         subst (λ (q : Place). Full g n packet more at q held) (sym was)
-        (kept-full g packet (takes .passed) n i (b .below) p (come n es) at (s .bytes) (w .below) (r .whole) full)
+        (kept-full g packet (takes .passed) n i (b .below) p (come (keyFor g n) es) at (s .bytes) (w .below) (r .whole) full)
 
     sized-t : SizeKnown g packet (placeAt t at)
     sized-t = subst (SizeKnown g packet) (sym was) (kept-sized g packet (takes .passed) n i (b .below) p)
 
-    alone-now : Alone n (e .left .table) at
-    alone-now j k other = ap (λ (q : Place). holds q n) (w .others j other) ∙ alone j k other
+    alone-now : Alone (keyFor g n) (e .left .table) at
+    alone-now j k other = ap (λ (q : Place). holds q (keyFor g n)) (w .others j other) ∙ alone j k other
 
     -- it waits for more
     module _ (f : suffices g packet more ≡ false) where
@@ -148,7 +149,8 @@ module _ (g : Settings) (n : ℕ) (packet : List ℕ) (takes : Takes g n packet)
                 again = λ c f. clash c new;
                 delivered = λ c f.
                     let v = hands-now (sym enough-now ∙ f) in
-                    ((d, v .answer ∙ ap (λ (x : ℕ). numberOf (Delivered (length packet) x d)) lost-now, only), v .out);
+                    let told = v .answer ∙ ap (λ (x : ℕ). numberOf (Delivered (length packet) x d)) lost-now in
+                    (record { displaced = d; told = told; written = v .out }, only);
                 late = λ f. clash f before;
               };
           stage =
@@ -160,8 +162,7 @@ module _ (g : Settings) (n : ℕ) (packet : List ℕ) (takes : Takes g n packet)
 
   -- ---- its number
 
-  key-is : keyOf (fieldsOf (e .datagram)) ≡ n
-  unfolding keyOf
+  key-is : keyOf (fieldsOf (e .datagram)) ≡ keyFor g n
   key-is = brings-number g n packet e i b
 
   -- what is kept is its fragment
@@ -180,7 +181,7 @@ module _ (g : Settings) (n : ℕ) (packet : List ℕ) (takes : Takes g n packet)
 
   -- ---- where nothing of it came
 
-  absent-step : four ≤ heldAt (s .table) n → come n es ≡ (λ j. false) → View (e .own) s (e .datagram) (e .lent) (e .left) → Next g n packet es e i
+  absent-step : four ≤ heldAt (s .table) (keyFor g n) → come (keyFor g n) es ≡ (λ j. false) → View (e .own) s (e .datagram) (e .lent) (e .left) → Next g n packet es e i
   absent-step absent none (unheard fault q) = absurd (fault (b .passes))
   absent-step absent none (refuses passes low fault q) = absurd (omega (arith, low, absent, ap (heldAt (s .table)) key-is))
   absent-step absent none (keeps passes low fault z) = absurd (omega (arith, low, absent, ap (heldAt (s .table)) key-is))
@@ -191,7 +192,7 @@ module _ (g : Settings) (n : ℕ) (packet : List ℕ) (takes : Takes g n packet)
       (λ j c. clash c (ap (λ (came : ℕ → Bool). came j) none))
       (subst (λ (came : ℕ → Bool). Full g n packet came (openAt (s .table)) (openedBy (headerFor g n packet i)) (s .bytes)) (sym none)
       (opened-full g packet (takes .passed) n i (b .below) (openAt (s .table)) (s .bytes)))
-      (λ j k other. held-absent (s .table) n absent j k)
+      (λ j k other. held-absent (s .table) (keyFor g n) absent j k)
       (ap (λ (came : ℕ → Bool). came i) none)
       (enough-none g n packet takes es none)
       (wrote-opened (e .own) s r (e .datagram) (e .lent) (made .bytes) passes (e .left) _ z)
@@ -199,41 +200,41 @@ module _ (g : Settings) (n : ℕ) (packet : List ℕ) (takes : Takes g n packet)
 
   -- ---- where its place is open
 
-  module _ (at : ℕ) (o : OpenAt g n packet (come n es) s at) (before : enoughAfter g n packet es ≡ false) where
+  module _ (at : ℕ) (o : OpenAt g n packet (come (keyFor g n) es) s at) (before : enoughAfter g n packet es ≡ false) where
     at-is : heldAt (s .table) (keyOf (fieldsOf (e .datagram))) ≡ at
-    at-is = ap (heldAt (s .table)) key-is ∙ open-held g n packet (come n es) s at o
+    at-is = ap (heldAt (s .table)) key-is ∙ open-held g n packet (come (keyFor g n) es) s at o
 
-    kept-is : getD (placeAt (s .table) at .kept) i false ≡ come n es i
+    kept-is : getD (placeAt (s .table) at .kept) i false ≡ come (keyFor g n) es i
     kept-is = o .full .kept i (b .below)
 
     fault-is : placeFault (placeAt (s .table) (heldAt (s .table) (keyOf (fieldsOf (e .datagram))))) (fieldsOf (e .datagram)) ≡ placeFault
         (placeAt (s .table) at) (headerFor g n packet i)
     fault-is = ap₂ (λ (x : ℕ) (h : Header). placeFault (placeAt (s .table) x) h) at-is (b .fields)
 
-    new-fault : come n es i ≡ false → placeFault (placeAt (s .table) at) (headerFor g n packet i) ≡ 0
+    new-fault : come (keyFor g n) es i ≡ false → placeFault (placeAt (s .table) at) (headerFor g n packet i) ≡ 0
     new-fault c = fault-none g n packet (takes .passed) i (placeAt (s .table) at) (o .full .mine) (o .sized) (o .full .is-open) (kept-is ∙ c)
 
-    old-fault : come n es i ≡ true → placeFault (placeAt (s .table) at) (headerFor g n packet i) ≡ 12
+    old-fault : come (keyFor g n) es i ≡ true → placeFault (placeAt (s .table) at) (headerFor g n packet i) ≡ 12
     old-fault c = fault-12 g n packet (takes .passed) i (placeAt (s .table) at) (o .full .mine) (o .sized) (o .full .is-open) (kept-is ∙ c)
 
     open-step : View (e .own) s (e .datagram) (e .lent) (e .left) → Next g n packet es e i
     open-step (unheard fault q) = absurd (fault (b .passes))
     open-step (refuses passes low fault q) =
-        let old : come n es i ≡ true = either (come n es i) (λ c. c) (λ c. absurd (fault (fault-is ∙ new-fault c))) in
-        let same : come n (e ∷ es) ≡ come n es = come-again g n packet e es i b old in
+        let old : come (keyFor g n) es i ≡ true = either (come (keyFor g n) es i) (λ c. c) (λ c. absurd (fault (fault-is ∙ new-fault c))) in
+        let same : come (keyFor g n) (e ∷ es) ≡ come (keyFor g n) es = come-again g n packet e es i b old in
         record {
           answered =
               record {
                 kept = λ c f. clash old c;
                 again = λ c f. refused-answer _ 12 q (fault-is ∙ old-fault old);
-                delivered = λ c f. clash f (enough-with g n packet takes (e ∷ es) (come n es) same
+                delivered = λ c f. clash f (enough-with g n packet takes (e ∷ es) (come (keyFor g n) es) same
                     ∙ sym (enough-is g packet (takes .passed) n es) ∙ before);
                 late = λ f. clash f before;
               };
           stage = moved-stage g n packet takes es s e (after e) same (refused-stage g n packet takes es s e _ q (open-at at o before));
         }
     open-step (keeps passes low fault z) =
-        let new : come n es i ≡ false = either (come n es i) (λ c. absurd (omega (arith, fault, fault-is, old-fault c))) (λ c. c) in
+        let new : come (keyFor g n) es i ≡ false = either (come (keyFor g n) es i) (λ c. absurd (omega (arith, fault, fault-is, old-fault c))) (λ c. c) in
         let here : SettledAfter (keepAt (s .table) at (placeAt (s .table) at) None (fieldsOf (e .datagram)) (s .bytes)
         (payloadOf (e .datagram))) (e .lent) (e .left) =
         subst (λ (x : ℕ). SettledAfter (keepAt (s .table) x (placeAt (s .table) x) None (fieldsOf (e .datagram)) (s .bytes)
@@ -260,7 +261,7 @@ module _ (g : Settings) (n : ℕ) (packet : List ℕ) (takes : Takes g n packet)
     unfolding suffices
     still =
         enough-now
-        ∙ enough-more (λ j. not (more j)) (lost n es) (count g packet) (λ j z. not-more (eqb i j) (come n es j) z) (g .fec) _ _
+        ∙ enough-more (λ j. not (more j)) (lost (keyFor g n) es) (count g packet) (λ j z. not-more (eqb i j) (come (keyFor g n) es j) z) (g .fec) _ _
         (sym (enough-is g packet (takes .passed) n es) ∙ yet)
 
     done-step : View (e .own) s (e .datagram) (e .lent) (e .left) → Next g n packet es e i

@@ -122,24 +122,27 @@ module _ (g : Settings) (packet : List ℕ) where
       unfolding cut.n
       is-n = ap (λ (x : ℕ). x + parity) (with-fec g (cut.k (length packet)) fec)
 
-      -- C3: the receiver's chunks are the sender's
+      -- the chunks that are looked at are those that the receiver takes by the headers
+      is-chunks : cut.receivedC (demand.count g packet) (sizeOf g packet) (rskOf g packet) ≡ demand.chunks g packet
+      is-chunks = ap (cut.receivedC (demand.count g packet) (sizeOf g packet)) (with-fec g (cut.k (length packet)) fec)
+
+      -- C3: and those of the cut
       pub is-c : cut.receivedC (demand.count g packet) (sizeOf g packet) (rskOf g packet) ≡ cut.c (length packet)
-      is-c =
-          ap (cut.receivedC (demand.count g packet) (sizeOf g packet)) (with-fec g (cut.k (length packet)) fec)
-          ∙ c3 g (length packet) (taken g packet passed) fec
+      is-c = is-chunks ∙ c3 g (length packet) (taken g packet passed) fec
 
     -- both ways of saying that it is enough
-    pub enough-is : (n : ℕ) (es : List Call) → demand.enoughAfter g n packet es ≡ suffices (come n es)
+    pub enough-is : (n : ℕ) (es : List Call) → demand.enoughAfter g n packet es ≡ suffices (come (demand.keyFor g n) es)
     unfolding demand.enoughAfter suffices enough
     enough-is n es =
         let f : ℕ = demand.count g packet in
-        let plain : Bool = eqb (losses (lost n es) f) 0 in
-        let received : Bool = suffice (lost n es) f (rskOf g packet + parity) (cut.receivedC f (sizeOf g packet) (rskOf g packet)) in
-        let sent : Bool = suffice (lost n es) f (cut.n (length packet)) (cut.c (length packet)) in
+        let gone : ℕ → Bool = lost (demand.keyFor g n) es in
+        let plain : Bool = eqb (losses gone f) 0 in
+        let received : Bool = suffice gone f (rskOf g packet + parity) (cut.receivedC f (sizeOf g packet) (rskOf g packet)) in
+        let sent : Bool = suffice gone f (cut.n (length packet)) (demand.chunks g packet) in
         either (g .fec)
         (λ fec.
         ap (λ (v : Bool). cond v sent plain) fec
-        ∙ ap₂ (suffice (lost n es) f) (sym (is-n fec)) (sym (is-c fec))
+        ∙ ap₂ (suffice gone f) (sym (is-n fec)) (sym (is-chunks fec))
         ∙ sym (ap (λ (v : Bool). cond v received plain) fec))
         (λ fec. ap (λ (v : Bool). cond v sent plain) fec ∙ sym (ap (λ (v : Bool). cond v received plain) fec))
 

@@ -12,12 +12,14 @@ use Rattle.base_rules.proofs.Every.{below, at}
 use Rattle.cut_rules.specs.Plan.{houseOf}
 use Rattle.cut_rules.specs.Missing as missing
 use Rattle.cut_rules.specs.Sizes as cut
-use Rattle.cut_rules.proofs.Proved.{any-three, no-four}
+use Rattle.cut_rules.proofs.Proved.{c3, any-three, no-four}
 use Rattle.header_rules.specs.Read.{badAddress}
+use Rattle.sender_rules.proofs.Checks.{taken}
 use Rattle.receiver_rules.specs.declared.Received.the-variants.{Delivered}
 use Rattle.receiver_rules.specs.Promise.{numberOf, State}
 use Rattle.link.specs.Run.{Call, after, Run, start, next, Holds, lost, All}
-use Rattle.link.specs.Demand.{T1, count, Among, Begins, Scene, enoughAfter, Promised, HandedOut}
+use Rattle.link.specs.Demand.{count, keyFor, Among, Begins, Scene, enoughAfter}
+use Rattle.link.specs.Steps.{T1, Promised, HandedOut}
 use Rattle.link.specs.Examples.{packet, number, Arrival, Played, opening, three-others, HandedOutLast, ThreeOthers, four-others, DisplacedLast}
 use Rattle.link.specs.Examples.{FourOthers}
 use Rattle.link.proofs.View.{Good}
@@ -70,7 +72,7 @@ module _ {arrivals : List Arrival} (r : Played opening arrivals) where
   )
 
   scene : (xs : List Arrival) (es : List Call) (now : State) → Kinds xs es → Run (r .first) es now → Scene houseOf number packet (r .first) es now
-  unfolding Differ who
+  unfolding Differ who keyFor
   scene xs es now k run =
       record {
         takes = packet-takes number (lit< tt);
@@ -130,12 +132,15 @@ module _ {arrivals : List Arrival} (r : Played opening arrivals) {xs : List Arri
   its-others = all-among (1 ∷ 2 ∷ 3 ∷ []) xs es k (suits .others)
 
   held : All (λ e. Holds (after e) number) es
+  unfolding keyFor
   held = t1 houseOf number packet (r .first) es now its-scene its-begins (1 ∷ 2 ∷ 3 ∷ []) (lit≤ tt) its-others .0
 
   promised : Promised houseOf number packet es now
+  unfolding keyFor
   promised = t1 houseOf number packet (r .first) es now its-scene its-begins (1 ∷ 2 ∷ 3 ∷ []) (lit≤ tt) its-others .1
 
   handed-out : enoughAfter houseOf number packet es ≡ true → HandedOut houseOf number packet es
+  unfolding keyFor
   handed-out = t1 houseOf number packet (r .first) es now its-scene its-begins (1 ∷ 2 ∷ 3 ∷ []) (lit≤ tt) its-others .2
 
   -- what is lost decides, by the packet's 415 bytes
@@ -145,27 +150,29 @@ module _ {arrivals : List Arrival} (r : Played opening arrivals) {xs : List Arri
   lost-415 : missing.losses (lost number es) (cut.f houseOf 415) ≡ missed
   lost-415 = ap (λ (l : ℕ). missing.losses (lost number es) (cut.f houseOf l)) (sym packet-size) ∙ lost-is
 
-  abbrev sufficing : ℕ → Bool
-  sufficing l = missing.suffice (lost number es) (cut.f houseOf l) (cut.n l) (cut.c l)
+  sufficing : (l : ℕ) → length packet ≡ l → enoughAfter houseOf number packet es ≡ missing.suffice (lost number es) (cut.f houseOf l) (cut.n l) (cut.c l)
+  unfolding enoughAfter keyFor
+  sufficing l is =
+      let taken-415 = taken houseOf packet (packet-takes number (lit< tt) .passed) in
+      ap (missing.suffice (lost number es) (count houseOf packet) (cut.n (length packet))) (c3 houseOf (length packet) taken-415 refl)
+      ∙ ap (λ (x : ℕ). missing.suffice (lost number es) (cut.f houseOf x) (cut.n x) (cut.c x)) is
 
   enough : missed ≤ 3 → enoughAfter houseOf number packet es ≡ true
-  unfolding enoughAfter
-  enough few = ap sufficing packet-size ∙ any-three (lost number es) (omega (arith, lost-415))
+  enough few = sufficing 415 packet-size ∙ any-three (lost number es) (omega (arith, lost-415))
 
   not-enough : 4 ≤ missed → enoughAfter houseOf number packet es ≡ false
-  unfolding enoughAfter
-  not-enough many = ap sufficing packet-size ∙ no-four (lost number es) (omega (arith, lost-415))
+  not-enough many = sufficing 415 packet-size ∙ no-four (lost number es) (omega (arith, lost-415))
 
 -- ---- three other numbers: the last call hands the packet out
 
 module _ (r : Played opening three-others) where
   hands-out : {es : List Call} {now : State} → Run (r .first) es now → Kinds (reverse three-others) es → HandedOutLast (r .first) es now
-  unfolding three-others Kinds Kind badAddress
+  unfolding three-others Kinds Kind badAddress keyFor
   hands-out start k = absurd k
   hands-out (next {es = es} e run made) k =
       let before : enoughAfter houseOf number packet es ≡ false = not-enough r earlier-suits (k .1) run (lit≤ tt) in
       let now-enough : enoughAfter houseOf number packet (e ∷ es) ≡ true = enough r three-suits k (next e run made) (lit≤ tt) in
-      let answer = promised r earlier-suits (k .1) run .answered e made 11 (k .0 .0) (k .0 .1) refl .delivered before now-enough in
+      let answer = promised r earlier-suits (k .1) run .answered e made 11 (k .0 .0) (k .0 .1) refl .delivered before now-enough .0 in
       record {
         olds = olds r;
         scene = its-scene r three-suits k (next e run made);
@@ -178,11 +185,11 @@ module _ (r : Played opening three-others) where
         enough-now = now-enough;
         handed = handed-out r three-suits k (next e run made) now-enough;
         told = (
-          answer .0 .0,
-          answer .0 .1 ∙ ap₂ (λ (l m : ℕ). numberOf (Delivered l m (answer .0 .0))) packet-size
+          answer .displaced,
+          answer .told ∙ ap₂ (λ (l m : ℕ). numberOf (Delivered l m (answer .displaced))) packet-size
               (lost-is r three-suits k (next e run made)),
         );
-        written = answer .1;
+        written = answer .written;
       }
 
 -- three other numbers: there are such runs, and in each of them the last call hands the packet out
@@ -208,7 +215,7 @@ module _ (r : Played opening four-others) where
       differ 4 (x .0) (omega (arith, x .2)) (omega (arith, x .1)) (x .1) (sym (x .3))
 
   displaces : {es : List Call} {now : State} → Run (r .first) es now → Kinds (reverse four-others) es → DisplacedLast (r .first) es now
-  unfolding four-others Kinds Kind All
+  unfolding four-others Kinds Kind All keyFor
   displaces start k = absurd k
   displaces (next {es = es} {u = u} e run made) k =
       let before : enoughAfter houseOf number packet es ≡ false = not-enough r until-fourth (k .1) run (lit≤ tt) in

@@ -19,10 +19,11 @@ use Rattle.places_rules.specs.declared.Place.{Place}
 use Rattle.places_rules.specs.declared.Table.{Table}
 use Rattle.places_rules.specs.declared.Displaced.{Displaced}
 use Rattle.places_rules.specs.declared.Displaced.the-variants.{None}
-use Rattle.places_rules.specs.Places.{four, free, delivered, spoiled, freePlace, freshTable, placeAt, withPlace, keyOf, holds, heldAt, openAt}
+use Rattle.places_rules.specs.Places.{four, free, delivered, spoiled, freePlace, freshTable, placeAt, withPlace, keyOf, keyIn, holds, heldAt, openAt}
 use Rattle.places_rules.specs.Places.{turned, openedBy, offsetOf, keptIn, inCondition}
 use Rattle.places_rules.specs.Faults.{badPlace, badTable, placeFault}
 use Rattle.places_rules.proofs.Checks.{bad-3}
+use Rattle.places_rules.proofs.Keys.{key-opened, key-kept, key-closed}
 use Rattle.places_rules.proofs.Ranges.{InRange, range-from, range-to}
 use Rattle.places_rules.proofs.Proved.{fresh-in-range, kept-in-range, opened-in-range}
 use Rattle.receiver_rules.specs.Promise.{Outcome, outcome, State, all-places, payloadOf, keepAt, closedAt, Settled, waits, delivers, damaged}
@@ -97,7 +98,7 @@ pub record Wrote (s : State) (u : Table) (h : Header) (j : ℕ) (y : Outcome) : 
   pub place-now : Place
   pub table : y .table ≡ withPlace u j place-now
   pub here : placeAt (y .table) j ≡ place-now
-  pub number : place-now .number ≡ h .number
+  pub number : keyIn place-now ≡ keyOf h
   pub some : place-now .condition ≡ free → ⊥
   -- the other places, and the bytes before and behind this one
   pub others : (i : ℕ) → (i ≡ j → ⊥) → placeAt (y .table) i ≡ placeAt (s .table) i
@@ -123,14 +124,13 @@ module _ (own : Address) (s : State) (r : Good s) (d o : List ℕ) (bytes : Byte
   unfolding payloadOf
   payload-long = length-drop (lengthOf d) d ∙ omega (arith, payload-stands own d heard)
 
-  module _ (u : Table) (same : Same s u) (j : ℕ) (low : j < four) (p : Place) (some : p .condition ≡ free → ⊥) (is-number : p .number ≡ h .number)
+  module _ (u : Table) (same : Same s u) (j : ℕ) (low : j < four) (p : Place) (some : p .condition ≡ free → ⊥) (is-number : keyIn p ≡ keyOf h)
       (fine : badPlace (keptIn p h) ≡ false) (l : Displaced) (y : Outcome) where
     abbrev kept : Place
     kept = keptIn p h
 
-    kept-number : kept .number ≡ h .number
-    unfolding keptIn
-    kept-number = is-number
+    kept-number : keyIn kept ≡ keyOf h
+    kept-number = key-kept p h ∙ is-number
 
     kept-some : kept .condition ≡ free → ⊥
     unfolding keptIn
@@ -149,9 +149,8 @@ module _ (own : Address) (s : State) (r : Good s) (d o : List ℕ) (bytes : Byte
       abbrev p′ : Place
       p′ = inCondition kept (now .condition)
 
-      number′ : p′ .number ≡ h .number
-      unfolding inCondition
-      number′ = kept-number
+      number′ : keyIn p′ ≡ keyOf h
+      number′ = key-closed kept (now .condition) ∙ kept-number
 
       some′ : p′ .condition ≡ free → ⊥
       unfolding inCondition
@@ -222,11 +221,11 @@ module _ (own : Address) (s : State) (r : Good s) (d o : List ℕ) (bytes : Byte
   -- a fragment that is not refused by the place that holds its number is kept there
   pub wrote-held : (j : ℕ) → j ≡ heldAt (s .table) (keyOf (fieldsOf d)) → j < four → placeFault (placeAt (s .table) j) (fieldsOf d) ≡ 0
       → SettledAfter (keepAt (s .table) j (placeAt (s .table) j) None (fieldsOf d) (s .bytes) (payloadOf d)) o y → Wrote s (s .table) (fieldsOf d) j y
-  unfolding keepAt keyOf
+  unfolding keepAt
   wrote-held j e low f z =
-      let held : holds (placeAt (s .table) j) (fieldsOf d .number) ≡ true =
-      ap (λ (i : ℕ). holds (placeAt (s .table) i) (fieldsOf d .number)) e
-      ∙ held-found (s .table) (fieldsOf d .number) (subst (λ (i : ℕ). i < four) e low) in
+      let held : holds (placeAt (s .table) j) (keyOf (fieldsOf d)) ≡ true =
+      ap (λ (i : ℕ). holds (placeAt (s .table) i) (keyOf (fieldsOf d))) e
+      ∙ held-found (s .table) (keyOf (fieldsOf d)) (subst (λ (i : ℕ). i < four) e low) in
       wrote own s r d o bytes heard (s .table) (held-same s r) j low (placeAt (s .table) j) (holds-some _ _ held) (holds-number _ _ held)
       (kept-in-range _ _ (place-fine (s .table) (r .ranged) j low) (passed-sound own d bytes heard) f) None y z
 
@@ -238,7 +237,7 @@ module _ (own : Address) (s : State) (r : Good s) (d o : List ℕ) (bytes : Byte
   unfolding keepAt openedBy
   wrote-opened l z =
       wrote own s r d o bytes heard (turned (s .table) (openAt (s .table))) (turned-same s r) (openAt (s .table)) (opens-below (s .table) (r .ranged))
-      (openedBy (fieldsOf d)) (λ e. omega arith) refl (opened-in-range (fieldsOf d) (passed-sound own d bytes heard)) l y z
+      (openedBy (fieldsOf d)) (λ e. omega arith) (key-opened (fieldsOf d)) (opened-in-range (fieldsOf d) (passed-sound own d bytes heard)) l y z
 
 -- ---- a place that a call leaves alone
 
@@ -260,7 +259,7 @@ module _ {s : State} {u : Table} {h : Header} {j : ℕ} {y : Outcome} (w : Wrote
       above l = omega arith
 
   -- no number comes into the table but the fragment's
-  pub wrote-strange : (n : ℕ) → (h .number ≡ n → ⊥) → (i : ℕ) → holds (placeAt (s .table) i) n ≡ false → holds (placeAt (y .table) i) n ≡ false
+  pub wrote-strange : (n : ℕ) → (keyOf h ≡ n → ⊥) → (i : ℕ) → holds (placeAt (s .table) i) n ≡ false → holds (placeAt (y .table) i) n ≡ false
   wrote-strange n other i e =
       same-or-not i j
       (λ k. ap (λ (x : ℕ). holds (placeAt (y .table) x) n) k ∙ ap (λ (p : Place). holds p n) (w .here)

@@ -15,16 +15,22 @@ use Rattle.header_rules.specs.declared.Header.{Header}
 use Rattle.header_rules.specs.Header.{headerBytes}
 use Rattle.header_rules.specs.Read.{fieldsOf, lengthOf, badAddress, faultOf}
 use Rattle.header_rules.proofs.Proved.{reads-back, payload-stands}
+use Rattle.places_rules.specs.Places.{keyOf}
 use Rattle.receiver_rules.specs.Promise.{payloadOf}
 use Rattle.sender_rules.specs.Fragments.{payloadFor, headerFor, fragmentFor}
 use Rattle.sender_rules.proofs.FragmentLengths.{header-size, fragment-size}
 use Rattle.sender_rules.proofs.Headers.{header-written}
 use Rattle.sender_rules.proofs.Proved.{received}
 use Rattle.link.specs.Run.{Call, numberIn, come}
-use Rattle.link.specs.Demand.{Takes, count, Own}
+use Rattle.link.specs.Demand.{Takes, count, keyFor, Own}
 use Rattle.link.proofs.Basic.{same-or-not}
 
 -- ---- what is read of a fragment
+
+-- the number by which the receiver tells the packet, of each of its fragments
+pub key-sent : (g : Settings) (n : ℕ) (packet : List ℕ) (i : ℕ) → keyOf (headerFor g n packet i) ≡ keyFor g n
+unfolding keyOf headerFor keyFor
+key-sent g n packet i = refl
 
 module _ (g : Settings) (n : ℕ) (packet : List ℕ) (takes : Takes g n packet) (i : ℕ) (below : i < count g packet) where
   fields-are : fieldsOf (fragmentFor g n packet i) ≡ headerFor g n packet i
@@ -77,26 +83,25 @@ module _ (g : Settings) (n : ℕ) (packet : List ℕ) (takes : Takes g n packet)
       (ap (faultOf (e .own)) is ∙ received g n packet i (e .own) (takes .passed) (takes .number) (takes .address) below matches .0)
 
   -- and what is heard of its number is one of its fragments
-  pub its-own : Own g n packet e → faultOf (e .own) (e .datagram) ≡ 0 → numberIn e ≡ n → (i : ℕ) × Brings g n packet e i
+  pub its-own : Own g n packet e → faultOf (e .own) (e .datagram) ≡ 0 → numberIn e ≡ keyFor g n → (i : ℕ) × Brings g n packet e i
   unfolding Own
   its-own own passes is =
       let one = own (eq-eqb _ _ passes) is in
       (one .0, reads (one .0) (one .1) (one .2) passes)
 
   -- so a call brings one of its fragments or is foreign
-  pub either-kind : {P : Type 0} → Own g n packet e → ((i : ℕ) → Brings g n packet e i → P) → (Foreign n e → P) → P
+  pub either-kind : {P : Type 0} → Own g n packet e → ((i : ℕ) → Brings g n packet e i → P) → (Foreign (keyFor g n) e → P) → P
   either-kind own p q =
       same-or-not (faultOf (e .own) (e .datagram)) 0
       (λ passes.
-      same-or-not (numberIn e) n
+      same-or-not (numberIn e) (keyFor g n)
       (λ is. let one = its-own own passes is in p (one .0) (one .1))
       (λ other. q (λ z. other)))
       (λ fault. q (λ z. absurd (fault z)))
 
 -- a call that brings a fragment of the packet has its number
-pub brings-number : (g : Settings) (n : ℕ) (packet : List ℕ) (e : Call) (i : ℕ) → Brings g n packet e i → numberIn e ≡ n
-unfolding headerFor
-brings-number g n packet e i b = ap (λ (h : Header). h .number) (b .fields)
+pub brings-number : (g : Settings) (n : ℕ) (packet : List ℕ) (e : Call) (i : ℕ) → Brings g n packet e i → numberIn e ≡ keyFor g n
+brings-number g n packet e i b = ap keyOf (b .fields) ∙ key-sent g n packet i
 
 brings-index : (g : Settings) (n : ℕ) (packet : List ℕ) (e : Call) (i : ℕ) → Brings g n packet e i → fieldsOf (e .datagram) .index ≡ i
 unfolding headerFor
@@ -123,24 +128,24 @@ come-foreign n e es other = fun-ext (λ i. foreign-test (faultOf (e .own) (e .da
 
 -- a call that brings fragment i adds this one to what came, and no other
 pub come-own : (g : Settings) (n : ℕ) (packet : List ℕ) (e : Call) (es : List Call) (i : ℕ) → Brings g n packet e i
-    → come n (e ∷ es) ≡ (λ j. eqb i j || come n es j)
+    → come (keyFor g n) (e ∷ es) ≡ (λ j. eqb i j || come (keyFor g n) es j)
 unfolding come
 come-own g n packet e es i b =
     fun-ext (λ j.
     simp (eq-eqb _ _ (b .passes), eq-eqb _ _ (brings-number g n packet e i b))
-    (ap (λ (x : ℕ). eqb x j || come n es j) (brings-index g n packet e i b)))
+    (ap (λ (x : ℕ). eqb x j || come (keyFor g n) es j) (brings-index g n packet e i b)))
 
 -- after it fragment i has come
-pub come-it : (g : Settings) (n : ℕ) (packet : List ℕ) (e : Call) (es : List Call) (i : ℕ) → Brings g n packet e i → come n (e ∷ es) i ≡ true
+pub come-it : (g : Settings) (n : ℕ) (packet : List ℕ) (e : Call) (es : List Call) (i : ℕ) → Brings g n packet e i → come (keyFor g n) (e ∷ es) i ≡ true
 come-it g n packet e es i b =
-    ap (λ (came : ℕ → Bool). came i) (come-own g n packet e es i b) ∙ ap (λ (v : Bool). v || come n es i) (eq-eqb i i refl)
+    ap (λ (came : ℕ → Bool). came i) (come-own g n packet e es i b) ∙ ap (λ (v : Bool). v || come (keyFor g n) es i) (eq-eqb i i refl)
 
 -- a repeat brings nothing
-pub come-again : (g : Settings) (n : ℕ) (packet : List ℕ) (e : Call) (es : List Call) (i : ℕ) → Brings g n packet e i → come n es i ≡ true
-    → come n (e ∷ es) ≡ come n es
+pub come-again : (g : Settings) (n : ℕ) (packet : List ℕ) (e : Call) (es : List Call) (i : ℕ) → Brings g n packet e i → come (keyFor g n) es i ≡ true
+    → come (keyFor g n) (e ∷ es) ≡ come (keyFor g n) es
 come-again g n packet e es i b old =
     come-own g n packet e es i b
     ∙ fun-ext (λ j.
     same-or-not i j
-    (λ z. ap (λ (v : Bool). v || come n es j) (eq-eqb i j z) ∙ sym (sym (ap (come n es) z) ∙ old))
-    (λ z. ap (λ (v : Bool). v || come n es j) (ne-eqb i j z)))
+    (λ z. ap (λ (v : Bool). v || come (keyFor g n) es j) (eq-eqb i j z) ∙ sym (sym (ap (come (keyFor g n) es) z) ∙ old))
+    (λ z. ap (λ (v : Bool). v || come (keyFor g n) es j) (ne-eqb i j z)))

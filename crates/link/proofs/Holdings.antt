@@ -16,11 +16,12 @@ use Rattle.header_rules.proofs.Proved.{passed-sound}
 use Rattle.places_rules.specs.declared.Place.{Place}
 use Rattle.places_rules.specs.declared.Displaced.{Displaced}
 use Rattle.places_rules.specs.declared.Displaced.the-variants.{None}
-use Rattle.places_rules.specs.Places.{four, placeAt, keyOf, holds, heldAt, openAt, turned, openedBy}
+use Rattle.places_rules.specs.Places.{four, placeAt, keyIn, keyOf, holds, heldAt, openAt, turned, openedBy}
 use Rattle.places_rules.specs.Places.{keptIn}
 use Rattle.places_rules.specs.Faults.{placeFault}
 use Rattle.places_rules.proofs.Checks as checks
 use Rattle.places_rules.proofs.Ranges.{InRange, Belongs, range-from, belongs, belongs-opened, range-kept, range-opened}
+use Rattle.places_rules.proofs.Keys.{key-opened}
 use Rattle.receiver_rules.specs.Promise.{Outcome, outcome, State, payloadOf, keepAt, SettledAfter}
 use Rattle.receiver_rules.proofs.Ranges.{place-fine, opens-below}
 use Rattle.link.specs.Run.{Call, after, Made, Run, start, next, Reached}
@@ -65,9 +66,8 @@ module _ (e : Call) (es : List Call) (s : State) (good : Good s) (bytes : Bytes 
   held : holds p (keyOf h′) ≡ true
   held = held-found (s .table) (keyOf h′) low
 
-  numbered : p .number ≡ h′ .number
-  unfolding keyOf
-  numbered = holds-number p (h′ .number) held
+  numbered : keyIn p ≡ keyOf h′
+  numbered = holds-number p (keyOf h′) held
 
   sound : Sound h′
   sound = passed-sound (e .own) (e .datagram) bytes passes
@@ -102,7 +102,7 @@ module _ (e : Call) (es : List Call) (s : State) (good : Good s) (bytes : Bytes 
       (λ q. (e, stood-new e es s good bytes passes p at low put range fit n j numbered (sym q) a))
       (λ other.
       let b′ : getD (p .kept) j false ≡ true = sym (old-here e es s good bytes passes p at low put j other) ∙ b in
-      let is : p .number ≡ n = sym (number-here e es s good bytes passes p at low put) ∙ holds-number _ _ a in
+      let is : keyIn p ≡ n = sym (number-here e es s good bytes passes p at low put) ∙ holds-number _ _ a in
       let old = all n j (holds-yes p n (holds-some p (keyOf h′) held) is) b′ in
       (old .0, stood-on (old .0) n j (old .1) b′ a))
 
@@ -110,7 +110,7 @@ module _ (e : Call) (es : List Call) (s : State) (good : Good s) (bytes : Bytes 
   held-stays : (n j : ℕ) → holds p n ≡ true → getD (p .kept) j false ≡ true → (k : Call) → Stood k es p (s .bytes) at n j
       → Wrote s (s .table) h′ at (e .left) → Stays s e at n j
   held-stays n j a b k z w =
-      let is : w .place-now .number ≡ n = w .number ∙ sym numbered ∙ holds-number p n a in
+      let is : keyIn (w .place-now) ≡ n = w .number ∙ sym numbered ∙ holds-number p n a in
       let now : holds (placeAt (e .left .table) at) n ≡ true = ap (λ (q : Place). holds q n) (w .here) ∙ holds-yes (w .place-now) n (w .some) is in
       stays now (old-here e es s good bytes passes p at low put j (not-it j b) ∙ b) (part-there (stood-on k n j z b now) ∙ sym (part-there z))
 
@@ -142,10 +142,6 @@ module _ (e : Call) (es : List Call) (s : State) (good : Good s) (bytes : Bytes 
   unfolding openedBy
   new-fits = itself-fits (openedBy new) new new-sound refl refl
 
-  new-number : openedBy new .number ≡ new .number
-  unfolding openedBy
-  new-number = refl
-
   at-opened : At (e ∷ es) (after e) (openAt (s .table))
   at-opened n j a b =
       let low : openAt (s .table) < four = opens-below (s .table) (good .ranged) in
@@ -154,7 +150,7 @@ module _ (e : Call) (es : List Call) (s : State) (good : Good s) (bytes : Bytes 
         e,
         stood-new e es s good bytes passes (openedBy new) (openAt (s .table)) low put-new
             (range-kept (openedBy new) new new-sound (range-opened new new-sound) (belongs-opened new)) new-fits n j
-            new-number (sym q) a,
+            (key-opened new) (sym q) a,
       ))
       (λ other. clash (sym (old-here e es s good bytes passes (openedBy new) (openAt (s .table)) low put-new j other) ∙ b) (none-kept new j))
 

@@ -6,7 +6,8 @@ use native.Mathlib.Omega.{arith}
 use Rattle.places_rules.specs.Places.{four, heldAt}
 use Rattle.receiver_rules.specs.Promise.{State}
 use Rattle.link.specs.Run.{Call, Run, start, next, Reached, Holds}
-use Rattle.link.specs.Demand.{T1, T2, T3, T3b, Again}
+use Rattle.link.specs.Demand.{keyFor, T3}
+use Rattle.link.specs.Steps.{T1, T2, T3b, Again}
 use Rattle.link.proofs.Basic.{less-or-not}
 use Rattle.link.proofs.Three.{stays}
 
@@ -17,7 +18,7 @@ absent s n free = less-or-not (heldAt (s .table) n) four (λ l. absurd (free l))
 -- at most three other numbers displace nothing, so that T1 follows from T2
 pub at-most-three : T2 → T1
 at-most-three until g n packet first es now scene begins others few among =
-    let held = stays n others few first (scene .reached) (absent first n (scene .free)) es now (scene .run) begins among in
+    let held = stays (keyFor g n) others few first (scene .reached) (absent first (keyFor g n) (scene .free)) es now (scene .run) begins among in
     let all = until g n packet first es now scene held in
     (held, all .0, all .1)
 

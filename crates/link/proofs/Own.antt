@@ -16,15 +16,17 @@ use Rattle.base_rules.proofs.Splice.{splice-here}
 use Rattle.cut_rules.specs.declared.Settings.{Settings}
 use Rattle.header_rules.specs.declared.Header.{Header}
 use Rattle.places_rules.specs.declared.Place.{Place}
-use Rattle.places_rules.specs.Places.{four, open-now, isLast, offsetOf, openedBy, keptIn}
+use Rattle.places_rules.specs.Places.{four, open-now, keyIn, isLast, offsetOf, openedBy, keptIn}
+use Rattle.places_rules.proofs.Keys.{key-opened, key-kept}
 use Rattle.receiver_rules.specs.Promise.{all-places, bytesAt}
 use Rattle.sender_rules.specs.Calls.{packetFault}
 use Rattle.sender_rules.specs.Fragments.{payloadFor, headerFor}
 use Rattle.sender_rules.proofs.Checks.{in-bounds}
 use Rattle.sender_rules.proofs.FragmentLengths.{sure, s-placed, size-fec, full-plain, size-most}
-use Rattle.link.specs.Demand.{count}
+use Rattle.link.specs.Demand.{count, keyFor}
 use Rattle.link.proofs.Basic.{same-or-not, less-or-not, spared-before, spared-behind}
 use Rattle.link.proofs.Enough.{sizeOf, rskOf, rszOf}
+use Rattle.link.proofs.Heard.{key-sent}
 
 -- fragment i is the last, of a packet without FEC
 abbrev pub lastIs : Settings → List ℕ → ℕ → Bool
@@ -36,7 +38,7 @@ offset g packet i = cond (lastIs g packet i) (place - length (payloadFor g packe
 
 -- a place with the figures of the packet; its size is known or it is 0
 pub record Mine (g : Settings) (n : ℕ) (packet : List ℕ) (p : Place) : Type 0 where
-  pub number : p .number ≡ n
+  pub number : keyIn p ≡ keyFor g n
   pub count : p .count ≡ count g packet
   pub fec : p .fec ≡ g .fec
   pub rsk : p .rsk ≡ rskOf g packet
@@ -157,7 +159,7 @@ module _ (g : Settings) (packet : List ℕ) (passed : packetFault g packet ≡ 0
 
     opened-mine : Mine g n packet (openedBy h)
     unfolding openedBy headerFor
-    opened-mine = record { number = refl; count = refl; fec = refl; rsk = refl; rsz = refl; size = (false, refl); last = omega arith }
+    opened-mine = record { number = key-opened h ∙ key-sent g n packet i; count = refl; fec = refl; rsk = refl; rsz = refl; size = (false, refl); last = omega arith }
 
     -- a place that its fragment opens has the figures of the packet, and no fragment yet
     pub opened-full : (at : ℕ) (b : List ℕ) → Full g n packet (λ j. false) at (openedBy h) b
@@ -201,7 +203,7 @@ module _ (g : Settings) (packet : List ℕ) (passed : packetFault g packet ≡ 0
       unfolding keptIn
       kept-mine m =
           record {
-            number = m .number;
+            number = key-kept p h ∙ m .number;
             count = m .count;
             fec = m .fec;
             rsk = m .rsk;

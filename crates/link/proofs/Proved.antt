@@ -1,9 +1,10 @@
 -- The claims of specs/Demand.antt, Reached.antt, Useless.antt and Examples.antt, each by citation. Assumes nothing.
-use Rattle.link.specs.Demand.{T1, T2, T3, T3b, Again}
-use Rattle.link.specs.Whole.{Lifted, Demand3, NamesGone}
+use Rattle.link.specs.Run.{SomeRun}
+use Rattle.link.specs.Demand.{Demand3, Lifted, T3, StaysEnough, NamesGone}
+use Rattle.link.specs.Steps.{T1, T2, T3b, Again}
 use Rattle.link.specs.Reached.{StaysInRange, GoesRound, HeldOnce, PartsApart, HeldCame, StaysKept}
 use Rattle.link.specs.Useless.{SomeKeep, Falls}
-use Rattle.link.specs.Examples.{SomeRun, ThreeOthers, FourOthers}
+use Rattle.link.specs.Examples.{ThreeOthers, FourOthers}
 use Rattle.link.proofs.Alarm as alarm
 use Rattle.link.proofs.Examples.{handed-out-last, displaced-last}
 use Rattle.link.proofs.Holdings as holdings
@@ -15,29 +16,38 @@ use Rattle.link.proofs.Until.{until-displaced}
 use Rattle.link.proofs.Useless as useless
 use Rattle.link.proofs.Whole as whole
 
+-- ---- demand 3
+
+pub demand-3 : Demand3
+demand-3 = whole.demand-3
+
+pub lifted : Lifted
+lifted = whole.lifted
+
+pub t3 : T3
+t3 = survives
+
+pub stays-enough : StaysEnough
+stays-enough = whole.stays-enough
+
+pub names-gone : NamesGone
+names-gone = alarm.names-gone
+
+-- ---- the steps behind it
+
 pub t1 : T1
 t1 = link.at-most-three until-displaced
 
 pub t2 : T2
 t2 = until-displaced
 
-pub t3 : T3
-t3 = survives
-
 pub t3b : T3b
 t3b = link.handed-out t1 t3
 
-pub lifted : Lifted
-lifted = whole.lifted
-
-pub demand-3 : Demand3
-demand-3 = whole.demand-3
-
-pub names-gone : NamesGone
-names-gone = alarm.names-gone
-
 pub again : Again
 again = link.again
+
+-- ---- what every reached state is
 
 pub stays-in-range : StaysInRange
 stays-in-range = ring.stays-in-range
@@ -57,11 +67,15 @@ held-came = holdings.held-came
 pub stays-kept : StaysKept
 stays-kept = holdings.stays-kept
 
+-- ---- what falls
+
 pub some-keep : SomeKeep
 some-keep = useless.some-keep
 
 pub falls : Falls
 falls = useless.falls
+
+-- ---- there are runs
 
 pub some-run : SomeRun
 some-run = runs.some-run

@@ -41,13 +41,13 @@ abbrev Once : State → Type 0
 Once s = (i j n : ℕ) → i < four → j < four → holds (placeAt (s .table) i) n ≡ true → holds (placeAt (s .table) j) n ≡ true → i ≡ j
 
 module _ {s : State} {u : Table} {h : Header} {j : ℕ} {y : Outcome} (w : Wrote s u h j y) (once : Once s)
-    (alone : (k : ℕ) → k < four → holds (placeAt (s .table) k) (h .number) ≡ true → k ≡ j) where
+    (alone : (k : ℕ) → k < four → holds (placeAt (s .table) k) (keyOf h) ≡ true → k ≡ j) where
   -- another place that holds the number of place j would have held it before
   as-number : (k n : ℕ) → k < four → holds (placeAt (y .table) j) n ≡ true → holds (placeAt (y .table) k) n ≡ true → k ≡ j
   as-number k n l a b =
       same-or-not k j (λ e. e)
       (λ other.
-      let is : n ≡ h .number = sym (holds-number _ _ (sym (ap (λ (p : Place). holds p n) (w .here)) ∙ a)) ∙ w .number in
+      let is : n ≡ keyOf h = sym (holds-number _ _ (sym (ap (λ (p : Place). holds p n) (w .here)) ∙ a)) ∙ w .number in
       alone k l (ap (holds (placeAt (s .table) k)) (sym is) ∙ sym (ap (λ (p : Place). holds p n) (w .others k other)) ∙ b))
 
   once-wrote : Once (leftBy y)

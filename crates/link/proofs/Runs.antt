@@ -23,9 +23,8 @@ use Rattle.receiver_rules.proofs.Proved.{some-outcome}
 use Rattle.sender_rules.specs.Fragments.{blockFor, payloadFor, headerFor, fragmentFor}
 use Rattle.sender_rules.proofs.FragmentLengths.{payload-fec, payload-plain}
 use Rattle.sender_rules.proofs.Headers.{header-written}
-use Rattle.link.specs.Run.{Call, after, start, next}
+use Rattle.link.specs.Run.{Call, after, start, next, Input, Lawful, SomeRun}
 use Rattle.link.specs.Demand.{Takes, count}
-use Rattle.link.specs.Examples.{Input, Lawful, SomeRun}
 
 -- from any state there is a run with just these inputs, if they are bytes and lend full room
 pub some-run : SomeRun

@@ -11,16 +11,16 @@ use Rattle.base_rules.specs.Answer.{granted}
 use Rattle.base_rules.specs.Bounds.{most-l}
 use Rattle.base_rules.proofs.Answers.{grants}
 use Rattle.places_rules.specs.declared.Place.{Place}
-use Rattle.places_rules.specs.Places.{four, free, open-now, placeAt}
+use Rattle.places_rules.specs.Places.{four, free, open-now, placeAt, keyIn}
 use Rattle.receiver_rules.specs.Promise.{State}
 use Rattle.receiver_rules.specs.Calls.{shownOf, queryCall}
 use Rattle.link.specs.Run.{ShownOpen}
 use Rattle.link.proofs.View.{Good, no-room-fault}
 
-open-shown : (p : Place) (n : ℕ) → p .condition ≡ open-now → p .number ≡ n → shownOf p ≡ open-now ∷ n ∷ []
+open-shown : (p : Place) (n : ℕ) → p .condition ≡ open-now → keyIn p ≡ n → shownOf p ≡ open-now ∷ n ∷ []
 unfolding shownOf
 open-shown p n e q =
-    ap (λ (b : Bool). cond b (free ∷ []) (p .condition ∷ p .number ∷ [])) (ne-eqb (p .condition) free (λ z. omega arith))
+    ap (λ (b : Bool). cond b (free ∷ []) (p .condition ∷ keyIn p ∷ [])) (ne-eqb (p .condition) free (λ z. omega arith))
     ∙ ap₂ (λ (x y : ℕ). x ∷ y ∷ []) e q
 
 query-granted : (s : State) → Good s
@@ -30,6 +30,6 @@ unfolding queryCall
 query-granted s r = sym (grants _ _ (sym (no-room-fault s r most-l (le-refl most-l))))
 
 -- a place that is open shows its number as open
-pub shown-open : {s : State} → Good s → (i n : ℕ) → i < four → placeAt (s .table) i .condition ≡ open-now → placeAt (s .table) i .number ≡ n
+pub shown-open : {s : State} → Good s → (i n : ℕ) → i < four → placeAt (s .table) i .condition ≡ open-now → keyIn (placeAt (s .table) i) ≡ n
     → ShownOpen s n
 shown-open {s} r i n l e q = record { answered = query-granted s r; at = i; below = l; shown = open-shown (placeAt (s .table) i) n e q }

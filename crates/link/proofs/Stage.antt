@@ -16,12 +16,14 @@ use Rattle.places_rules.specs.declared.Place.{Place}
 use Rattle.places_rules.specs.declared.Table.{Table}
 use Rattle.places_rules.specs.declared.Displaced.{Displaced}
 use Rattle.places_rules.specs.declared.Displaced.the-variants.{None, Number}
-use Rattle.places_rules.specs.Places.{four, open-now, delivered, placeAt, keyOf, holds, heldAt, openAt, displacedAt, turned, inCondition}
+use Rattle.places_rules.specs.Places.{four, open-now, delivered, placeAt, keyOf, keyIn, holds, heldAt, openAt, displacedAt, turned, inCondition}
+use Rattle.places_rules.proofs.Keys.{key-closed}
 use Rattle.receiver_rules.specs.declared.Received.the-variants.{Refused}
 use Rattle.receiver_rules.specs.Promise.{Outcome, outcome, State, keepAt, Settled, waits, delivers, damaged}
 use Rattle.sender_rules.specs.Fragments.{payloadFor}
 use Rattle.link.specs.Run.{Call, after, Made, Holds, numberIn, come}
-use Rattle.link.specs.Demand.{Takes, count, enoughAfter, Names, by-kept, by-delivered, by-damaged, DisplacedBy}
+use Rattle.link.specs.Demand.{Takes, count, keyFor, enoughAfter, Names, by-kept, by-delivered, by-damaged}
+use Rattle.link.specs.Steps.{DisplacedBy}
 use Rattle.link.proofs.Basic.{same-or-not, held-found, held-absent, held-none, held-only, holds-yes, holds-number, holds-other}
 use Rattle.link.proofs.View.{Good, View, unheard, refuses, keeps, opens}
 use Rattle.link.proofs.Frame.{leftBy, Wrote, wrote-held, wrote-opened, Spared, wrote-spares, wrote-strange, see}
@@ -41,7 +43,7 @@ pub record OpenAt (g : Settings) (n : ℕ) (packet : List ℕ) (came : ℕ → B
   pub some : came ≡ (λ j. false) → ⊥
   pub full : Full g n packet came i (placeAt (s .table) i) (s .bytes)
   pub sized : SizeKnown g packet (placeAt (s .table) i)
-  pub alone : Alone n (s .table) i
+  pub alone : Alone (keyFor g n) (s .table) i
 
 -- it was handed out from its place
 pub record DoneAt (g : Settings) (n : ℕ) (packet : List ℕ) (s : State) (i : ℕ) : Type 0 where
@@ -49,30 +51,30 @@ pub record DoneAt (g : Settings) (n : ℕ) (packet : List ℕ) (s : State) (i : 
   pub mine : Mine g n packet (placeAt (s .table) i)
   pub sized : SizeKnown g packet (placeAt (s .table) i)
   pub is-done : placeAt (s .table) i .condition ≡ delivered
-  pub alone : Alone n (s .table) i
+  pub alone : Alone (keyFor g n) (s .table) i
 
 -- after these calls: nothing of it came, it is open, or it is done
 pub data Stage (g : Settings) (n : ℕ) (packet : List ℕ) (es : List Call) (s : State) : Type 0 where
-  not-yet : four ≤ heldAt (s .table) n → come n es ≡ (λ i. false) → Stage g n packet es s
-  open-at : (i : ℕ) → OpenAt g n packet (come n es) s i → enoughAfter g n packet es ≡ false → Stage g n packet es s
+  not-yet : four ≤ heldAt (s .table) (keyFor g n) → come (keyFor g n) es ≡ (λ i. false) → Stage g n packet es s
+  open-at : (i : ℕ) → OpenAt g n packet (come (keyFor g n) es) s i → enoughAfter g n packet es ≡ false → Stage g n packet es s
   done-at : (i : ℕ) → DoneAt g n packet s i → enoughAfter g n packet es ≡ true → Stage g n packet es s
 
 -- or the call e displaced it
 pub record Gone (g : Settings) (n : ℕ) (packet : List ℕ) (es : List Call) (e : Call) : Type 0 where
-  pub gone : Holds (after e) n → ⊥
+  pub gone : Holds (after e) (keyFor g n) → ⊥
   pub by : DisplacedBy g n packet es e
 
 -- ---- it is held there
 
 -- while its place is open, the number is held there
-pub open-held : (g : Settings) (n : ℕ) (packet : List ℕ) (came : ℕ → Bool) (s : State) (i : ℕ) → OpenAt g n packet came s i → heldAt (s .table) n ≡ i
+pub open-held : (g : Settings) (n : ℕ) (packet : List ℕ) (came : ℕ → Bool) (s : State) (i : ℕ) → OpenAt g n packet came s i → heldAt (s .table) (keyFor g n) ≡ i
 open-held g n packet came s i o =
-    held-only (s .table) n i (o .low) (holds-yes _ _ (λ z. omega (arith, o .full .is-open)) (o .full .mine .number)) (o .alone)
+    held-only (s .table) (keyFor g n) i (o .low) (holds-yes _ _ (λ z. omega (arith, o .full .is-open)) (o .full .mine .number)) (o .alone)
 
 -- so it is once the packet was handed out
-pub done-held : (g : Settings) (n : ℕ) (packet : List ℕ) (s : State) (i : ℕ) → DoneAt g n packet s i → heldAt (s .table) n ≡ i
+pub done-held : (g : Settings) (n : ℕ) (packet : List ℕ) (s : State) (i : ℕ) → DoneAt g n packet s i → heldAt (s .table) (keyFor g n) ≡ i
 done-held g n packet s i o =
-    held-only (s .table) n i (o .low) (holds-yes _ _ (λ z. omega (arith, o .is-done)) (o .mine .number)) (o .alone)
+    held-only (s .table) (keyFor g n) i (o .low) (holds-yes _ _ (λ z. omega (arith, o .is-done)) (o .mine .number)) (o .alone)
 
 -- ---- laws of a place and of an answer
 
@@ -80,7 +82,7 @@ done-held g n packet s i o =
 pub mine-closed : (g : Settings) (n : ℕ) (packet : List ℕ) (p : Place) (c : ℕ) → Mine g n packet p → Mine g n packet (inCondition p c)
 unfolding inCondition
 mine-closed g n packet p c m = record {
-  number = m .number;
+  number = key-closed p c ∙ m .number;
   count = m .count;
   fec = m .fec;
   rsk = m .rsk;
@@ -100,32 +102,33 @@ pub condition-closed : (p : Place) (c : ℕ) → inCondition p c .condition ≡ 
 unfolding inCondition
 condition-closed p c = refl
 
+-- however it settles, the answer names the displaced number
 pub settled-names : {t : Table} {j : ℕ} {d : Displaced} {b o : List ℕ} {y : Outcome} → Settled t j d b o y → Names d (y .answer)
 unfolding outcome
 settled-names (waits e) = by-kept
 settled-names (delivers P e a) = by-delivered _ _
 settled-names (damaged e a) = by-damaged
 
-displaced-open : (t : Table) (i n : ℕ) → placeAt t i .condition ≡ open-now → placeAt t i .number ≡ n → displacedAt t i ≡ Number n
+displaced-open : (t : Table) (i n : ℕ) → placeAt t i .condition ≡ open-now → keyIn (placeAt t i) ≡ n → displacedAt t i ≡ Number n
 unfolding displacedAt
-displaced-open t i n c e = ap (λ (v : Bool). cond v (Number (placeAt t i .number)) None) (eq-eqb _ _ c) ∙ ap (λ (k : ℕ). Number k) e
+displaced-open t i n c e = ap (λ (v : Bool). cond v (Number (keyIn (placeAt t i))) None) (eq-eqb _ _ c) ∙ ap (λ (k : ℕ). Number k) e
 
 displaced-done : (t : Table) (i : ℕ) → placeAt t i .condition ≡ delivered → displacedAt t i ≡ None
 unfolding displacedAt
-displaced-done t i c = ap (λ (v : Bool). cond v (Number (placeAt t i .number)) None) (ne-eqb (placeAt t i .condition) open-now (λ z. omega arith))
+displaced-done t i c = ap (λ (v : Bool). cond v (Number (keyIn (placeAt t i))) None) (ne-eqb (placeAt t i .condition) open-now (λ z. omega arith))
 
 module _ (g : Settings) (n : ℕ) (packet : List ℕ) (takes : Takes g n packet) where
   -- it is enough after the calls just where the fragments that came in them suffice
-  pub enough-with : (es : List Call) (came : ℕ → Bool) → come n es ≡ came → enoughAfter g n packet es ≡ suffices g packet came
+  pub enough-with : (es : List Call) (came : ℕ → Bool) → come (keyFor g n) es ≡ came → enoughAfter g n packet es ≡ suffices g packet came
   enough-with es came e = enough-is g packet (takes .passed) n es ∙ ap (suffices g packet) e
 
   -- where none of its fragments came it is not enough
-  pub enough-none : (es : List Call) → come n es ≡ (λ i. false) → enoughAfter g n packet es ≡ false
+  pub enough-none : (es : List Call) → come (keyFor g n) es ≡ (λ i. false) → enoughAfter g n packet es ≡ false
   enough-none es e = enough-with es (λ i. false) e ∙ begins g packet (takes .passed)
 
   -- ---- a call that spares the place
 
-  module _ (s : State) (i : ℕ) (y : Outcome) (spared : Spared s i y) (alone : Alone n (y .table) i) where
+  module _ (s : State) (i : ℕ) (y : Outcome) (spared : Spared s i y) (alone : Alone (keyFor g n) (y .table) i) where
     open-spared : (came : ℕ → Bool) → OpenAt g n packet came s i → OpenAt g n packet came (leftBy y) i
     open-spared came o =
         record {
@@ -165,12 +168,12 @@ module _ (g : Settings) (n : ℕ) (packet : List ℕ) (takes : Takes g n packet)
 
   module _ (es : List Call) (s : State) (e : Call) where
     -- where nothing more came
-    pub moved-stage : (u : State) → come n (e ∷ es) ≡ come n es → Stage g n packet es u → Stage g n packet (e ∷ es) u
+    pub moved-stage : (u : State) → come (keyFor g n) (e ∷ es) ≡ come (keyFor g n) es → Stage g n packet es u → Stage g n packet (e ∷ es) u
     moved-stage u c (not-yet a none) = not-yet a (c ∙ none)
     moved-stage u c (open-at i o z) =
         open-at i (subst (λ (came : ℕ → Bool). OpenAt g n packet came u i) (sym c) o)
-        (enough-with (e ∷ es) (come n es) c ∙ sym (enough-is g packet (takes .passed) n es) ∙ z)
-    moved-stage u c (done-at i o z) = done-at i o (enough-with (e ∷ es) (come n es) c ∙ sym (enough-is g packet (takes .passed) n es) ∙ z)
+        (enough-with (e ∷ es) (come (keyFor g n) es) c ∙ sym (enough-is g packet (takes .passed) n es) ∙ z)
+    moved-stage u c (done-at i o z) = done-at i o (enough-with (e ∷ es) (come (keyFor g n) es) c ∙ sym (enough-is g packet (takes .passed) n es) ∙ z)
 
     -- a refusal leaves all as it was
     pub refused-stage : (x : ℕ) → e .left ≡ outcome (Refused x) (s .table) (s .bytes) (e .lent) → Stage g n packet es s
@@ -179,26 +182,26 @@ module _ (g : Settings) (n : ℕ) (packet : List ℕ) (takes : Takes g n packet)
     refused-stage x q st = subst (λ (y : Outcome). Stage g n packet es (leftBy y)) (sym q) st
 
     -- a fragment of another number is kept in place j; it is the packet's own only where it displaces it
-    module _ (u : Table) (h : Header) (j : ℕ) (other : h .number ≡ n → ⊥) (w : Wrote s u h j (e .left))
-        (names : (i : ℕ) → placeAt (s .table) i .number ≡ n → i ≡ j → Names (displacedAt (s .table) i) (e .left .answer)) where
-      still-alone : (i : ℕ) → Alone n (s .table) i → Alone n (e .left .table) i
-      still-alone i alone k a b = wrote-strange w n other k (alone k a b)
+    module _ (u : Table) (h : Header) (j : ℕ) (other : keyOf h ≡ keyFor g n → ⊥) (w : Wrote s u h j (e .left))
+        (names : (i : ℕ) → keyIn (placeAt (s .table) i) ≡ keyFor g n → i ≡ j → Names (displacedAt (s .table) i) (e .left .answer)) where
+      still-alone : (i : ℕ) → Alone (keyFor g n) (s .table) i → Alone (keyFor g n) (e .left .table) i
+      still-alone i alone k a b = wrote-strange w (keyFor g n) other k (alone k a b)
 
-      gone-from : (i : ℕ) → Alone n (s .table) i → i ≡ j → Holds (after e) n → ⊥
+      gone-from : (i : ℕ) → Alone (keyFor g n) (s .table) i → i ≡ j → Holds (after e) (keyFor g n) → ⊥
       gone-from i alone q held =
-          let none : four ≤ heldAt (e .left .table) n =
-          held-none (e .left .table) n
+          let none : four ≤ heldAt (e .left .table) (keyFor g n) =
+          held-none (e .left .table) (keyFor g n)
           (λ k a.
           same-or-not k i
           (λ z.
-          ap (λ (x : ℕ). holds (placeAt (e .left .table) x) n) (z ∙ q) ∙ ap (λ (p : Place). holds p n) (w .here)
-          ∙ holds-other (w .place-now) n (λ is. other (sym (w .number) ∙ is)))
+          ap (λ (x : ℕ). holds (placeAt (e .left .table) x) (keyFor g n)) (z ∙ q) ∙ ap (λ (p : Place). holds p (keyFor g n)) (w .here)
+          ∙ holds-other (w .place-now) (keyFor g n) (λ is. other (sym (w .number) ∙ is)))
           (λ z. still-alone i alone k a z)) in
           omega (arith, none, held)
 
       wrote-stage : Stage g n packet es s → Stage g n packet es (after e) ⊎ Gone g n packet es e
       wrote-stage (not-yet absent none) =
-          inl (not-yet (held-none (e .left .table) n (λ k a. wrote-strange w n other k (held-absent (s .table) n absent k a))) none)
+          inl (not-yet (held-none (e .left .table) (keyFor g n) (λ k a. wrote-strange w (keyFor g n) other k (held-absent (s .table) (keyFor g n) absent k a))) none)
       wrote-stage (open-at i o z) =
           same-or-not i j
           (λ q.
@@ -206,12 +209,12 @@ module _ (g : Settings) (n : ℕ) (packet : List ℕ) (takes : Takes g n packet)
             gone = gone-from i (o .alone) q;
             by = record {
               named = λ f.
-                  subst (λ (d : Displaced). Names d (e .left .answer)) (displaced-open (s .table) i n (o .full .is-open) (o .full .mine .number))
+                  subst (λ (d : Displaced). Names d (e .left .answer)) (displaced-open (s .table) i (keyFor g n) (o .full .is-open) (o .full .mine .number))
                   (names i (o .full .mine .number) q);
               silent = λ f. clash f z;
             };
           }))
-          (λ q. inl (open-at i (open-spared s i (e .left) (wrote-spares w i q) (still-alone i (o .alone)) (come n es) o) z))
+          (λ q. inl (open-at i (open-spared s i (e .left) (wrote-spares w i q) (still-alone i (o .alone)) (come (keyFor g n) es) o) z))
       wrote-stage (done-at i o z) =
           same-or-not i j
           (λ q.
@@ -225,14 +228,14 @@ module _ (g : Settings) (n : ℕ) (packet : List ℕ) (takes : Takes g n packet)
           }))
           (λ q. inl (done-at i (done-spared s i (e .left) (wrote-spares w i q) (still-alone i (o .alone)) o) z))
 
-    module _ (foreign : Foreign n e) where
+    module _ (foreign : Foreign (keyFor g n) e) where
       same-came : Stage g n packet es (after e) ⊎ Gone g n packet es e → Stage g n packet (e ∷ es) (after e) ⊎ Gone g n packet es e
-      same-came (inl st) = inl (moved-stage (after e) (come-foreign n e es foreign) st)
+      same-came (inl st) = inl (moved-stage (after e) (come-foreign (keyFor g n) e es foreign) st)
       same-came (inr x) = inr x
 
       -- a foreign call leaves the packet at its stage, or displaces it
       pub foreign-step : Good s → Made s e → Stage g n packet es s → Stage g n packet (e ∷ es) (after e) ⊎ Gone g n packet es e
-      unfolding keyOf keepAt
+      unfolding keepAt
       foreign-step r made st = go (see r made)
         where
           go : View (e .own) s (e .datagram) (e .lent) (e .left) → Stage g n packet (e ∷ es) (after e) ⊎ Gone g n packet es e
@@ -244,7 +247,7 @@ module _ (g : Settings) (n : ℕ) (packet : List ℕ) (takes : Takes g n packet)
               (wrote-held (e .own) s r (e .datagram) (e .lent) (made .bytes) passes (e .left) _ refl low fault z)
               (λ i is q.
               absurd (foreign passes (sym (holds-number _ _ (held-found (s .table) (numberIn e) low))
-              ∙ ap (λ (x : ℕ). placeAt (s .table) x .number) (sym q) ∙ is)))
+              ∙ ap (λ (x : ℕ). keyIn (placeAt (s .table) x)) (sym q) ∙ is)))
               st)
           go (opens passes high z) =
               same-came

@@ -18,11 +18,12 @@ use Rattle.header_rules.specs.Read.{fieldsOf, faultOf}
 use Rattle.places_rules.specs.declared.Place.{Place}
 use Rattle.places_rules.specs.declared.Table.{Table}
 use Rattle.places_rules.specs.declared.Displaced.{Displaced}
-use Rattle.places_rules.specs.Places.{four, free, spoiled, placeAt, holds, isLast, offsetOf}
+use Rattle.places_rules.specs.Places.{four, free, spoiled, placeAt, keyOf, keyIn, holds, isLast, offsetOf}
 use Rattle.places_rules.specs.Places.{keptIn, inCondition}
 use Rattle.places_rules.proofs.Checks as checks
 use Rattle.places_rules.proofs.Ranges.{InRange}
 use Rattle.places_rules.proofs.Records.{offset-last, offset-other}
+use Rattle.places_rules.proofs.Keys.{key-kept, key-closed}
 use Rattle.receiver_rules.specs.Promise.{Outcome, State, payloadOf, bytesAt, keepAt, SettledAfter}
 use Rattle.receiver_rules.proofs.Ranges.{written-place}
 use Rattle.receiver_rules.proofs.Offsets.{offset-fits}
@@ -133,9 +134,8 @@ module _ (e : Call) (es : List Call) (s : State) (good : Good s) (bytes : Bytes 
   h = fieldsOf (e .datagram)
 
   -- the place has the number that it had
-  pub number-here : placeAt (e .left .table) i .number ≡ p .number
-  unfolding keptIn inCondition
-  number-here = ap (λ (q : Place). q .number) (put .here)
+  pub number-here : keyIn (placeAt (e .left .table) i) ≡ keyIn p
+  number-here = ap keyIn (put .here) ∙ key-closed (keptIn p h) (put .condition) ∙ key-kept p h
 
   kept-here : (j : ℕ) → getD (placeAt (e .left .table) i .kept) j false ≡ getD (set (p .kept) (h .index) true) j false
   unfolding keptIn inCondition
@@ -156,7 +156,7 @@ module _ (e : Call) (es : List Call) (s : State) (good : Good s) (bytes : Bytes 
     fits-here k f = subst (λ (q : Place). Fits q k) (sym (put .here)) (closed-fits (keptIn p h) (put .condition) k f)
 
     -- the fragment itself,
-    pub stood-new : (n j : ℕ) → p .number ≡ h .number → h .index ≡ j → holds (placeAt (e .left .table) i) n ≡ true
+    pub stood-new : (n j : ℕ) → keyIn p ≡ keyOf h → h .index ≡ j → holds (placeAt (e .left .table) i) n ≡ true
         → Stood e (e ∷ es) (placeAt (e .left .table) i) (e .left .bytes) i n j
     stood-new n j numbered is held =
         record {

@@ -1,6 +1,7 @@
 -- T3: what is lost of a packet, at most as many fragments as its plan assures, leaves enough. Assumes nothing.
 use mathlib.Core.Path.{ap, _∙_}
 use mathlib.Core.Bool.{Bool, cond}
+use Prim.Native.Nat.{ℕ}
 use native.Mathlib.Omega.{arith}
 use borrow.Author.Tests.{eq-eqb}
 use lib.Dec.{eqb}
@@ -10,17 +11,23 @@ use Rattle.cut_rules.specs.Missing.{losses, suffice}
 use Rattle.cut_rules.specs.Sizes as cut
 use Rattle.cut_rules.proofs.PlanCases.{fitted}
 use Rattle.cut_rules.proofs.Proved.{c6}
+use Rattle.cut_rules.proofs.Sufficing.{suffice-from}
 use Rattle.sender_rules.proofs.Checks.{taken, in-bounds}
 use Rattle.link.specs.Run.{lost}
-use Rattle.link.specs.Demand.{count, enoughAfter, T3}
+use Rattle.link.specs.Demand.{count, keyFor, chunks, enoughAfter, T3}
 
--- with FEC by C6; without it 40 leaves m 0, so that none is lost
+-- with FEC no chunk misses more than 48 bytes, by C6; without it 40 leaves m 0, so that none is lost
 pub survives : T3
 unfolding enoughAfter cut.assured
 survives g n packet es takes few =
-    let coded : Bool = suffice (lost n es) (count g packet) (cut.n (length packet)) (cut.c (length packet)) in
-    let plain : Bool = eqb (losses (lost n es) (count g packet)) 0 in
+    let gone : ℕ → Bool = lost (keyFor g n) es in
+    let coded : Bool = suffice gone (count g packet) (cut.n (length packet)) (chunks g packet) in
+    let plain : Bool = eqb (losses gone (count g packet)) 0 in
     either (g .fec)
-    (λ fec. ap (λ (b : Bool). cond b coded plain) fec ∙ c6 g (length packet) (taken g packet (takes .passed)) fec (lost n es) few .1)
-    (λ fec. ap (λ (b : Bool). cond b coded plain) fec
-    ∙ eq-eqb (losses (lost n es) (count g packet)) 0 (omega (arith, few, fitted g (in-bounds g packet (takes .passed) .ok) .m-fec fec)))
+    (λ fec.
+    ap (λ (b : Bool). cond b coded plain) fec
+    ∙ suffice-from gone (count g packet) (cut.n (length packet)) (chunks g packet)
+    (λ j l. c6 g (length packet) (taken g packet (takes .passed)) fec gone few .0 j))
+    (λ fec.
+    ap (λ (b : Bool). cond b coded plain) fec
+    ∙ eq-eqb (losses gone (count g packet)) 0 (omega (arith, few, fitted g (in-bounds g packet (takes .passed) .ok) .m-fec fec)))

@@ -13,7 +13,7 @@ use Rattle.base_rules.proofs.Logic.{either, clash}
 use Rattle.header_rules.specs.declared.Header.{Header}
 use Rattle.places_rules.specs.declared.Place.{Place}
 use Rattle.places_rules.specs.declared.Table.{Table}
-use Rattle.places_rules.specs.Places.{four, placeAt, keyOf, holds, heldAt, openAt, turned}
+use Rattle.places_rules.specs.Places.{four, placeAt, keyIn, keyOf, holds, heldAt, openAt, turned}
 use Rattle.places_rules.specs.Claims.{Opened}
 use Rattle.places_rules.proofs.Proved.{opens-in-turn}
 use Rattle.receiver_rules.specs.Promise.{Outcome, outcome, State}
@@ -28,16 +28,16 @@ use Rattle.link.proofs.Ring.{ring-kept, ring-opened, goes-round}
 
 module _ {s : State} {u : Table} {h : Header} {j : ℕ} {y : Outcome} (w : Wrote s u h j y) where
   -- the fragment's own number, in place j
-  holds-now : holds (placeAt (y .table) j) (h .number) ≡ true
-  holds-now = ap (λ (p : Place). holds p (h .number)) (w .here) ∙ holds-yes (w .place-now) (h .number) (w .some) (w .number)
+  holds-now : holds (placeAt (y .table) j) (keyOf h) ≡ true
+  holds-now = ap (λ (p : Place). holds p (keyOf h)) (w .here) ∙ holds-yes (w .place-now) (keyOf h) (w .some) (w .number)
 
   -- and what was held, where place j had that number
-  holds-still : (k n : ℕ) → (k ≡ j → placeAt (s .table) j .number ≡ h .number) → holds (placeAt (s .table) k) n ≡ true
+  holds-still : (k n : ℕ) → (k ≡ j → keyIn (placeAt (s .table) j) ≡ keyOf h) → holds (placeAt (s .table) k) n ≡ true
       → holds (placeAt (y .table) k) n ≡ true
   holds-still k n same e =
       same-or-not k j
       (λ q.
-      let is : h .number ≡ n = sym (same q) ∙ holds-number _ n (sym (ap (λ (i : ℕ). holds (placeAt (s .table) i) n) q) ∙ e) in
+      let is : keyOf h ≡ n = sym (same q) ∙ holds-number _ n (sym (ap (λ (i : ℕ). holds (placeAt (s .table) i) n) q) ∙ e) in
       ap (λ (i : ℕ). holds (placeAt (y .table) i) n) q ∙ ap (holds (placeAt (y .table) j)) (sym is) ∙ holds-now)
       (λ q. ap (λ (p : Place). holds p n) (w .others k q) ∙ e)
 
@@ -88,7 +88,7 @@ three-held : (n m : ℕ) (others : List ℕ) (s : State) → Three n m others s 
 three-held n m others s r = held-some (s .table) n (m % four) (omega arith) (r .its)
 
 module _ {n m : ℕ} {others : List ℕ} {s : State} (r : Three n m others s) {h : Header} {y : Outcome} where
-  three-kept : {j : ℕ} → Wrote s (s .table) h j y → holds (placeAt (s .table) j) (h .number) ≡ true → Three n m others (leftBy y)
+  three-kept : {j : ℕ} → Wrote s (s .table) h j y → holds (placeAt (s .table) j) (keyOf h) ≡ true → Three n m others (leftBy y)
   three-kept w held =
       record {
         since = r .since;
@@ -103,17 +103,17 @@ module _ {n m : ℕ} {others : List ℕ} {s : State} (r : Three n m others s) {h
       keep k (inl a) = inl a
       keep k (inr (a, b, c)) = inr (a, b, holds-still w ((m + 1 + a) % four) k (λ q. holds-number _ _ held) c)
 
-  module _ (w : Wrote s (turned (s .table) (openAt (s .table))) h (openAt (s .table)) y) (new : four ≤ heldAt (s .table) (h .number))
-      (one : among (h .number) others ≡ true) where
-    is-left : among (h .number) (r .left) ≡ true
-    is-left = pick (r .each (h .number) one)
+  module _ (w : Wrote s (turned (s .table) (openAt (s .table))) h (openAt (s .table)) y) (new : four ≤ heldAt (s .table) (keyOf h))
+      (one : among (keyOf h) others ≡ true) where
+    is-left : among (keyOf h) (r .left) ≡ true
+    is-left = pick (r .each (keyOf h) one)
       where
-        pick : (among (h .number) (r .left) ≡ true) ⊎ Since m (r .since) s (h .number) → among (h .number) (r .left) ≡ true
+        pick : (among (keyOf h) (r .left) ≡ true) ⊎ Since m (r .since) s (keyOf h) → among (keyOf h) (r .left) ≡ true
         pick (inl a) = a
-        pick (inr (a, b, c)) = absurd (omega (arith, new, held-some (s .table) (h .number) ((m + 1 + a) % four) (omega arith) c))
+        pick (inr (a, b, c)) = absurd (omega (arith, new, held-some (s .table) (keyOf h) ((m + 1 + a) % four) (omega arith) c))
 
-    less : suc (length (without (h .number) (r .left))) ≡ length (r .left)
-    less = without-less (h .number) (r .left) is-left
+    less : suc (length (without (keyOf h) (r .left))) ≡ length (r .left)
+    less = without-less (keyOf h) (r .left) is-left
 
     turn : openAt (s .table) ≡ (m + 1 + r .since) % four
     turn = opens-in-turn (m + 1 + r .since) (s .table) (r .ring)
@@ -122,7 +122,7 @@ module _ {n m : ℕ} {others : List ℕ} {s : State} (r : Three n m others s) {h
     three-opened =
         record {
           since = r .since + 1;
-          left = without (h .number) (r .left);
+          left = without (keyOf h) (r .left);
           ring = subst (λ (k : ℕ). Opened k (y .table)) (omega arith) (ring-opened (m + 1 + r .since) (r .ring) w);
           few = omega (arith, r .few, less);
           its = holds-still w (m % four) n (λ q. absurd (omega (arith, turn, less, r .few))) (r .its);
@@ -130,22 +130,22 @@ module _ {n m : ℕ} {others : List ℕ} {s : State} (r : Three n m others s) {h
         }
       where
         keep : (k : ℕ) → (among k (r .left) ≡ true) ⊎ Since m (r .since) s k
-            → (among k (without (h .number) (r .left)) ≡ true) ⊎ Since m (r .since + 1) (leftBy y) k
+            → (among k (without (keyOf h) (r .left)) ≡ true) ⊎ Since m (r .since + 1) (leftBy y) k
         keep k (inl a) =
-            same-or-not k (h .number)
+            same-or-not k (keyOf h)
             (λ q. inr (
               r .since,
               omega arith,
               ap (λ (i : ℕ). holds (placeAt (y .table) i) k) (sym turn)
                   ∙ ap (holds (placeAt (y .table) (openAt (s .table)))) q ∙ holds-now w,
             ))
-            (λ q. inl (without-keeps (h .number) k (r .left) q a))
+            (λ q. inl (without-keeps (keyOf h) k (r .left) q a))
         keep k (inr (a, b, c)) = inr (a, omega arith, holds-still w ((m + 1 + a) % four) k (λ q. absurd (omega (arith, turn, less, r .few))) c)
 
 -- ---- runs
 
 -- opening it
-three-first : {n m : ℕ} {others : List ℕ} {s : State} {h : Header} {y : Outcome} → length others ≤ 3 → Opened m (s .table) → h .number ≡ n
+three-first : {n m : ℕ} {others : List ℕ} {s : State} {h : Header} {y : Outcome} → length others ≤ 3 → Opened m (s .table) → keyOf h ≡ n
     → Wrote s (turned (s .table) (openAt (s .table))) h (openAt (s .table)) y → Three n m others (leftBy y)
 three-first {n} {m} {others} {s} {h} {y} few ring is-n w =
     record {

@@ -7,7 +7,7 @@ use native.Mathlib.Omega.{arith}
 use lib.ListN.{length}
 use Rattle.header_rules.specs.Read.{fieldsOf, faultOf}
 use Rattle.places_rules.specs.declared.Place.{Place}
-use Rattle.places_rules.specs.Places.{four, placeAt, keyOf, holds, heldAt, openAt, turned}
+use Rattle.places_rules.specs.Places.{four, placeAt, keyIn, keyOf, holds, heldAt, openAt, turned}
 use Rattle.places_rules.specs.Claims.{Opened}
 use Rattle.places_rules.proofs.Proved.{fresh-is-opened, opens-in-turn}
 use Rattle.receiver_rules.specs.Promise.{State}
@@ -20,7 +20,7 @@ use Rattle.link.proofs.Ring.{ring-opened}
 -- after m openings, the j-th of the number `who j`: each of the last four stands in its place
 pub record Stands (who : ℕ → ℕ) (m : ℕ) (s : State) : Type 0 where
   pub ring : Opened m (s .table)
-  pub number : (j : ℕ) → j < m → m ≤ j + 4 → placeAt (s .table) (j % four) .number ≡ who j
+  pub number : (j : ℕ) → j < m → m ≤ j + 4 → keyIn (placeAt (s .table) (j % four)) ≡ who j
 
 -- the opening among the last four that went to place i
 abbrev lastAt : ℕ → ℕ → ℕ
@@ -44,7 +44,7 @@ module _ {who : ℕ → ℕ} {m : ℕ} {s : State} (r : Stands who m s) where
       less-or-not i m
       (λ l.
       let j = last-at m i l h in
-      (lastAt m i, j .0, j .1, sym (r .number (lastAt m i) (j .0) (j .1)) ∙ ap (λ (x : ℕ). placeAt (s .table) x .number) (j .2) ∙ holds-number _ n e))
+      (lastAt m i, j .0, j .1, sym (r .number (lastAt m i) (j .0) (j .1)) ∙ ap (λ (x : ℕ). keyIn (placeAt (s .table) x)) (j .2) ∙ holds-number _ n e))
       (λ l. absurd (holds-some _ n e (r .ring .left i h (λ (k : i < m). omega arith))))
 
 -- a fresh table is one after no opening, whatever numbers are to come
@@ -65,10 +65,10 @@ module _ {who : ℕ → ℕ} {m : ℕ} {s : State} {e : Call} (r : Stands who m 
         number = λ j (h : j < m + 1) (l : m + 1 ≤ j + 4).
             same-or-not j m
             (λ q.
-            ap (λ (x : ℕ). placeAt (e .left .table) (x % four) .number) q
-            ∙ ap (λ (x : ℕ). placeAt (e .left .table) x .number) (sym turn)
-            ∙ ap (λ (p : Place). p .number) (w .here) ∙ w .number ∙ is ∙ ap who (sym q))
-            (λ q. ap (λ (p : Place). p .number) (w .others (j % four) (λ z. elsewhere j q h l (z ∙ turn)))
+            ap (λ (x : ℕ). keyIn (placeAt (e .left .table) (x % four))) q
+            ∙ ap (λ (x : ℕ). keyIn (placeAt (e .left .table) x)) (sym turn)
+            ∙ ap keyIn (w .here) ∙ w .number ∙ is ∙ ap who (sym q))
+            (λ q. ap keyIn (w .others (j % four) (λ z. elsewhere j q h l (z ∙ turn)))
             ∙ r .number j (omega (arith, q)) (omega arith));
       }
     where

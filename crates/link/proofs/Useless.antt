@@ -3,7 +3,7 @@ use mathlib.Core.Logic.{_⊎_, inl, inr}
 use mathlib.Core.Path.{_≡_, refl, sym, ap, ap₂, _∙_, subst}
 use mathlib.Core.Bool.{Bool, true, false, not}
 use mathlib.Core.List.{List, [], _∷_}
-use Prim.Native.Nat.{ℕ, _+_, _*_, _<_}
+use Prim.Native.Nat.{ℕ, _+_, _*_, _≤_, _<_}
 use native.Mathlib.Omega.{arith}
 use borrow.Author.Tests.{eq-eqb}
 use lib.Dec.{eqb, lit<}
@@ -16,6 +16,7 @@ use Rattle.base_rules.proofs.Logic.{clash}
 use Rattle.cut_rules.specs.declared.Address.the-variants.{None}
 use Rattle.cut_rules.specs.declared.Settings.{Settings}
 use Rattle.cut_rules.specs.Missing as missing
+use Rattle.cut_rules.specs.Sizes as cut
 use Rattle.code_rules.proofs.RowLaws.{zeros-at}
 use Rattle.header_rules.specs.declared.Header.{Header}
 use Rattle.header_rules.specs.Read.{fieldsOf, badAddress}
@@ -27,15 +28,17 @@ use Rattle.sender_rules.specs.Fragments.{payloadFor, headerFor, fragmentFor}
 use Rattle.sender_rules.proofs.FragmentLengths.{f-some}
 use Rattle.sender_rules.proofs.Proved.{received}
 use Rattle.link.specs.Run.{Call, after, Made, start, next, freshWith, Reached, Holds, come, lost, All}
-use Rattle.link.specs.Demand.{Takes, count, Own, Scene, Among, Begins, enoughAfter}
-use Rattle.link.specs.Useless.{Receiver, Keeps, SomeKeep, Delivers, RefusesAll, Fixed, StoresNoBytes, StoresNoRecord, Pretends, FalseCount}
-use Rattle.link.specs.Useless.{OneFragment, Sends, Falls}
+use Rattle.link.specs.Demand.{Takes, count, keyFor, Own, Scene, Among, Begins, enoughAfter}
+use Rattle.link.specs.Useless.{Receiver, Keeps, SomeKeep, Delivers, RefusesAll, HandsNothing, Fixed, StoresNoBytes, StoresNoRecord}
+use Rattle.link.specs.Useless.{Pretends, PretendsIn, FalseCount, OneFragment, Sends, Falls}
 use Rattle.link.proofs.Basic.{held-none}
 use Rattle.link.proofs.Frame.{good-reached}
 use Rattle.link.proofs.Heard.{Brings, Foreign, brings, brings-number, come-none, come-foreign, come-own, come-it}
 use Rattle.link.proofs.Link.{absent, at-most-three, reached-on}
 use Rattle.link.proofs.Own.{offset}
 use Rattle.link.proofs.Ring.{none-held}
+use Rattle.link.proofs.Runs.{bytes-fragment}
+use Rattle.link.proofs.Survives.{survives}
 use Rattle.link.proofs.Stage.{Stage, not-yet, open-at, done-at, Gone, enough-none, foreign-step}
 use Rattle.link.proofs.Until.{refused-or-handed, some-came, standing, until-displaced}
 use Rattle.link.proofs.Witness.{plainAt, packetWith, fragment-bytes, in-one, in-two, whole, halved, written-apart, begins-a}
@@ -72,7 +75,7 @@ fresh-free n h = omega (arith, h, held-none freshTable n (λ i l. none-held i n 
 -- nothing of a packet has come to a fresh receiver
 at-first : {g : Settings} {n : ℕ} {packet : List ℕ} → Takes g n packet → Scene g n packet fresh [] fresh
 unfolding All
-at-first {n = n} takes = record { takes = takes; reached = fresh-reached; free = fresh-free n; run = start; own = tt }
+at-first {g} {n} takes = record { takes = takes; reached = fresh-reached; free = fresh-free (keyFor g n); run = start; own = tt }
 
 module _ (R : Receiver) (keeps : Keeps R) where
   -- ---- a call that brings the first fragment of a packet
@@ -97,7 +100,7 @@ module _ (R : Receiver) (keeps : Keeps R) where
     unfolding e badAddress
     brought = brings g n packet takes e 0 (f-some g packet (takes .passed)) refl refl
 
-    came : come n (e ∷ []) 0 ≡ true
+    came : come (keyFor g n) (e ∷ []) 0 ≡ true
     came = come-it g n packet e [] 0 brought
 
     now-reached : Reached (after e)
@@ -108,7 +111,7 @@ module _ (R : Receiver) (keeps : Keeps R) where
     its = ((λ heard is. (0, f-some g packet (takes .passed), refl)), tt)
 
     -- the number is held then, as T1 says;
-    held : Holds (after e) n
+    held : Holds (after e) (keyFor g n)
     unfolding All Begins Among
     held =
         at-most-three until-displaced g n packet s (e ∷ []) (after e)
@@ -121,23 +124,23 @@ module _ (R : Receiver) (keeps : Keeps R) where
     stage = standing g n packet takes s (scene .reached) (scene .free) (next e start made) its (held, tt)
 
     -- another packet, of which nothing has come either, may come next
-    another : {k : ℕ} {packet′ : List ℕ} → Scene g k packet′ s [] s → (k ≡ n → ⊥) → Scene g k packet′ (after e) [] (after e)
+    another : {k : ℕ} {packet′ : List ℕ} → Scene g k packet′ s [] s → (keyFor g k ≡ keyFor g n → ⊥) → Scene g k packet′ (after e) [] (after e)
     unfolding All
     another {k} {packet′} scene′ other =
         record {
           takes = scene′ .takes;
           reached = now-reached;
           free = λ h. go h (foreign-step g k packet′ (scene′ .takes) [] s e foreign (good-reached (scene .reached)) made
-              (not-yet (absent s k (scene′ .free)) (come-none k)));
+              (not-yet (absent s (keyFor g k) (scene′ .free)) (come-none (keyFor g k))));
           run = start;
           own = tt;
         }
       where
-        foreign : Foreign k e
+        foreign : Foreign (keyFor g k) e
         foreign passes is = other (sym is ∙ brings-number g n packet e 0 brought)
 
-        go : Holds (after e) k → Stage g k packet′ (e ∷ []) (after e) ⊎ Gone g k packet′ [] e → ⊥
-        go h (inl st) = some-came g k packet′ (scene′ .takes) (e ∷ []) (after e) st h (come-foreign k e [] foreign ∙ come-none k)
+        go : Holds (after e) (keyFor g k) → Stage g k packet′ (e ∷ []) (after e) ⊎ Gone g k packet′ [] e → ⊥
+        go h (inl st) = some-came g k packet′ (scene′ .takes) (e ∷ []) (after e) st h (come-foreign (keyFor g k) e [] foreign ∙ come-none (keyFor g k))
         go h (inr x) = x .gone h
 
     -- ---- where it is the only one, T2 has the packet delivered
@@ -146,14 +149,14 @@ module _ (R : Receiver) (keeps : Keeps R) where
       enough : enoughAfter g n packet (e ∷ []) ≡ true
       unfolding enoughAfter missing.losses missing.count
       enough =
-          ap (λ (f : ℕ). eqb (missing.losses (lost n (e ∷ [])) f) 0) one ∙ ap (λ (v : Bool). eqb (bit (not v) + 0) 0) came
+          ap (λ (f : ℕ). eqb (missing.losses (lost (keyFor g n) (e ∷ [])) f) 0) one ∙ ap (λ (v : Bool). eqb (bit (not v) + 0) 0) came
 
       served : Delivers (R None s (fragmentFor g n packet 0) room) × (R None s (fragmentFor g n packet 0) room .out ≡ splice room 0 packet)
       unfolding All e badAddress
       served =
           let promised = until-displaced g n packet s [] s scene tt .0 in
-          let a = promised .answered e made 0 (brought .below) refl refl .delivered (enough-none g n packet takes [] (come-none n)) enough in
-          ((length packet, _, a .0 .0, a .0 .1), a .1)
+          let a = promised .answered e made 0 (brought .below) refl refl .delivered (enough-none g n packet takes [] (come-none (keyFor g n))) enough .0 in
+          ((length packet, _, a .displaced, a .told), a .written)
 
       -- and its place is done
       done : (i : ℕ) × (i < four) × (placeAt (after e .table) i .condition ≡ delivered)
@@ -170,7 +173,7 @@ module _ (R : Receiver) (keeps : Keeps R) where
       not-enough : enoughAfter g n packet (e ∷ []) ≡ false
       unfolding enoughAfter missing.losses missing.count come
       not-enough =
-          ap (λ (f : ℕ). eqb (missing.losses (lost n (e ∷ [])) f) 0) two
+          ap (λ (f : ℕ). eqb (missing.losses (lost (keyFor g n) (e ∷ [])) f) 0) two
           ∙ ap₂ (λ (u v : Bool). eqb (bit (not u) + (bit (not v) + 0)) 0) came
           (ap (λ (c : ℕ → Bool). c 1) (come-own g n packet e [] 0 brought))
 
@@ -198,6 +201,27 @@ module _ (R : Receiver) (keeps : Keeps R) where
       let refused = bad .refuses None fresh _ room in
       refused-or-handed (refused .0) (good .0) (good .1) (good .2) (sym (refused .1) ∙ good .3)
 
+  hands-nothing : HandsNothing R → ⊥
+  hands-nothing bad = bad .never None fresh _ room (served (first-1 0 (lit< tt)) (in-one 1 (lit< tt)) .0)
+
+  pretends-in : PretendsIn R → ⊥
+  unfolding All enoughAfter missing.losses missing.count missing.suffice missing.missing
+  pretends-in bad =
+      let d : List ℕ = fragmentFor (bad .g) (bad .n) (bad .packet) 0 in
+      let bytes : Bytes d = bytes-fragment (bad .g) (bad .n) (bad .packet) (bad .takes) 0 (omega (arith, bad .whole)) in
+      let c : Call = record { own = bad .own; datagram = d; lent = bad .out; left = R (bad .own) (bad .state) d (bad .out) } in
+      let m : Made (bad .state) c = record { room = bad .room; bytes = bytes; meets = keeps .meets (bad .own) (bad .state) d (bad .out) bytes } in
+      let scene : Scene (bad .g) (bad .n) (bad .packet) (bad .state) [] (bad .state) =
+      record { takes = bad .takes; reached = bad .reached; free = bad .free; run = start; own = tt } in
+      let b : Brings (bad .g) (bad .n) (bad .packet) c 0 = brings (bad .g) (bad .n) (bad .packet) (bad .takes) c 0 (omega (arith, bad .whole)) refl (bad .matches) in
+      let all : missing.losses (lost (keyFor (bad .g) (bad .n)) (c ∷ [])) (count (bad .g) (bad .packet)) ≤ cut.assured (bad .g) (length (bad .packet)) =
+      omega (arith, ap (missing.losses (lost (keyFor (bad .g) (bad .n)) (c ∷ []))) (bad .whole) ∙ ap (λ (v : Bool). bit (not v) + 0) (come-it (bad .g) (bad .n) (bad .packet) c [] 0 b)) in
+      bad .pretends
+      (until-displaced (bad .g) (bad .n) (bad .packet) (bad .state) [] (bad .state) scene tt .0
+      .answered c m 0 (omega (arith, bad .whole)) refl (bad .matches)
+      .delivered (enough-none (bad .g) (bad .n) (bad .packet) (bad .takes) [] (come-none (keyFor (bad .g) (bad .n))))
+      (survives (bad .g) (bad .n) (bad .packet) (c ∷ []) (bad .takes) all) .0 .written)
+
   fixed : Fixed R → ⊥
   fixed bad =
       let one = served (first-1 0 (lit< tt)) (in-one 1 (lit< tt)) in
@@ -205,7 +229,7 @@ module _ (R : Receiver) (keeps : Keeps R) where
       written-apart room (sym (one .1) ∙ bad .only None fresh _ room (one .0) ∙ sym (bad .only None fresh _ room (two .0)) ∙ two .1)
 
   stores-no-record : StoresNoRecord R → ⊥
-  unfolding e
+  unfolding e keyFor
   stores-no-record bad =
       fresh-free 0 (subst (λ (t : Table). heldAt t 0 < four) (bad .same None fresh _ room) (held (first-1 0 (lit< tt))))
 
@@ -224,6 +248,7 @@ module _ (R : Receiver) (keeps : Keeps R) where
 
   -- after packet 1 of number 0, packets 1 and 2 of number 1
   pretends : Pretends R → ⊥
+  unfolding keyFor
   pretends bad =
       let first = first-1 0 (lit< tt) in
       let is-done = done first (in-one 1 (lit< tt)) in
@@ -257,10 +282,12 @@ one-fragment S sends bad =
 pub falls : Falls
 falls = record {
   refuses-all = refuses-all;
+  hands-nothing = hands-nothing;
   fixed = fixed;
   stores-no-bytes = stores-no-bytes;
   stores-no-record = stores-no-record;
   pretends = pretends;
+  pretends-in = pretends-in;
   false-count = false-count;
   one-fragment = one-fragment;
 }

@@ -16,28 +16,8 @@ use Rattle.sender_rules.specs.Fragments.{fragmentFor}
 use Rattle.receiver_rules.specs.declared.Received.the-variants.{Delivered}
 use Rattle.receiver_rules.specs.Promise.{numberOf, State, all-places}
 use Rattle.link.specs.Run.{Call, after, Made, Run, freshWith, Holds, ShownOpen, All}
-use Rattle.link.specs.Demand.{Scene, Begins, Among, enoughAfter, Names, HandedOut}
-
--- ---- there are runs
-
--- what a call is handed
-pub record Input : Type 0 where
-  pub own : Address
-  pub datagram : List ℕ
-  pub lent : List ℕ
-
--- that of a call
-abbrev pub inputOf : Call → Input
-inputOf e = record { own = e .own; datagram = e .datagram; lent = e .lent }
-
--- demand 3: each call "lends full room", and a datagram is bytes
-unfoldable pub Lawful : List Input → Type 0
-Lawful [] = Unit {0}
-Lawful (i ∷ is) = (most-l ≤ length (i .lent)) × Bytes (i .datagram) × Lawful is
-
--- from any state and for any such inputs, the last one first, there are calls of a run with just these inputs
-abbrev pub SomeRun : Type 0
-SomeRun = (s : State) (inputs : List Input) → Lawful inputs → (es : List Call) × (now : State) × (map inputOf es ≡ inputs) × Run s es now
+use Rattle.link.specs.Demand.{Scene, Begins, Among, enoughAfter, Names}
+use Rattle.link.specs.Steps.{HandedOut}
 
 -- ---- the packets and datagrams of the examples
 

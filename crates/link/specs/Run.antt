@@ -1,7 +1,7 @@
 -- Runs of the receiver, and what came in them. A run's step is what `receive` promises, `Step`, by name.
 use mathlib.Core.Path.{_≡_}
 use mathlib.Core.Bool.{Bool, false, not, _||_, _&&_}
-use mathlib.Core.List.{List, [], _∷_, _++_}
+use mathlib.Core.List.{List, [], _∷_, _++_, map}
 use Prim.Native.Nat.{ℕ, _≤_, _<_}
 use lib.Dec.{eqb}
 use lib.ListN.{length}
@@ -10,7 +10,7 @@ use Rattle.base_rules.specs.Bounds.{most-l}
 use Rattle.base_rules.specs.Bytes.{Bytes}
 use Rattle.cut_rules.specs.declared.Address.{Address}
 use Rattle.header_rules.specs.Read.{fieldsOf, faultOf}
-use Rattle.places_rules.specs.Places.{four, open-now, freshTable, placeAt, heldAt}
+use Rattle.places_rules.specs.Places.{four, open-now, freshTable, placeAt, keyOf, heldAt}
 use Rattle.receiver_rules.specs.Promise.{Outcome, State, Step, all-places}
 use Rattle.receiver_rules.specs.Calls.{shownOf, queryCall}
 
@@ -59,6 +59,27 @@ pub record ShownOpen (s : State) (n : ℕ) : Type 0 where
   pub below : at < four
   pub shown : shownOf (placeAt (s .table) at) ≡ open-now ∷ n ∷ []
 
+-- ---- there are runs
+
+-- what a call is handed
+pub record Input : Type 0 where
+  pub own : Address
+  pub datagram : List ℕ
+  pub lent : List ℕ
+
+-- that of a call
+abbrev pub inputOf : Call → Input
+inputOf e = record { own = e .own; datagram = e .datagram; lent = e .lent }
+
+-- demand 3: each call "lends full room", and a datagram is bytes
+unfoldable pub Lawful : List Input → Type 0
+Lawful [] = Unit {0}
+Lawful (i ∷ is) = (most-l ≤ length (i .lent)) × Bytes (i .datagram) × Lawful is
+
+-- from any state and for any such inputs, the last one first, there are calls of a run with just these inputs
+abbrev pub SomeRun : Type 0
+SomeRun = (s : State) (inputs : List Input) → Lawful inputs → (es : List Call) × (now : State) × (map inputOf es ≡ inputs) × Run s es now
+
 -- ---- what came
 
 -- the call's datagram passes the checks 2 to 8 (14 and 1 are passed by a call of a run)
@@ -67,7 +88,7 @@ heard e = eqb (faultOf (e .own) (e .datagram)) 0
 
 -- its number
 abbrev pub numberIn : Call → ℕ
-numberIn e = fieldsOf (e .datagram) .number
+numberIn e = keyOf (fieldsOf (e .datagram))
 
 -- and its index
 abbrev pub indexIn : Call → ℕ
@@ -82,7 +103,12 @@ come n (e ∷ es) i = (heard e && (eqb (numberIn e) n && eqb (indexIn e) i)) || 
 abbrev pub lost : ℕ → List Call → ℕ → Bool
 lost n es i = not (come n es i)
 
--- all calls of a list
+-- every call of a list
 unfoldable pub All : (Call → Type 0) → List Call → Type 0
 All P [] = Unit {0}
 All P (e ∷ es) = P e × All P es
+
+-- every call of a list, with the calls before it
+unfoldable pub Each : (List Call → Call → Type 0) → List Call → Type 0
+Each P [] = Unit {0}
+Each P (e ∷ es) = P es e × Each P es

@@ -1,4 +1,5 @@
 pub mod Records
+pub mod Keys
 pub mod Checks
 pub mod Ranges
 pub mod Turns

@@ -98,7 +98,7 @@ module _ (t : Table) (i : ℕ) {p : Place} (is-p : p ≡ placeAt t i) where
 
   -- displacing an open place names its number
   pub displaces : p .condition ≡ open-now → Number (p .number) ≡ displacedAt t i
-  unfolding displacedAt
+  unfolding displacedAt keyIn
   displaces e = rw (← is-p, eq-eqb _ _ e)
 
   -- displacing a place that is not open names none

@@ -83,7 +83,7 @@ openAt t = firstPlace (λ i. eqb (placeAt t i .condition) free) (t .oldest)
 
 -- document 01: the displaced number is named whenever its place was open
 unfoldable pub displacedAt : Table → ℕ → Displaced
-displacedAt t i = cond (eqb (placeAt t i .condition) open-now) (displaced.Number (placeAt t i .number)) displaced.None
+displacedAt t i = cond (eqb (placeAt t i .condition) open-now) (displaced.Number (keyIn (placeAt t i))) displaced.None
 
 -- the place opened longest ago, after place i was opened: where none was free it is the next one
 unfoldable pub turned : Table → ℕ → Table

@@ -13,7 +13,7 @@ use Rattle.base_rules.specs.declared.Written.the-variants as written
 use Rattle.base_rules.proofs.Answers.{grants, refuses}
 use Rattle.places_rules.specs.declared.Place.{Place}
 use Rattle.places_rules.specs.declared.Table.{Table}
-use Rattle.places_rules.specs.Places.{free, open-now, delivered, spoiled, freshTable, placeAt}
+use Rattle.places_rules.specs.Places.{free, open-now, delivered, spoiled, freshTable, placeAt, keyIn}
 use Rattle.places_rules.specs.Faults.{badPlace}
 use Rattle.places_rules.proofs.Ranges.{range-from}
 use Rattle.receiver_rules.specs.Promise.{roomFault}
@@ -32,7 +32,7 @@ module _ (p : Place) where
 
   -- any other condition is shown with the number
   shows-held : (n : ℕ) → (p .condition ≡ free → ⊥) → p .condition ≡ n → n ∷ p .number ∷ [] ≡ shownOf p
-  unfolding shownOf
+  unfolding shownOf keyIn
   shows-held n some e = rw (ne-eqb (p .condition) free some, e)
 
   -- an open place is shown as open, with its number

@@ -7,7 +7,7 @@ use Rattle.base_rules.specs.Answer.{Answer, granted, refused, answered}
 use Rattle.base_rules.specs.Bounds.{most-l}
 use Rattle.places_rules.specs.declared.Place.{Place}
 use Rattle.places_rules.specs.declared.Table.{Table}
-use Rattle.places_rules.specs.Places.{free, open-now, delivered, spoiled, freshTable, placeAt}
+use Rattle.places_rules.specs.Places.{free, open-now, delivered, spoiled, freshTable, placeAt, keyIn}
 use Rattle.receiver_rules.specs.Promise.{roomFault}
 use Rattle.receiver_rules.specs.declared.Seen.{Seen}
 use Rattle.receiver_rules.specs.declared.Seen.the-variants as seen
@@ -16,7 +16,7 @@ use Rattle.receiver_rules.specs.declared.Queried.the-variants as queried
 
 -- what is shown of a place: a free one has no number
 unfoldable pub shownOf : Place → List ℕ
-shownOf p = cond (eqb (p .condition) free) (free ∷ []) (p .condition ∷ p .number ∷ [])
+shownOf p = cond (eqb (p .condition) free) (free ∷ []) (p .condition ∷ keyIn p ∷ [])
 
 -- "query and clearing check 14, then 1", where no packet buffer is lent and none is too small; else condition and number of all four places
 unfoldable pub queryCall : Table → ℕ → Answer
