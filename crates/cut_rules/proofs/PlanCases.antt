@@ -15,8 +15,10 @@ use Rattle.base_rules.specs.Tests.{first}
 use Rattle.base_rules.proofs.Logic.{either, and-left, and-right}
 use Rattle.base_rules.proofs.Firsts.{due, skip, none-due, clear, clear-rest}
 use Rattle.base_rules.proofs.Answers.{grants, refuses}
-use Rattle.cut_rules.specs.Sizes.{c, k, z, n, addressBytes, h, divisor, S, L, f, s, assured}
+use Rattle.cut_rules.specs.Sizes.{c, k, z, n, addressBytes, most-h, h, divisor, S, L, f, s, assured}
 use Rattle.cut_rules.specs.Plan.{fit, planFault, withFec, figuresOf, planOf, valuesOf, numberOf}
+use Rattle.cut_rules.specs.declared.Address.{Address}
+use Rattle.cut_rules.specs.declared.Address.the-variants.{None, Pair}
 use Rattle.cut_rules.specs.declared.Settings.{Settings}
 use Rattle.cut_rules.specs.declared.Figures.{Figures}
 use Rattle.cut_rules.specs.declared.Planned.{Planned}
@@ -85,6 +87,17 @@ h-fec g e = rw e
 pub h-plain : (g : Settings) → g .fec ≡ false → h g ≡ 14 + addressBytes (g .address)
 unfolding h
 h-plain g e = rw e
+
+address-most : (a : Address) → addressBytes a ≤ 4
+unfolding addressBytes
+address-most None = omega arith
+address-most (Pair source dest) = omega arith
+
+-- no header has more than 20 bytes
+pub h-most : (g : Settings) → h g ≤ most-h
+h-most g =
+    let four = address-most (g .address) in
+    either (g .fec) (λ e. omega (arith, h-fec g e)) (λ e. omega (arith, h-plain g e))
 
 -- ---- the divisor: these two, and `each-bears` of Bearing, are all that know it
 

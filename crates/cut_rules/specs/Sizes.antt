@@ -38,6 +38,10 @@ addressBytes (Pair source dest) = 4
 abbrev pub least-h : ℕ
 least-h = 14
 
+-- document 01, "h is 14, 16, 18 or 20": the bytes of the longest, with FEC and an address
+abbrev pub most-h : ℕ
+most-h = 20
+
 -- document 01: the bytes of a header: the least, two more with FEC, four more with an address
 unfoldable pub h : Settings → ℕ
 h g = least-h + cond (g .fec) 2 0 + addressBytes (g .address)

@@ -104,6 +104,12 @@ module _ (g : Settings) (packet : List ℕ) where
   unfolding packetFault
   due-more n rest h e = first-more (checks g packet []) rest n h e
 
+  -- where nothing is due of the packet's checks and of those behind them, nothing is due for the packet
+  pub none-more : (rest : List (Bool × ℕ)) → first (checks g packet rest) ≡ 0 → packetFault g packet ≡ 0
+  none-more rest none =
+      either (eqb (packetFault g packet) 0) (λ e. eqb-true (packetFault g packet) 0 e)
+      (λ e. due-more (packetFault g packet) rest (pos-of-ne-zero (eqb-false (packetFault g packet) 0 e)) refl ∙ none)
+
   -- the answer so far: 40, the AF checks, and else what the plan says
   pub ready-40 : (planned : Planned) → numberOf planned ≡ planOf g (length packet) → planned ≡ Refused 40
       → numberOf planned ≡ answered (packetFault g packet) (figuresOf g (length packet))

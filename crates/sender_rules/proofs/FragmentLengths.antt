@@ -81,6 +81,15 @@ module _ (g : Settings) (packet : List ℕ) where
       from-add number 0 t 1
       ∙ ap (λ (l : List ℕ). fragmentsFrom g number packet 0 t ++ l) (from-one number (0 + t) ∙ ap (fragmentFor g number packet) (zero-add t))
 
+  -- all of them are those up to fragment i, and those behind it
+  pub whole-split : (number i : ℕ) → i < f g (length packet)
+      → fragmentsFor g number packet
+      ≡ fragmentsFrom g number packet 0 (i + 1) ++ fragmentsFrom g number packet (0 + (i + 1)) (f g (length packet) - (i + 1))
+  unfolding fragmentsFor
+  whole-split number i less =
+      let e : f g (length packet) ≡ i + 1 + (f g (length packet) - (i + 1)) = omega arith in
+      ap (fragmentsFrom g number packet 0) e ∙ from-add number 0 (i + 1) (f g (length packet) - (i + 1))
+
   -- ---- of a packet that is not refused
 
   module _ (passed : packetFault g packet ≡ 0) where
@@ -154,12 +163,5 @@ module _ (g : Settings) (packet : List ℕ) where
     -- and each is within them
     pub within-whole : (number i : ℕ) → i < f g (length packet)
         → i * (h g + s g (length packet)) + length (fragmentFor g number packet i) ≤ length (fragmentsFor g number packet)
-    unfolding fragmentsFor
     within-whole number i less =
-        let rest : ℕ = f g (length packet) - (i + 1) in
-        let e : f g (length packet) ≡ i + 1 + rest = omega arith in
-        let whole : length (fragmentsFrom g number packet 0 (f g (length packet))) ≡ length (fragmentsFrom g number packet 0 (i + 1)) + length
-        (fragmentsFrom g number packet (0 + (i + 1)) rest) =
-        ap (λ (t : ℕ). length (fragmentsFrom g number packet 0 t)) e ∙ ap length (from-add number 0 (i + 1) rest)
-        ∙ length-append (fragmentsFrom g number packet 0 (i + 1)) (fragmentsFrom g number packet (0 + (i + 1)) rest) in
-        omega (arith, whole, more-size number i less)
+        omega (arith, simp length-append at (ap length (whole-split number i less)), more-size number i less)

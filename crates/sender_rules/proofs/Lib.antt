@@ -7,5 +7,6 @@ pub mod Run
 pub mod Cases
 pub mod Headers
 pub mod Joining
+pub mod Splitting
 pub mod OneAnswer
 pub mod Proved

@@ -1,15 +1,15 @@
 -- What the senders answer (document 01, "Numbers given back": "Senders: 40, AF checks, 41, 42, ROOM").
-use mathlib.Core.Bool.{Bool, not}
+use mathlib.Core.Bool.{Bool, cond, not}
 use mathlib.Core.List.{List, [], _∷_}
-use Prim.Native.Nat.{ℕ, _-_}
+use Prim.Native.Nat.{ℕ, _+_, _-_, _*_}
 use lib.Dec.{leb, ltb, eqb}
-use lib.ListN.{length}
-use Rattle.base_rules.specs.Bounds.{most-f}
+use lib.ListN.{length, take, drop}
+use Rattle.base_rules.specs.Bounds.{most-f, place}
 use Rattle.base_rules.specs.Tests.{first}
 use Rattle.base_rules.specs.Bytes.{splice}
 use Rattle.base_rules.specs.Answer.{Answer, granted, refused, Outcome, settled}
 use Rattle.cut_rules.specs.declared.Settings.{Settings}
-use Rattle.cut_rules.specs.Sizes.{h, f, s}
+use Rattle.cut_rules.specs.Sizes.{most-h, h, f, s}
 use Rattle.cut_rules.specs.Plan.{fit}
 use Rattle.af_rules.specs.Calls.{afFault}
 use Rattle.sender_rules.specs.Fragments.{payloadFor, fragmentFor, fragmentsFor}
@@ -61,3 +61,11 @@ fragmentsCall g number packet out =
 unfoldable pub allNumber : SentAll → Answer
 allNumber (all.Fragments p) = granted (p .f ∷ p .h ∷ p .s ∷ p .last ∷ [])
 allNumber (all.Refused n) = refused n
+
+-- card.h, "f fragments of h + s bytes each, the last one of h + last": part i of `out`, by these figures
+unfoldable pub partAt : ℕ → ℕ → ℕ → ℕ → List ℕ → ℕ → List ℕ
+partAt f h s last out i = take (h + cond (eqb (i + 1) f) last s) (drop (i * (h + s)) out)
+
+-- card.h, "no packet's fragments take more": the bytes of a place and 256 headers of 20
+abbrev pub most-sent : ℕ
+most-sent = place + most-f * most-h

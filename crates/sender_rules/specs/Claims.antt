@@ -2,15 +2,16 @@
 use mathlib.Core.Bool.{true, false}
 use mathlib.Core.List.{List, [], _++_}
 use mathlib.Core.Path.{_≡_}
-use Prim.Native.Nat.{ℕ, zero, suc, _+_, _-_, _*_, _/_, _%_, _<_}
+use Prim.Native.Nat.{ℕ, zero, suc, _+_, _-_, _*_, _/_, _%_, _≤_, _<_}
 use lib.ListN.{length, getD}
+use Rattle.base_rules.specs.Bytes.{splice}
 use Rattle.cut_rules.specs.declared.Address.{Address}
 use Rattle.cut_rules.specs.declared.Settings.{Settings}
 use Rattle.cut_rules.specs.Sizes.{c, n, h, f, s}
 use Rattle.header_rules.specs.Read.{fieldsOf, badAddress, faultOf}
 use Rattle.header_rules.specs.Claims.{Fitting}
-use Rattle.sender_rules.specs.Fragments.{blockFor, payloadFor, headerFor, fragmentFor}
-use Rattle.sender_rules.specs.Calls.{packetFault, sentNumber, allNumber}
+use Rattle.sender_rules.specs.Fragments.{blockFor, payloadFor, headerFor, fragmentFor, fragmentsFor}
+use Rattle.sender_rules.specs.Calls.{packetFault, sentNumber, fragmentsFault, allNumber, partAt, most-sent}
 use Rattle.sender_rules.specs.declared.Sent.{Sent}
 use Rattle.sender_rules.specs.declared.SentAll.{SentAll}
 
@@ -47,6 +48,20 @@ payloadsFrom g packet i (suc t) = payloadFor g packet i ++ payloadsFrom g packet
 abbrev pub JoinsPlain : Type 0
 JoinsPlain =
     (g : Settings) (packet : List ℕ) → packetFault g packet ≡ 0 → g .fec ≡ false → payloadsFrom g packet 0 (f g (length packet)) ≡ packet
+
+-- card.h: where all fragments are written, part i by the four figures that the answer carries is fragment i
+abbrev pub Splits : Type 0
+Splits =
+    (g : Settings) (number : ℕ) (packet out : List ℕ) → fragmentsFault g number packet (length out) ≡ 0
+    → (i : ℕ) → i < f g (length packet)
+    → partAt (f g (length packet)) (h g) (s g (length packet)) (length (payloadFor g packet (f g (length packet) - 1)))
+    (splice out 0 (fragmentsFor g number packet)) i
+    ≡ fragmentFor g number packet i
+
+-- card.h: no packet's fragments take more than 17,408 bytes
+abbrev pub MostSent : Type 0
+MostSent =
+    (g : Settings) (number : ℕ) (packet : List ℕ) → packetFault g packet ≡ 0 → length (fragmentsFor g number packet) ≤ most-sent
 
 -- no second answer of a sender has the same number and values
 abbrev pub OneSent : Type 0
