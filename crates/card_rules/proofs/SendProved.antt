@@ -1,5 +1,5 @@
 -- The claims of specs/Claims.antt on the sender. Assumes nothing.
-use mathlib.Core.Path.{_≡_, refl, sym, _∙_, subst}
+use mathlib.Core.Path.{_≡_, refl, sym, subst}
 use mathlib.Core.Bool.{Bool, true, false, cond}
 use mathlib.Core.List.{List}
 use Prim.Native.Nat.{ℕ, zero, suc, _+_, _-_, _≤_, _<_}
@@ -16,7 +16,7 @@ use Rattle.cut_rules.proofs.Proved.{c2}
 use Rattle.code_rules.proofs.CallCases.{granted-by}
 use Rattle.sender_rules.specs.Calls.{checks, packetFault, fragmentFault, fragmentCall, fragmentsFault, fragmentsCall}
 use Rattle.sender_rules.specs.Fragments.{payloadFor}
-use Rattle.sender_rules.proofs.Checks.{due-more, taken}
+use Rattle.sender_rules.proofs.Checks.{none-more, taken}
 use Rattle.sender_rules.proofs.FragmentLengths.{fragment-size, size-most}
 use Rattle.card_rules.specs.Told.{answerIn}
 use Rattle.card_rules.specs.Claims.{InTwo, none, more, PlanWhole, LengthWhole, SplitWhole}
@@ -57,14 +57,9 @@ unfolding answerIn settled answered
 granted-own zero own written before values e = (refl, granted-by 0 own values e .1)
 granted-own (suc fault) own written before values e = absurd (omega (arith, granted-by (suc fault) values own (sym e) .0))
 
--- a number that is 0 where it is not
-zero-else : (n : ℕ) → (0 < n → n ≡ 0) → n ≡ 0
-zero-else zero h = refl
-zero-else (suc n) h = h (omega arith)
-
 module _ (g : Settings) (packet : List ℕ) (rest : List (Bool × ℕ)) (fault : first (checks g packet rest) ≡ 0) where
   passed : packetFault g packet ≡ 0
-  passed = zero-else (packetFault g packet) (λ some. due-more g packet (packetFault g packet) rest some refl ∙ fault)
+  passed = none-more g packet rest fault
 
   sizes-fit : (i : ℕ) → (f g (length packet) < 65536) × (h g < 65536) × (s g (length packet) < 65536)
       × (h g + length (payloadFor g packet i) < 65536)
