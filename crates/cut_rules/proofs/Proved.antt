@@ -8,7 +8,7 @@ use native.Mathlib.Omega.{arith}
 use lib.ListN.{length}
 use Rattle.base_rules.specs.Bounds.{parity}
 use Rattle.base_rules.specs.Round.{ceil}
-use Rattle.cut_rules.specs.Claims.{Taken, C2, C3, C4, C5, C6, AnyThree, NoFour, Parted}
+use Rattle.cut_rules.specs.Claims.{Taken, C2, C3, C4, C5, C6, C6m, AssuresM, AnyThree, NoFour, Parted}
 use Rattle.cut_rules.specs.Edge.{Row, rows, fec}
 use Rattle.cut_rules.specs.Missing.{losses, missing, worst}
 use Rattle.cut_rules.specs.Sizes as size
@@ -70,6 +70,15 @@ pub c6 : C6
 c6 g l taken with-fec lost few =
     let all = bearing.bears g l (within g l taken) with-fec lost few in
     (all, suffice-from lost (size.f g l) (size.n l) (size.c l) (λ j h. all j))
+
+-- the losses that a cut is made to bear are those that its sender is set for
+pub assures-m : AssuresM
+unfolding size.assured
+assures-m g l = refl
+
+-- so any m lost fragments leave enough, where a sender is set for m
+pub c6m : C6m
+c6m g l taken with-fec lost few = c6 g l taken with-fec lost (omega (arith, few, assures-m g l))
 
 -- ---- document 01's edge
 

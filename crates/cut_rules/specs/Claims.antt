@@ -74,10 +74,22 @@ C5 = (n f : ℕ) → 0 < f
     → ((lost : ℕ → Bool) (j : ℕ) → missing lost f n j ≤ worst n f (losses lost f))
     × ((w : ℕ) → w ≤ f → (losses (firsts w) f ≡ w) × (missing (firsts w) f n 0 ≡ worst n f w))
 
--- C6: "A sender set for m losses, 1 to 5, always leaves enough after any m"
-abbrev pub C6 : Type 0
-C6 = (g : Settings) (l : ℕ) → Taken g l → g .fec ≡ true → (lost : ℕ → Bool) → losses lost (f g l) ≤ assured g l
+-- document 01: any w lost fragments leave every chunk at most 48 bytes short, and so enough
+abbrev pub Bears : Settings → ℕ → ℕ → Type 0
+Bears g l w = (lost : ℕ → Bool) → losses lost (f g l) ≤ w
     → ((j : ℕ) → missing lost (f g l) (n l) j ≤ parity) × (suffice lost (f g l) (n l) (c l) ≡ true)
+
+-- C6: "A sender set for m losses, 1 to 5, always leaves enough after any m": of the m that it is set for,
+abbrev pub C6m : Type 0
+C6m = (g : Settings) (l : ℕ) → Taken g l → g .fec ≡ true → Bears g l (g .m)
+
+-- of the figure that its plan is answered with,
+abbrev pub C6 : Type 0
+C6 = (g : Settings) (l : ℕ) → Taken g l → g .fec ≡ true → Bears g l (assured g l)
+
+-- and the two are one
+abbrev pub AssuresM : Type 0
+AssuresM = (g : Settings) (l : ℕ) → assured g l ≡ g .m
 
 -- l 415, m 2: "Any three lost still rebuild, no four do"
 abbrev pub AnyThree : Type 0

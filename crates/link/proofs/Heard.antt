@@ -22,7 +22,7 @@ use Rattle.sender_rules.proofs.FragmentLengths.{header-size, fragment-size}
 use Rattle.sender_rules.proofs.Headers.{header-written}
 use Rattle.sender_rules.proofs.Proved.{received}
 use Rattle.link.specs.Run.{Call, numberIn, come}
-use Rattle.link.specs.Demand.{Takes, count, keyFor, Own}
+use Rattle.link.specs.Demand.{Takes, count, keyFor, Own, MatchHeard}
 use Rattle.link.proofs.Basic.{same-or-not}
 
 -- ---- what is read of a fragment
@@ -106,6 +106,12 @@ brings-number g n packet e i b = ap keyOf (b .fields) ∙ key-sent g n packet i
 brings-index : (g : Settings) (n : ℕ) (packet : List ℕ) (e : Call) (i : ℕ) → Brings g n packet e i → fieldsOf (e .datagram) .index ≡ i
 unfolding headerFor
 brings-index g n packet e i b = ap (λ (h : Header). h .index) (b .fields)
+
+-- a call whose configuration accepts the packet's address hears its fragment i
+pub match-heard : MatchHeard
+match-heard g n packet takes e i below is matches =
+    let b = brings g n packet takes e i below is matches in
+    (eq-eqb _ _ (b .passes), brings-number g n packet e i b, brings-index g n packet e i b)
 
 -- ---- what came, with one call more
 

@@ -1,17 +1,18 @@
 -- The claims of specs/Demand.antt, Reached.antt, Useless.antt and Examples.antt, each by citation. Assumes nothing.
 use Rattle.link.specs.Run.{SomeRun}
-use Rattle.link.specs.Demand.{Demand3, Lifted, T3, StaysEnough, NamesGone}
+use Rattle.link.specs.Demand.{Demand3, Lifted, T3m, T3, MatchHeard, StaysEnough, NamesGone}
 use Rattle.link.specs.Steps.{T1, T2, T3b, Again}
 use Rattle.link.specs.Reached.{StaysInRange, GoesRound, HeldOnce, PartsApart, HeldCame, StaysKept}
 use Rattle.link.specs.Useless.{SomeKeep, Falls}
 use Rattle.link.specs.Examples.{ThreeOthers, FourOthers}
 use Rattle.link.proofs.Alarm as alarm
 use Rattle.link.proofs.Examples.{handed-out-last, displaced-last}
+use Rattle.link.proofs.Heard as heard
 use Rattle.link.proofs.Holdings as holdings
 use Rattle.link.proofs.Link as link
 use Rattle.link.proofs.Ring as ring
 use Rattle.link.proofs.Runs as runs
-use Rattle.link.proofs.Survives.{survives}
+use Rattle.link.proofs.Survives.{survives, survives-m}
 use Rattle.link.proofs.Until.{until-displaced}
 use Rattle.link.proofs.Useless as useless
 use Rattle.link.proofs.Whole as whole
@@ -24,8 +25,14 @@ demand-3 = whole.demand-3
 pub lifted : Lifted
 lifted = whole.lifted
 
+pub t3m : T3m
+t3m = survives-m
+
 pub t3 : T3
 t3 = survives
+
+pub match-heard : MatchHeard
+match-heard = heard.match-heard
 
 pub stays-enough : StaysEnough
 stays-enough = whole.stays-enough

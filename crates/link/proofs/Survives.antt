@@ -10,11 +10,11 @@ use Rattle.base_rules.proofs.Logic.{either}
 use Rattle.cut_rules.specs.Missing.{losses, suffice}
 use Rattle.cut_rules.specs.Sizes as cut
 use Rattle.cut_rules.proofs.PlanCases.{fitted}
-use Rattle.cut_rules.proofs.Proved.{c6}
+use Rattle.cut_rules.proofs.Proved.{c6, assures-m}
 use Rattle.cut_rules.proofs.Sufficing.{suffice-from}
 use Rattle.sender_rules.proofs.Checks.{taken, in-bounds}
 use Rattle.link.specs.Run.{lost}
-use Rattle.link.specs.Demand.{count, keyFor, chunks, enoughAfter, T3}
+use Rattle.link.specs.Demand.{count, keyFor, chunks, enoughAfter, T3, T3m}
 
 -- with FEC no chunk misses more than 48 bytes, by C6; without it 40 leaves m 0, so that none is lost
 pub survives : T3
@@ -31,3 +31,7 @@ survives g n packet es takes few =
     (λ fec.
     ap (λ (b : Bool). cond b coded plain) fec
     ∙ eq-eqb (losses gone (count g packet)) 0 (omega (arith, few, fitted g (in-bounds g packet (takes .passed) .ok) .m-fec fec)))
+
+-- the plan's figure is m
+pub survives-m : T3m
+survives-m g n packet es takes few = survives g n packet es takes (omega (arith, few, assures-m g (length packet)))

@@ -11,6 +11,7 @@ use Rattle.base_rules.specs.Tests.{among}
 use Rattle.cut_rules.specs.declared.Settings.{Settings}
 use Rattle.cut_rules.specs.Missing.{losses, suffice}
 use Rattle.cut_rules.specs.Sizes as cut
+use Rattle.header_rules.specs.Read.{badAddress}
 use Rattle.header_rules.specs.Claims.{Fitting}
 use Rattle.places_rules.specs.declared.Displaced.{Displaced}
 use Rattle.places_rules.specs.declared.Displaced.the-variants.{Number}
@@ -18,7 +19,7 @@ use Rattle.sender_rules.specs.Fragments.{fragmentFor}
 use Rattle.sender_rules.specs.Calls.{packetFault}
 use Rattle.receiver_rules.specs.declared.Received.the-variants.{Kept, Delivered, Damaged}
 use Rattle.receiver_rules.specs.Promise.{numberOf, State}
-use Rattle.link.specs.Run.{Call, after, Made, Run, Reached, Holds, ShownOpen, heard, numberIn, lost, All, Each}
+use Rattle.link.specs.Run.{Call, after, Made, Run, Reached, Holds, ShownOpen, heard, numberIn, indexIn, lost, All, Each}
 
 -- ---- what is supposed
 
@@ -140,11 +141,24 @@ Lifted =
     → Scene g n packet first es now
     → Each (λ earlier e. HeldAfter g n earlier → Said g n packet earlier e) es
 
--- "A sender set for m losses, 1 to 5, always leaves enough after any m": the plan's figure; C6 says of which m
+-- "A sender set for m losses, 1 to 5, always leaves enough after any m": of the m that it is set for,
+abbrev pub T3m : Type 0
+T3m =
+    (g : Settings) (n : ℕ) (packet : List ℕ) (es : List Call) → Takes g n packet
+    → losses (lost (keyFor g n) es) (count g packet) ≤ g .m → enoughAfter g n packet es ≡ true
+
+-- and of the figure that its plan is answered with, which is m
 abbrev pub T3 : Type 0
 T3 =
     (g : Settings) (n : ℕ) (packet : List ℕ) (es : List Call) → Takes g n packet
     → losses (lost (keyFor g n) es) (count g packet) ≤ cut.assured g (length packet) → enoughAfter g n packet es ≡ true
+
+-- "addresses match": a call whose configuration accepts the packet's address hears every fragment of it, as the one that it is
+abbrev pub MatchHeard : Type 0
+MatchHeard =
+    (g : Settings) (n : ℕ) (packet : List ℕ) → Takes g n packet → (e : Call) (i : ℕ) → i < count g packet
+    → e .datagram ≡ fragmentFor g n packet i → badAddress (e .own) (g .address) ≡ false
+    → (heard e ≡ true) × (numberIn e ≡ keyFor g n) × (indexIn e ≡ i)
 
 -- "the first fragment after which": what is enough stays enough, so there is one such call and no other
 abbrev pub StaysEnough : Type 0
