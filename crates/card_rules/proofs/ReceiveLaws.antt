@@ -21,7 +21,8 @@ use Rattle.base_rules.proofs.Firsts.{clear}
 use Rattle.code_rules.proofs.CallCases.{granted-by, refused-by}
 use Rattle.cut_rules.specs.declared.Address.{Address}
 use Rattle.packed_rules.specs.Packed.{table-bytes, packedOf, packCall, tableFrom, badRecord, unpackFault, unpackCall}
-use Rattle.packed_rules.specs.Claims.{Typed}
+use Rattle.packed_rules.specs.Claims.{Typed, TypedTable}
+use Rattle.packed_rules.proofs.Proved.{unpacks, packed-length}
 use Rattle.places_rules.specs.declared.Table.{Table}
 use Rattle.places_rules.specs.declared.Place.{Place}
 use Rattle.places_rules.specs.Places.{freePlace, freshTable}
@@ -127,17 +128,20 @@ module _ (own : Address) (datagram : List ℕ) (before after : Held) (r : ℕ) (
   -- a receiving that fits the promise of `receive`, packed again and told, fits that of the call for C
   pub received-there : (o : Address) (v : Written) (t : Table) (a : Received) → w ≡ Done → o ≡ own
       → Step o (record { table = x; bytes = before .lent }) datagram (before .out) (promise.outcome a t (after .lent) (after .out))
-      → length (packedOf t) ≡ table-bytes → outcome (numberOf v) (after .record-bytes) ≡ packCall t (before .record-bytes)
+      → TypedTable t → outcome (numberOf v) (after .record-bytes) ≡ packCall t (before .record-bytes)
       → (r ≡ promise.numberOf a .0) × (after .told ≡ toldAfter a (before .told)) → CardReceived own datagram before after r
   unfolding CardReceived
-  received-there o v t a done is-own step long packed said =
+  received-there o v t a done is-own step typed packed said =
       let s : List ℕ = before .record-bytes in
       let y : promise.Outcome = promise.outcome a t (after .lent) (after .out) in
+      let there : after .record-bytes ≡ packedOf t =
+      packed-there t s (after .record-bytes) v (packed-length t typed) (long-record s (good-record s w x e done .0)) packed in
       let with-record : ReceivedWith own datagram before after r x = record {
         answer = a;
         table = t;
         step = subst (λ (z : Address). Step z (record { table = x; bytes = before .lent }) datagram (before .out) y) is-own step;
-        packed = packed-there t s (after .record-bytes) v long (long-record s (good-record s w x e done .0)) packed;
+        packed = there;
+        read-back = ap unpackCall there ∙ unpacks t typed;
         told = said .1;
         number = said .0;
       } in

@@ -4,7 +4,7 @@ use mathlib.Core.Bool.{cond}
 use mathlib.Core.List.{List, [], _∷_, _++_}
 use Prim.Native.Nat.{ℕ}
 use lib.Dec.{eqb}
-use Rattle.base_rules.specs.Answer.{Answer, refused, answered, Outcome, settled}
+use Rattle.base_rules.specs.Answer.{Answer, granted, refused, answered, Outcome, settled}
 use Rattle.base_rules.specs.Answer as answers
 use Rattle.base_rules.specs.Bounds.{most-l}
 use Rattle.cut_rules.specs.declared.Address.{Address}
@@ -13,7 +13,7 @@ use Rattle.places_rules.specs.declared.Table.{Table}
 use Rattle.places_rules.specs.declared.Displaced.{Displaced}
 use Rattle.places_rules.specs.declared.Displaced.the-variants.{None, Number}
 use Rattle.places_rules.specs.Places.{free, freshTable, placeAt, keyIn}
-use Rattle.packed_rules.specs.Packed.{packedOf, tableFrom, unpackFault}
+use Rattle.packed_rules.specs.Packed.{packedOf, tableFrom, unpackFault, unpackCall}
 use Rattle.receiver_rules.specs.Promise.{numberOf, outcome, roomFault, Step}
 use Rattle.receiver_rules.specs.declared.Received.{Received}
 use Rattle.receiver_rules.specs.declared.Received.the-variants.{Kept, Delivered, Damaged, Refused}
@@ -85,6 +85,8 @@ pub record ReceivedWith (own : Address) (datagram : List ℕ) (before after : He
   pub table : Table
   pub step : Step own (record { table = t; bytes = before .lent }) datagram (before .out) (outcome answer table (after .lent) (after .out))
   pub packed : after .record-bytes ≡ packedOf table
+  -- card.h, "Both are as the last call left them": the next call reads that record back
+  pub read-back : unpackCall (after .record-bytes) ≡ (granted [], table)
   pub told : after .told ≡ toldAfter answer (before .told)
   pub number : r ≡ numberOf answer .0
 

@@ -5,7 +5,6 @@ use Prim.Native.Nat.{_<_}
 use native.Mathlib.Omega.{arith}
 use lib.ListN.{length}
 use Rattle.packed_rules.specs.Claims.{TypedTable}
-use Rattle.packed_rules.proofs.Proved.{packed-length}
 use Rattle.places_rules.specs.Places.{four, placeAt}
 use Rattle.places_rules.proofs.Records.{as-long}
 use Rattle.card_rules.specs.Calls.{addressOf}
@@ -47,7 +46,7 @@ returns-2 c =
     received-there (addressOf (a .addressed) (a .source) (a .dest)) (a .datagram .now) _ _ (said .tell-receipt .result)
     (opened .unpack .result .answer)
     (opened .unpack .result .table) (opened .unpack .ensures) (addressed .address-of .result) (packed .pack .result) t (got .receive .result .answer)
-    (told .enum-told .given .1) (addressed .address-of .ensures) (got .receive .ensures) (packed-length t typed) (packed .pack .ensures)
+    (told .enum-told .given .1) (addressed .address-of .ensures) (got .receive .ensures) typed (packed .pack .ensures)
     (said .tell-receipt .ensures)
 
 unpack-requires : tie.Need-unpack-requires
