@@ -14,7 +14,8 @@ use Rattle.card_rules.specs.Told.{toldIn, inWidths}
 
 -- ---- bytes that have place, and that are as many as all
 
-told-room : (before bytes : List ℕ) → length bytes ≤ length before → toldIn before bytes ≡ splice before 0 bytes
+-- bytes that have place are told at the front
+pub told-room : (before bytes : List ℕ) → length bytes ≤ length before → toldIn before bytes ≡ splice before 0 bytes
 unfolding toldIn
 told-room before bytes fits = ap (λ (b : Bool). cond b before (splice before 0 bytes)) (le-ltb (length before) (length bytes) fits)
 

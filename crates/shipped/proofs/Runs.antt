@@ -1,0 +1,112 @@
+-- A run of bailhammer_receive is one of `receive`: each call reads back the record that the last one left. Assumes nothing.
+use mathlib.Core.Path.{_≡_, refl, sym, ap₂, _∙_, subst}
+use mathlib.Core.List.{List, [], map}
+use Prim.Native.Nat.{ℕ}
+use lib.ListN.{length, replicate}
+use Rattle.base_rules.specs.Answer.{granted}
+use Rattle.base_rules.specs.Written.{numberOf}
+use Rattle.base_rules.specs.declared.Written.the-variants.{Done}
+use Rattle.packed_rules.specs.Packed.{table-bytes, tableFrom, unpackFault, unpackCall}
+use Rattle.places_rules.specs.declared.Table.{Table}
+use Rattle.places_rules.specs.Places.{freshTable}
+use Rattle.receiver_rules.specs.Promise as promise
+use Rattle.receiver_rules.specs.Promise.{Outcome, outcome, all-places, Step}
+use Rattle.card_rules.specs.Calls.{addressOf}
+use Rattle.card_rules.specs.Receiving.{Held, ReceivedWith}
+use Rattle.card_rules.proofs.Proved.{zeros-fresh}
+use Rattle.card_rules.proofs.ReceiveLaws.{good-record}
+use Rattle.card_rules.proofs.ReceiveProved.{with-record}
+use Rattle.link.specs.Run as link
+use Rattle.link.proofs.View.{Good}
+use Rattle.link.proofs.Frame.{good-after, good-fresh}
+use Rattle.shipped.specs.Runs.{Buffers, Call, after, Made, Run, start, next, freshWith, Reached, answerFrom, stateOf, callOf}
+use Rattle.shipped.specs.Runs.{IsRun, GoesOn, ReachedState}
+use Rattle.shipped.proofs.Read.{answer-back}
+use Rattle.shipped.proofs.Steps.{Small, small-fresh, step-fits, step-small}
+
+-- ---- buffers that calls have left
+
+-- the record in them is read, and its state is one that a call of a run goes on from
+pub record Stands (s : Buffers) : Type 0 where
+  pub read : unpackFault (s .table) ≡ 0
+  pub good : Good (stateOf s)
+  pub small : Small (stateOf s)
+
+-- bytes that are unpacked as a record have no fault, and are that record's
+taken : (bytes : List ℕ) (t : Table) → unpackCall bytes ≡ (granted [], t) → (unpackFault bytes ≡ 0) × (t ≡ tableFrom bytes)
+unfolding numberOf
+taken bytes t e = good-record bytes Done t (sym e) refl
+
+fresh-stands : (lent : List ℕ) → length lent ≡ all-places → Stands (freshWith lent)
+fresh-stands lent all =
+    let zeros = taken (replicate table-bytes 0) freshTable zeros-fresh in
+    record {
+      read = zeros .0;
+      good = subst (λ (t : Table). Good (record { table = t; bytes = lent })) (zeros .1) (good-fresh lent all);
+      small = subst (λ (t : Table). Small (record { table = t; bytes = lent })) (zeros .1) small-fresh;
+    }
+
+-- ---- a call
+
+module _ (s : Buffers) (e : Call) (stands : Stands s) (m : Made s e) where
+  abbrev before : Held
+  before = record { record-bytes = s .table; lent = s .lent; told = e .told; out = e .out }
+
+  with : ReceivedWith (addressOf (e .addressed) (e .source) (e .dest)) (e .datagram) before (e .left) (e .number) (tableFrom (s .table))
+  with = with-record (addressOf (e .addressed) (e .source) (e .dest)) (e .datagram) before (e .left) (e .number) (m .meets) (stands .read)
+
+  abbrev left : Outcome
+  left = outcome (with .answer) (with .table) (e .left .lent) (e .left .out)
+
+  -- what the caller reads of the call is what it left
+  read-left : left ≡ callOf e .left
+  unfolding outcome
+  read-left =
+      let fits = step-fits (callOf e .own) (stateOf s) (e .datagram) (e .out) left (stands .good) (stands .small) (m .room) (with .step) (with .answer) refl in
+      let answer : answerFrom (e .number) (e .left .told) ≡ promise.numberOf (with .answer) =
+      ap₂ answerFrom (with .number) (with .told) ∙ answer-back (with .answer) (e .told) (m .told-room) fits in
+      ap₂ (λ (a : ℕ × List ℕ) (t : Table). record { answer = a; table = t; bytes = e .left .lent; out = e .left .out })
+      (sym answer) (taken (e .left .record-bytes) (with .table) (with .read-back) .1)
+
+  made : link.Made (stateOf s) (callOf e)
+  made = record {
+    room = m .room;
+    bytes = m .bytes;
+    meets = subst (Step (callOf e .own) (stateOf s) (e .datagram) (e .out)) read-left (with .step);
+  }
+
+  call-stands : Stands (after e)
+  call-stands = record {
+    read = taken (e .left .record-bytes) (with .table) (with .read-back) .0;
+    good = good-after (stands .good) made;
+    small = step-small (callOf e .own) (stateOf s) (e .datagram) (e .out) (callOf e .left) (stands .good) (stands .small) (m .bytes) (m .room) (made .meets);
+  }
+
+-- ---- runs
+
+-- calls from such buffers on leave such buffers,
+pub run-stands : {s u : Buffers} {es : List Call} → Stands s → Run s es u → Stands u
+run-stands stands start = stands
+run-stands stands (next e run m) = call-stands _ e (run-stands stands run) m
+
+-- and are calls of `receive`
+pub run-link : {s u : Buffers} {es : List Call} → Stands s → Run s es u → link.Run (stateOf s) (map callOf es) (stateOf u)
+run-link stands start = link.start
+run-link stands (next e run m) = link.next (callOf e) (run-link stands run) (made _ e (run-stands stands run) m)
+
+-- every run from the fresh buffers is one of `receive` from a fresh table
+pub is-run : IsRun
+is-run lent all es now run =
+    subst (λ (t : Table). link.Run (record { table = t; bytes = lent }) (map callOf es) (stateOf now))
+    (sym (taken (replicate table-bytes 0) freshTable zeros-fresh .1))
+    (run-link (fresh-stands lent all) run)
+
+-- reached buffers are such buffers
+pub reached-stands : {s : Buffers} → Reached s → Stands s
+reached-stands c = run-stands (fresh-stands (c .lent) (c .all)) (c .run)
+
+pub goes-on : GoesOn
+goes-on first c es now run = run-link (reached-stands c) run
+
+pub reached-state : ReachedState
+reached-state s c = record { lent = c .lent; all = c .all; calls = map callOf (c .calls); run = is-run (c .lent) (c .all) (c .calls) s (c .run) }
