@@ -25,7 +25,7 @@ at-most-three until g n packet first es now scene begins others few among =
 -- T3b by T1 and T3: with no more fragments lost than the plan assures, and at most three other numbers, a packet is handed out
 pub handed-out : T1 → T3 → T3b
 handed-out three survives g n packet first es now scene begins others few among bearable =
-    three g n packet first es now scene begins others few among .2 (survives g n packet es (scene .takes) bearable)
+    three g n packet first es now scene begins others few among .2 (survives g n packet es (scene .takes) (omega (arith, bearable)))
 
 -- ---- the next packet
 
