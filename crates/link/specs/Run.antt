@@ -103,12 +103,14 @@ come n (e ∷ es) i = (heard e && (eqb (numberIn e) n && eqb (indexIn e) i)) || 
 abbrev pub lost : ℕ → List Call → ℕ → Bool
 lost n es i = not (come n es i)
 
--- every call of a list
-unfoldable pub All : (Call → Type 0) → List Call → Type 0
+-- ---- of every call
+
+-- of all of a list,
+unfoldable pub All : {A : Type 0} → (A → Type 0) → List A → Type 0
 All P [] = Unit {0}
 All P (e ∷ es) = P e × All P es
 
--- every call of a list, with the calls before it
-unfoldable pub Each : (List Call → Call → Type 0) → List Call → Type 0
+-- and of each with those before it
+unfoldable pub Each : {A : Type 0} → (List A → A → Type 0) → List A → Type 0
 Each P [] = Unit {0}
 Each P (e ∷ es) = P es e × Each P es
