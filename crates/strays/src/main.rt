@@ -1,6 +1,7 @@
 // Hands the receiver records of which one field is at the edge of its range or past it, in each of the four places, and prints a line
 // for each: the place, the field, its value, and the numbers with which receive, query and clear refuse, 0 where they do not. The
-// datagram is empty, so receive refuses a record in range with 2.
+// datagram is empty, so receive refuses a record in range with 2. Then three records in range that no calls leave, each with a
+// fragment of the packet that they are of: the number of the answer, and how many bytes are handed out.
 use base::MOST_L;
 use base::PLACE;
 use base::Written;
@@ -39,6 +40,20 @@ fn received_number(a: Received) -> usize {
         } => 0,
         Received::Damaged(_) => 13,
         Received::Refused(n) => n as usize,
+    }
+}
+
+// How many bytes an answer hands out.
+fn handed_length(a: Received) -> usize {
+    match a {
+        Received::Kept(_) => 0,
+        Received::Delivered {
+            length,
+            missing: _,
+            displaced: _,
+        } => length,
+        Received::Damaged(_) => 0,
+        Received::Refused(_) => 0,
     }
 }
 
@@ -183,6 +198,171 @@ fn oldest(value: u8) {
     tell(4, b" oldest ", value as usize, t);
 }
 
+// Fragment 0 of two, without FEC, of number 7: its payload is a whole AF packet of 12 bytes.
+const FIRST: [u8; 26] = [
+    0x50,
+    0x46,
+    0x00,
+    0x07,
+    0x00,
+    0x00,
+    0x00,
+    0x00,
+    0x00,
+    0x02,
+    0x00,
+    0x0c,
+    0x3a,
+    0x70,
+    0x41,
+    0x46,
+    0x00,
+    0x00,
+    0x00,
+    0x00,
+    0x00,
+    0x01,
+    0x10,
+    0x54,
+    0x00,
+    0x00,
+];
+
+// Fragment 1 of two with the same payload.
+const LAST: [u8; 26] = [
+    0x50,
+    0x46,
+    0x00,
+    0x07,
+    0x00,
+    0x00,
+    0x01,
+    0x00,
+    0x00,
+    0x02,
+    0x00,
+    0x0c,
+    0x7f,
+    0xd0,
+    0x41,
+    0x46,
+    0x00,
+    0x00,
+    0x00,
+    0x00,
+    0x00,
+    0x01,
+    0x10,
+    0x54,
+    0x00,
+    0x00,
+];
+
+// Fragment 0 of two with FEC, k 12 and z 0, of number 7: 30 zeros.
+const CODED: [u8; 46] = [
+    0x50,
+    0x46,
+    0x00,
+    0x07,
+    0x00,
+    0x00,
+    0x00,
+    0x00,
+    0x00,
+    0x02,
+    0x80,
+    0x1e,
+    0x0c,
+    0x00,
+    0xc3,
+    0x6f,
+    0,
+    0,
+    0,
+    0,
+    0,
+    0,
+    0,
+    0,
+    0,
+    0,
+    0,
+    0,
+    0,
+    0,
+    0,
+    0,
+    0,
+    0,
+    0,
+    0,
+    0,
+    0,
+    0,
+    0,
+    0,
+    0,
+    0,
+    0,
+    0,
+    0,
+];
+
+// An open place of number 7 that waits for two fragments without FEC.
+fn of_two() -> Place {
+    let mut p = sound();
+    p.count = 2;
+    p.fec = false;
+    p.rsk = 0;
+    p.rsz = 0;
+    p.size = 0;
+    p
+}
+
+// The line of a record that no calls leave: what a fragment is answered there.
+fn stray(name: &[u8], p: Place, datagram: &[u8]) {
+    let mut lent = [0u8; ALL];
+    let mut out = [0u8; MOST_L];
+    let t = places::with_place(places::fresh(), 0, p);
+    let reply = receiver::receive(Address::None, t, &mut lent, datagram, &mut out);
+    let answer = reply.answer;
+    let mut line = [0u8; 80];
+    let mut at = text::plain(&mut line, 0, b"stray ");
+    at = text::plain(&mut line, at, name);
+    at = text::plain(&mut line, at, b" ");
+    at = text::decimal(&mut line, at, received_number(answer));
+    at = text::plain(&mut line, at, b" ");
+    at = text::decimal(&mut line, at, handed_length(answer));
+    at = text::plain(&mut line, at, b"\n");
+    show(&line, at);
+}
+
+// Fragment 0 is marked kept, and s is unknown: the last one makes all, and it alone is handed out.
+fn without_size() {
+    let mut p = of_two();
+    p.kept[0] = true;
+    stray(b"size", p, &LAST);
+}
+
+// The last is marked kept, with no bytes: fragment 0 makes all, and it alone is handed out.
+fn without_last() {
+    let mut p = of_two();
+    p.kept[1] = true;
+    stray(b"last", p, &FIRST);
+}
+
+// With FEC all are kept, and the place is open: each fragment is a repeat, and nothing is ever handed out.
+fn overdue() {
+    let mut p = sound();
+    p.count = 2;
+    p.rsk = 12;
+    p.rsz = 0;
+    p.size = 30;
+    p.kept[0] = true;
+    p.kept[1] = true;
+    stray(b"open", p, &CODED);
+}
+
 fn main() {
     place(0);
     place(1);
@@ -191,4 +371,7 @@ fn main() {
     oldest(3);
     oldest(4);
     oldest(255);
+    without_size();
+    without_last();
+    overdue();
 }
