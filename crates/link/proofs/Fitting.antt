@@ -4,7 +4,7 @@ use mathlib.Core.Bool.{Bool, true, false, not, cond, Bool·beq}
 use Prim.Native.Nat.{ℕ, _+_, _*_, _≤_, _<_}
 use native.Mathlib.Nat.{mul-le-mul-right}
 use native.Mathlib.Omega.{arith}
-use borrow.Author.Tests.{leb-true, not-false}
+use borrow.Author.Tests.{leb-true, not-false, eqb-false}
 use lib.Dec.{leb, eqb}
 use lib.ListN.{getD}
 use Rattle.base_rules.proofs.Firsts.{clear, clear-rest}
@@ -12,7 +12,7 @@ use Rattle.base_rules.proofs.Logic.{either, clash, and-right, or-left, or-right
 use Rattle.header_rules.specs.declared.Header.{Header}
 use Rattle.header_rules.specs.Claims.{Sound}
 use Rattle.places_rules.specs.declared.Place.{Place}
-use Rattle.places_rules.specs.Places.{delivered, spoiled, isLast, offsetOf}
+use Rattle.places_rules.specs.Places.{free, open-now, delivered, spoiled, isLast, offsetOf}
 use Rattle.places_rules.specs.Places.{keptIn}
 use Rattle.places_rules.specs.Faults.{badSizeIn, mismatch, placeFault}
 use Rattle.places_rules.proofs.Checks as checks
@@ -22,11 +22,17 @@ use Rattle.link.proofs.Basic.{same-or-not, less-or-not}
 
 -- ---- a fragment that a place keeps has the place's figures
 
--- the place has the header's count and FEC bit, and its Plen as size, or as last where it is the last
-pub record Fits (p : Place) (h : Header) : Type 0 where
-  pub sound : Sound h
+-- the fragment is of the place's cut: the place has its header's Fcount, FEC bit, RSk and RSz
+pub record OfCut (p : Place) (h : Header) : Type 0 where
   pub count : p .count ≡ h .count
   pub fec : p .fec ≡ h .fec
+  pub rsk : p .rsk ≡ h .rsk
+  pub rsz : p .rsz ≡ h .rsz
+
+-- and the place has its Plen as size, or as last where it is the last
+pub record Fits (p : Place) (h : Header) : Type 0 where
+  pub sound : Sound h
+  pub cut : OfCut p h
   pub size : isLast h ≡ false → p .size ≡ h .plen
   pub last : isLast h ≡ true → p .last ≡ h .plen
 
@@ -38,19 +44,39 @@ beq-equal false false e = refl
 
 -- what a place that does not refuse a fragment tells of it
 module _ (p : Place) (h : Header) (passes : placeFault p h ≡ 0) where
+  none-due : (eqb (p .condition) spoiled ≡ false) × (eqb (p .condition) delivered ≡ false) × (getD (p .kept) (h .index) false ≡ false)
+  unfolding placeFault
+  none-due =
+      let r₉ = clear-rest (mismatch p h) 9 _ (λ z. omega arith) passes in
+      let r₁₀ = clear-rest (eqb (p .condition) spoiled) 10 _ (λ z. omega arith) r₉ in
+      let r₁₁ = clear-rest (eqb (p .condition) delivered) 11 _ (λ z. omega arith) r₁₀ in (
+        clear (eqb (p .condition) spoiled) 10 _ (λ z. omega arith) r₉,
+        clear (eqb (p .condition) delivered) 11 _ (λ z. omega arith) r₁₀,
+        clear (getD (p .kept) (h .index) false) 12 _ (λ z. omega arith) r₁₁,
+      )
+
   -- its index is not kept yet
   pub is-new : getD (p .kept) (h .index) false ≡ false
-  unfolding placeFault
-  is-new =
-      clear (getD (p .kept) (h .index) false) 12 _ (λ z. omega arith)
-      (clear-rest (eqb (p .condition) delivered) 11 _ (λ z. omega arith)
-      (clear-rest (eqb (p .condition) spoiled) 10 _ (λ z. omega arith) (clear-rest (mismatch p h) 9 _ (λ z. omega arith) passes)))
+  is-new = none-due .2
 
-  -- its FEC bit is the place's
-  pub same-fec : p .fec ≡ h .fec
+  -- the place is open, where it is in range and not free
+  pub still-open : (p .condition ≡ free → ⊥) → p .condition ≤ spoiled → p .condition ≡ open-now
+  still-open some known = omega (arith, eqb-false (p .condition) spoiled (none-due .0), eqb-false (p .condition) delivered (none-due .1))
+
+  -- it is of the place's cut
+  pub of-cut : OfCut p h
   unfolding mismatch
-  same-fec = beq-equal _ _ (not-false _ (or-left (not (Bool·beq (p .fec) (h .fec))) _
-      (or-right (not (eqb (p .count) (h .count))) _ (matched p h passes))))
+  of-cut =
+      let e₀ : mismatch p h ≡ false = matched p h passes in
+      let e₁ = or-right (not (eqb (p .count) (h .count))) _ e₀ in
+      let e₂ = or-right (not (Bool·beq (p .fec) (h .fec))) _ e₁ in
+      let e₃ = or-right (not (eqb (p .rsk) (h .rsk))) _ e₂ in
+      record {
+        count = same-from (or-left (not (eqb (p .count) (h .count))) _ e₀);
+        fec = beq-equal _ _ (not-false _ (or-left (not (Bool·beq (p .fec) (h .fec))) _ e₁));
+        rsk = same-from (or-left (not (eqb (p .rsk) (h .rsk))) _ e₂);
+        rsz = same-from (or-left (not (eqb (p .rsz) (h .rsz))) _ e₃);
+      }
 
   right-size : badSizeIn p h ≡ false
   right-size = size-fits p h (matched p h passes)
@@ -84,26 +110,28 @@ module _ (p : Place) (h : Header) where
   unfolding keptIn
   last-ends e = ap (λ (v : Bool). cond v (h .plen) (p .last)) e
 
-  -- the fragment that is kept,
-  pub itself-fits : Sound h → p .count ≡ h .count → p .fec ≡ h .fec → Fits (keptIn p h) h
+  -- to keep one changes nothing of the cut
+  cut-kept : (k : Header) → OfCut p k → OfCut (keptIn p h) k
   unfolding keptIn
-  itself-fits s c f = record { sound = s; count = c; fec = f; size = size-inner; last = last-ends }
+  cut-kept k c = record { count = c .count; fec = c .fec; rsk = c .rsk; rsz = c .rsz }
+
+  -- the fragment that is kept,
+  pub itself-fits : Sound h → OfCut p h → Fits (keptIn p h) h
+  itself-fits s c = record { sound = s; cut = cut-kept h c; size = size-inner; last = last-ends }
 
   -- and each that was kept before
-  pub still-fits : (k : Header) → Fits p k → (k .index ≡ h .index → ⊥) → Sound h → p .count ≡ h .count → placeFault p h ≡ 0 → Fits (keptIn p h) k
-  unfolding keptIn
-  still-fits k f other s c passes =
+  pub still-fits : (k : Header) → Fits p k → (k .index ≡ h .index → ⊥) → Sound h → placeFault p h ≡ 0 → Fits (keptIn p h) k
+  still-fits k f other s passes =
       record {
         sound = f .sound;
-        count = f .count;
-        fec = f .fec;
+        cut = cut-kept k (f .cut);
         size = λ e.
             either (isLast h)
             (λ l. size-ends l ∙ f .size e)
             (λ l. size-inner l ∙ sym (same-size p h passes l (λ z. omega (arith, f .size e, f .sound .some))) ∙ f .size e);
         last = λ e.
             either (isLast h)
-            (λ l. absurd (other (omega (arith, last-index h s l, last-index k (f .sound) e, f .count))))
+            (λ l. absurd (other (omega (arith, last-index h s l, last-index k (f .sound) e, f .cut .count, of-cut p h passes .count))))
             (λ l. last-inner l ∙ f .last e);
       }
 
@@ -119,7 +147,7 @@ module _ (q : Place) (r : InRange q) where
   before-last : (h k : Header) → Fits q h → Fits q k → (h .index ≡ k .index → ⊥) → isLast h ≡ false → isLast k ≡ true
       → offsetOf h + h .plen ≤ offsetOf k
   before-last h k f g other e l =
-      let one : k .index + 1 ≡ q .count = last-index k (g .sound) l ∙ sym (g .count) in
+      let one : k .index + 1 ≡ q .count = last-index k (g .sound) l ∙ sym (g .cut .count) in
       let all : (k .index + 1) * q .size ≡ q .count * q .size = ap (λ (x : ℕ). x * q .size) one in
       omega (
         arith,
@@ -134,7 +162,7 @@ module _ (q : Place) (r : InRange q) where
       )
     where
       below : k .index + 1 ≡ q .count → h .index < k .index
-      below one = omega (arith, f .sound .below, f .count)
+      below one = omega (arith, f .sound .below, f .cut .count)
 
   -- of two fragments with different indices in a place in range, one ends before the other begins
   pub apart : {P : Type 0} (h k : Header) → Fits q h → Fits q k → (h .index ≡ k .index → ⊥)
@@ -143,7 +171,7 @@ module _ (q : Place) (r : InRange q) where
       either (isLast h)
       (λ e.
       either (isLast k)
-      (λ l. absurd (other (omega (arith, last-index h (f .sound) e, last-index k (g .sound) l, f .count, g .count))))
+      (λ l. absurd (other (omega (arith, last-index h (f .sound) e, last-index k (g .sound) l, f .cut .count, g .cut .count))))
       (λ l. b (before-last k h g f (λ z. other (sym z)) l e)))
       (λ e.
       either (isLast k)

@@ -53,7 +53,8 @@ module _ (u : Table) (j : ℕ) (p : Place) (below : j < four) (size : length (u 
   unfolding withPlace
   twice q = ap (λ (l : List Place). record { places = l; oldest = u .oldest }) (set-set (u .places) j p q)
 
-  closed-again : (c : ℕ) → closedAt (withPlace u j p) j c ≡ withPlace u j (inCondition p c)
+  -- to close a place that was just written is to write it closed
+  pub closed-again : (c : ℕ) → closedAt (withPlace u j p) j c ≡ withPlace u j (inCondition p c)
   unfolding closedAt
   closed-again c = twice (inCondition (placeAt (withPlace u j p) j) c)
       ∙ ap (λ (q : Place). withPlace u j (inCondition q c)) (written-place u j p size below)

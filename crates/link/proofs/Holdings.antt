@@ -31,12 +31,13 @@ use Rattle.link.proofs.View.{Good, View, unheard, refuses, keeps, opens
 use Rattle.link.proofs.Frame.{Wrote, wrote-held, wrote-opened, Spared, wrote-spares, see}
 use Rattle.link.proofs.Frame.{good-run, good-fresh, good-reached}
 use Rattle.link.proofs.Ring.{none-held}
-use Rattle.link.proofs.Fitting.{Fits, is-new, same-fec, itself-fits, still-fits}
+use Rattle.link.proofs.Fitting.{Fits, is-new, of-cut, itself-fits, still-fits}
 use Rattle.link.proofs.Standing.{stood-old, stood-new, Stood, stands-there, part-there, stood-spared, unchanged, Put, put-in, number-here, old-here}
 
 -- ---- each fragment that place i keeps came
 
-abbrev At : List Call → State → ℕ → Type 0
+-- each fragment that place i keeps came in one of these calls, and stands there
+abbrev pub At : List Call → State → ℕ → Type 0
 At es s i =
     (n j : ℕ) → holds (placeAt (s .table) i) n ≡ true → getD (placeAt (s .table) i .kept) j false ≡ true
     → (k : Call) × Stood k es (placeAt (s .table) i) (s .bytes) i n j
@@ -85,7 +86,7 @@ module _ (e : Call) (es : List Call) (s : State) (good : Good s) (bytes : Bytes 
   range = range-kept p h′ sound was fit-in
 
   fit : Fits (keptIn p h′) h′
-  fit = itself-fits p h′ sound (fit-in .count) (same-fec p h′ fine)
+  fit = itself-fits p h′ sound (of-cut p h′ fine)
 
   not-it : (j : ℕ) → getD (p .kept) j false ≡ true → j ≡ h′ .index → ⊥
   not-it j b q = clash b (ap (λ (x : ℕ). getD (p .kept) x false) q ∙ is-new p h′ fine)
@@ -94,7 +95,7 @@ module _ (e : Call) (es : List Call) (s : State) (good : Good s) (bytes : Bytes 
       → Stood k (e ∷ es) (placeAt (e .left .table) at) (e .left .bytes) at n j
   stood-on k n j z b =
       stood-old e es s good bytes passes p at low put range fit k n j z
-      (still-fits p h′ (fieldsOf (k .datagram)) (z .fits) (λ q. not-it j b (sym (z .index) ∙ q)) sound (fit-in .count) fine) (not-it j b)
+      (still-fits p h′ (fieldsOf (k .datagram)) (z .fits) (λ q. not-it j b (sym (z .index) ∙ q)) sound fine) (not-it j b)
 
   at-held : At es s at → At (e ∷ es) (after e) at
   at-held all n j a b =
@@ -140,7 +141,7 @@ module _ (e : Call) (es : List Call) (s : State) (good : Good s) (bytes : Bytes 
 
   new-fits : Fits (keptIn (openedBy new) new) new
   unfolding openedBy
-  new-fits = itself-fits (openedBy new) new new-sound refl refl
+  new-fits = itself-fits (openedBy new) new new-sound (record { count = refl; fec = refl; rsk = refl; rsz = refl })
 
   at-opened : At (e ∷ es) (after e) (openAt (s .table))
   at-opened n j a b =
@@ -178,7 +179,8 @@ at-run : {s u : State} {es : List Call} → Good s → ((i : ℕ) → i < four �
 at-run r all start = all
 at-run r all (next e run m) = let g = good-run r run in at-view g m (at-run r all run) (see g m)
 
-at-reached : {s : State} (c : Reached s) (i : ℕ) → i < four → At (c .calls) s i
+-- in every reached state, each fragment that a place keeps came and stands there
+pub at-reached : {s : State} (c : Reached s) (i : ℕ) → i < four → At (c .calls) s i
 at-reached c = at-run (good-fresh (c .lent) (c .all)) (λ i l n j a b. clash a (none-held i n l)) (c .run)
 
 -- each fragment that a place keeps came since the place was opened for its number, and its payload is held
@@ -191,6 +193,10 @@ held-came s c i n j l a b =
       passed = one .1 .passed;
       number = one .1 .number;
       index = one .1 .index;
+      count = sym (one .1 .fits .cut .count);
+      fec = sym (one .1 .fits .cut .fec);
+      rsk = sym (one .1 .fits .cut .rsk);
+      rsz = sym (one .1 .fits .cut .rsz);
       stands = stands-there (one .1);
       part = part-there (one .1);
     }

@@ -1,10 +1,12 @@
 pub mod Basic
 pub mod View
 pub mod Frame
-pub mod Ring
 pub mod Fitting
+pub mod Waits
+pub mod Ring
 pub mod Standing
 pub mod Holdings
+pub mod Strays
 pub mod Three
 pub mod Survives
 pub mod Shown

@@ -2,7 +2,7 @@
 use Rattle.link.specs.Run.{SomeRun}
 use Rattle.link.specs.Demand.{Demand3, Lifted, T3m, T3, MatchHeard, StaysEnough, NamesGone}
 use Rattle.link.specs.Steps.{T1, T2, T3b, Again}
-use Rattle.link.specs.Reached.{StaysInRange, GoesRound, HeldOnce, PartsApart, HeldCame, StaysKept}
+use Rattle.link.specs.Reached.{StaysInRange, GoesRound, HeldOnce, PartsApart, OpenWaits, ClosedSuffices, HeldCame, StaysKept, NoStray}
 use Rattle.link.specs.Useless.{SomeKeep, Falls}
 use Rattle.link.specs.Examples.{ThreeOthers, FourOthers}
 use Rattle.link.proofs.Alarm as alarm
@@ -12,6 +12,7 @@ use Rattle.link.proofs.Holdings as holdings
 use Rattle.link.proofs.Link as link
 use Rattle.link.proofs.Ring as ring
 use Rattle.link.proofs.Runs as runs
+use Rattle.link.proofs.Strays as strays
 use Rattle.link.proofs.Survives.{survives, survives-m}
 use Rattle.link.proofs.Until.{until-displaced}
 use Rattle.link.proofs.Useless as useless
@@ -68,11 +69,20 @@ held-once = ring.held-once
 pub parts-apart : PartsApart
 parts-apart = ring.parts-apart
 
+pub open-waits : OpenWaits
+open-waits = ring.open-waits
+
+pub closed-suffices : ClosedSuffices
+closed-suffices = ring.closed-suffices
+
 pub held-came : HeldCame
 held-came = holdings.held-came
 
 pub stays-kept : StaysKept
 stays-kept = holdings.stays-kept
+
+pub no-stray : NoStray
+no-stray = strays.no-stray
 
 -- ---- what falls
 

@@ -1,4 +1,5 @@
--- Opening goes round, no number is held twice, and the fragments of a place do not overlap, in every reached state. Assumes nothing.
+-- Opening goes round, no number is held twice, each place is open just while what it holds does not suffice, and the fragments of a place do not
+-- overlap, in every reached state. Assumes nothing.
 use mathlib.Core.Path.{_≡_, refl, sym, ap, _∙_, subst}
 use mathlib.Core.Bool.{true, false}
 use mathlib.Core.List.{List}
@@ -12,17 +13,19 @@ use Rattle.header_rules.specs.declared.Header.{Header}
 use Rattle.header_rules.specs.Read.{fieldsOf}
 use Rattle.places_rules.specs.declared.Place.{Place}
 use Rattle.places_rules.specs.declared.Table.{Table}
-use Rattle.places_rules.specs.Places.{four, free, freePlace, freshTable, placeAt, keyOf, holds, heldAt, openAt, turned}
+use Rattle.places_rules.specs.Places.{four, free, freePlace, freshTable, placeAt, keyOf, holds, heldAt, openAt, turned, openedBy}
 use Rattle.places_rules.specs.Claims.{Opened}
 use Rattle.places_rules.proofs.Ranges.{range-from}
 use Rattle.places_rules.proofs.Proved.{fresh-is-opened, next-is-opened, kept-is-opened}
-use Rattle.receiver_rules.specs.Promise.{Outcome, outcome, State}
+use Rattle.receiver_rules.specs.Promise.{Outcome, outcome, State, keepAt}
 use Rattle.receiver_rules.proofs.Ranges.{place-fine}
 use Rattle.link.specs.Run.{Call, after, Made, Run, start, next, Reached}
-use Rattle.link.specs.Reached.{StaysInRange, GoesRound, HeldOnce, PartsApart}
+use Rattle.link.specs.Reached.{StaysInRange, GoesRound, HeldOnce, PartsApart, OpenWaits, ClosedSuffices}
 use Rattle.link.proofs.Basic.{same-or-not, held-found, held-absent, holds-number, holds-some}
 use Rattle.link.proofs.View.{View, unheard, refuses, keeps, opens, Good}
 use Rattle.link.proofs.Frame.{leftBy, Wrote, wrote-held, wrote-opened, see, good-run, good-fresh, good-reached}
+use Rattle.link.proofs.Fitting.{still-open}
+use Rattle.link.proofs.Waits.{Weighed, weighed-free, weighed-kept}
 
 -- ---- opening goes round
 
@@ -60,25 +63,41 @@ module _ {s : State} {u : Table} {h : Header} {j : ℕ} {y : Outcome} (w : Wrote
       (λ another.
       once i k n a b (sym (ap (λ (x : Place). holds x n) (w .others i other)) ∙ p) (sym (ap (λ (x : Place). holds x n) (w .others k another)) ∙ q)))
 
+-- ---- each place is open just while what it holds does not suffice
+
+abbrev AllWeighed : State → Type 0
+AllWeighed s = (i : ℕ) → i < four → Weighed (placeAt (s .table) i)
+
+weighed-wrote : {s : State} {u : Table} {h : Header} {j : ℕ} {y : Outcome} → Wrote s u h j y → AllWeighed s → Weighed (placeAt (y .table) j)
+    → AllWeighed (leftBy y)
+weighed-wrote {j} {y} w all here i l =
+    same-or-not i j
+    (λ e. subst (λ (k : ℕ). Weighed (placeAt (y .table) k)) (sym e) here)
+    (λ other. subst Weighed (sym (w .others i other)) (all i l))
+
 -- ---- of every reached state
 
 record Standing (s : State) : Type 0 where
   pub turns : ℕ
   pub ring : Opened turns (s .table)
   pub once : Once s
+  pub weighed : AllWeighed s
 
 standing-view : {s : State} {e : Call} → Good s → Made s e → Standing s → View (e .own) s (e .datagram) (e .lent) (e .left) → Standing (after e)
-unfolding outcome keyOf
+unfolding outcome keyOf turned openedBy keepAt
 standing-view r m z (unheard n q) = subst (λ (y : Outcome). Standing (leftBy y)) (sym q) z
 standing-view r m z (refuses heard low f q) = subst (λ (y : Outcome). Standing (leftBy y)) (sym q) z
 standing-view {s} {e} r m z (keeps heard low f settled) =
     let w = wrote-held (e .own) s r (e .datagram) (e .lent) (m .bytes) heard (e .left) _ refl low f settled in
     let held : holds (placeAt (s .table) (heldAt (s .table) (keyOf (fieldsOf (e .datagram)))))
     (keyOf (fieldsOf (e .datagram))) ≡ true = held-found (s .table) _ low in
+    let range = range-from _ (place-fine (s .table) (r .ranged) _ low) in
     record {
       turns = z .turns;
       ring = ring-kept (z .turns) (z .ring) w (holds-some _ _ held);
       once = once-wrote w (z .once) (λ k l a. z .once k _ _ l low a held);
+      weighed = weighed-wrote w (z .weighed) (weighed-kept (s .table) _ _ (fieldsOf (e .datagram)) low (r .places)
+          (still-open _ (fieldsOf (e .datagram)) f (holds-some _ _ held) (range .condition)) settled);
     }
 standing-view {s} {e} r m z (opens heard high settled) =
     let w = wrote-opened (e .own) s r (e .datagram) (e .lent) (m .bytes) heard (e .left) _ settled in
@@ -86,19 +105,31 @@ standing-view {s} {e} r m z (opens heard high settled) =
       turns = z .turns + 1;
       ring = ring-opened (z .turns) (z .ring) w;
       once = once-wrote w (z .once) (λ k l a. clash a (held-absent (s .table) _ high k l));
+      weighed = weighed-wrote w (z .weighed) (weighed-kept (turned (s .table) (openAt (s .table))) _ _ (fieldsOf (e .datagram)) (w .below)
+          (r .places) refl settled);
     }
 
 standing-run : {s u : State} {es : List Call} → Good s → Standing s → Run s es u → Standing u
 standing-run r z start = z
 standing-run r z (next e run m) = let g = good-run r run in standing-view g m (standing-run r z run) (see g m)
 
+fresh-free : (i : ℕ) → i < four → placeAt freshTable i ≡ freePlace
+unfolding freshTable placeAt
+fresh-free i l = getD-replicate four i freePlace freePlace l
+
 -- no place of a fresh table holds a number
 pub none-held : (i n : ℕ) → i < four → holds (placeAt freshTable i) n ≡ false
-unfolding freshTable placeAt holds
-none-held i n l = ap (λ (p : Place). holds p n) (getD-replicate four i freePlace freePlace l)
+unfolding holds
+none-held i n l = ap (λ (p : Place). holds p n) (fresh-free i l)
 
 standing-fresh : (b : List ℕ) → Standing (record { table = freshTable; bytes = b })
-standing-fresh b = record { turns = 0; ring = fresh-is-opened; once = λ i j n k l a c. clash a (none-held i n k) }
+standing-fresh b =
+    record {
+      turns = 0;
+      ring = fresh-is-opened;
+      once = λ i j n k l a c. clash a (none-held i n k);
+      weighed = λ i l. subst Weighed (sym (fresh-free i l)) weighed-free;
+    }
 
 standing : {s : State} → Reached s → Standing s
 standing c = standing-run (good-fresh (c .lent) (c .all)) (standing-fresh (c .lent)) (c .run)
@@ -114,6 +145,14 @@ goes-round s c = let z = standing c in (z .turns, z .ring)
 -- in every reached state no number is held in two places
 pub held-once : HeldOnce
 held-once s c = standing c .once
+
+-- in every reached state, what an open place holds does not suffice
+pub open-waits : OpenWaits
+open-waits s c i l = standing c .weighed i l .while-open
+
+-- in every reached state, what a delivered or spoiled place holds suffices
+pub closed-suffices : ClosedSuffices
+closed-suffices s c i l = standing c .weighed i l .once-closed
 
 -- ---- the fragments of a place do not overlap
 

@@ -58,8 +58,8 @@ module _ {k : Call} {es : List Call} {p : Place} {b : List ℕ} {i n j : ℕ} (z
   last-told : (not (p .fec) && leb (p .count) (j + 1)) ≡ isLast f
   unfolding isLast
   last-told =
-      ap (λ (v : Bool). not v && leb (p .count) (j + 1)) (z .fits .fec)
-      ∙ ap₂ (λ (c x : ℕ). not (f .fec) && leb c (x + 1)) (z .fits .count) (sym (z .index))
+      ap (λ (v : Bool). not v && leb (p .count) (j + 1)) (z .fits .cut .fec)
+      ∙ ap₂ (λ (c x : ℕ). not (f .fec) && leb c (x + 1)) (z .fits .cut .count) (sym (z .index))
 
   -- and where the figures of the place say
   pub part-there : partIn p (bytesAt b i) j ≡ payloadOf (k .datagram)
@@ -126,7 +126,14 @@ put-in e s u i p l size low some known settled =
 
 closed-fits : (p : Place) (c : ℕ) (h : Header) → Fits p h → Fits (inCondition p c) h
 unfolding inCondition
-closed-fits p c h f = record { sound = f .sound; count = f .count; fec = f .fec; size = f .size; last = f .last }
+closed-fits p c h f =
+    let cut = f .cut in
+    record {
+      sound = f .sound;
+      cut = record { count = cut .count; fec = cut .fec; rsk = cut .rsk; rsz = cut .rsz };
+      size = f .size;
+      last = f .last;
+    }
 
 module _ (e : Call) (es : List Call) (s : State) (good : Good s) (bytes : Bytes (e .datagram)) (passes : faultOf (e .own) (e .datagram) ≡ 0)
     (p : Place) (i : ℕ) (low : i < four) (put : Put e s p i) where

@@ -8,9 +8,10 @@ use lib.ListN.{length, getD, take, drop}
 use Rattle.base_rules.specs.Bounds.{place}
 use Rattle.header_rules.specs.Read.{fieldsOf}
 use Rattle.places_rules.specs.declared.Place.{Place}
-use Rattle.places_rules.specs.Places.{four, placeAt, holds, openAt, offsetOf}
+use Rattle.places_rules.specs.Places.{four, free, open-now, delivered, spoiled, placeAt, holds, openAt, offsetOf}
 use Rattle.places_rules.specs.Faults.{badTable}
 use Rattle.places_rules.specs.Claims.{Opened}
+use Rattle.form_rules.specs.Agree.{enoughIn}
 use Rattle.receiver_rules.specs.Promise.{State, all-places, payloadOf, bytesAt}
 use Rattle.link.specs.Run.{Call, Made, Reached, Holds, heard, numberIn, indexIn}
 
@@ -33,6 +34,19 @@ abbrev pub PartsApart : Type 0
 PartsApart =
     (s : State) → Reached s → (i : ℕ) → i < four → (placeAt (s .table) i .count - 1) * placeAt (s .table) i .size + placeAt (s .table) i .last ≤ place
 
+-- ---- when a place is open
+
+-- "hand a packet out at the first fragment with which the code can fill every chunk": what an open place holds does not suffice,
+abbrev pub OpenWaits : Type 0
+OpenWaits = (s : State) → Reached s → (i : ℕ) → i < four → placeAt (s .table) i .condition ≡ open-now → enoughIn (placeAt (s .table) i) ≡ false
+
+-- "and never before": what a delivered or spoiled one holds does
+abbrev pub ClosedSuffices : Type 0
+ClosedSuffices =
+    (s : State) → Reached s → (i : ℕ) → i < four
+    → (placeAt (s .table) i .condition ≡ delivered → enoughIn (placeAt (s .table) i) ≡ true)
+    × (placeAt (s .table) i .condition ≡ spoiled → enoughIn (placeAt (s .table) i) ≡ true)
+
 -- ---- what a place holds is what came since it was opened, whoever sent it
 
 -- document 01: the bytes that a place has for its fragment j, by its own figures; without FEC the last stands at the place's end
@@ -54,6 +68,11 @@ pub record Came (es : List Call) (s : State) (i n j : ℕ) : Type 0 where
   pub passed : heard call ≡ true
   pub number : numberIn call ≡ n
   pub index : indexIn call ≡ j
+  -- a place keeps fragments of one cut: document 01, 9, refuses one of a number that is "held with other Fcount, FEC bit, RSk, RSz"
+  pub count : fieldsOf (call .datagram) .count ≡ placeAt (s .table) i .count
+  pub fec : fieldsOf (call .datagram) .fec ≡ placeAt (s .table) i .fec
+  pub rsk : fieldsOf (call .datagram) .rsk ≡ placeAt (s .table) i .rsk
+  pub rsz : fieldsOf (call .datagram) .rsz ≡ placeAt (s .table) i .rsz
   -- where its own header says that it stands,
   pub stands : take (fieldsOf (call .datagram) .plen) (drop (offsetOf (fieldsOf (call .datagram))) (bytesAt (s .bytes) i)) ≡ payloadOf
       (call .datagram)
@@ -77,3 +96,18 @@ abbrev pub StaysKept : Type 0
 StaysKept =
     (s : State) → Reached s → (e : Call) → Made s e → (i n j : ℕ) → i < four → holds (placeAt (s .table) i) n ≡ true
     → getD (placeAt (s .table) i .kept) j false ≡ true → Stays s e i n j
+
+-- ---- what no calls leave
+
+-- document 01, "From a record in range that no calls could have left, a promise may list its answers in docs/ as an exception": three kinds
+pub data Stray (p : Place) : Type 0 where
+  -- without FEC, a fragment before the last is marked as kept, and s is unknown
+  sizeless : (p .condition ≡ free → ⊥) → p .fec ≡ false → (j : ℕ) → j + 1 < p .count → getD (p .kept) j false ≡ true → p .size ≡ 0 → Stray p
+  -- without FEC, the last fragment is marked as kept, and it has no bytes
+  endless : (p .condition ≡ free → ⊥) → p .fec ≡ false → (j : ℕ) → j + 1 ≡ p .count → getD (p .kept) j false ≡ true → p .last ≡ 0 → Stray p
+  -- the place is open, and what it holds suffices
+  overdue : p .condition ≡ open-now → enoughIn p ≡ true → Stray p
+
+-- no calls leave such a record
+abbrev pub NoStray : Type 0
+NoStray = (s : State) → Reached s → (i : ℕ) → i < four → Stray (placeAt (s .table) i) → ⊥
