@@ -13,7 +13,7 @@ use Rattle.header_rules.specs.declared.Header.{Header}
 use Rattle.header_rules.specs.Read.{fieldsOf}
 use Rattle.places_rules.specs.declared.Place.{Place}
 use Rattle.places_rules.specs.declared.Table.{Table}
-use Rattle.places_rules.specs.Places.{four, free, freePlace, freshTable, placeAt, keyOf, holds, heldAt, openAt, turned, openedBy}
+use Rattle.places_rules.specs.Places.{four, free, freePlace, freshTable, placeAt, keyOf, holds, heldAt, openAt, turned, openedBy, keptIn}
 use Rattle.places_rules.specs.Claims.{Opened}
 use Rattle.places_rules.proofs.Ranges.{range-from}
 use Rattle.places_rules.proofs.Proved.{fresh-is-opened, next-is-opened, kept-is-opened}
@@ -25,7 +25,7 @@ use Rattle.link.proofs.Basic.{same-or-not, held-found, held-absent, hol
 use Rattle.link.proofs.View.{View, unheard, refuses, keeps, opens, Good}
 use Rattle.link.proofs.Frame.{leftBy, Wrote, wrote-held, wrote-opened, see, good-run, good-fresh, good-reached}
 use Rattle.link.proofs.Fitting.{still-open}
-use Rattle.link.proofs.Waits.{Weighed, weighed-free, weighed-kept}
+use Rattle.link.proofs.Waits.{Weighed, weighed-free, weighed-settled}
 
 -- ---- opening goes round
 
@@ -84,7 +84,7 @@ record Standing (s : State) : Type 0 where
   pub weighed : AllWeighed s
 
 standing-view : {s : State} {e : Call} → Good s → Made s e → Standing s → View (e .own) s (e .datagram) (e .lent) (e .left) → Standing (after e)
-unfolding outcome keyOf turned openedBy keepAt
+unfolding outcome keyOf turned openedBy keptIn keepAt
 standing-view r m z (unheard n q) = subst (λ (y : Outcome). Standing (leftBy y)) (sym q) z
 standing-view r m z (refuses heard low f q) = subst (λ (y : Outcome). Standing (leftBy y)) (sym q) z
 standing-view {s} {e} r m z (keeps heard low f settled) =
@@ -96,7 +96,7 @@ standing-view {s} {e} r m z (keeps heard low f settled) =
       turns = z .turns;
       ring = ring-kept (z .turns) (z .ring) w (holds-some _ _ held);
       once = once-wrote w (z .once) (λ k l a. z .once k _ _ l low a held);
-      weighed = weighed-wrote w (z .weighed) (weighed-kept (s .table) _ _ (fieldsOf (e .datagram)) low (r .places)
+      weighed = weighed-wrote w (z .weighed) (weighed-settled (s .table) _ _ low (r .places)
           (still-open _ (fieldsOf (e .datagram)) f (holds-some _ _ held) (range .condition)) settled);
     }
 standing-view {s} {e} r m z (opens heard high settled) =
@@ -105,7 +105,7 @@ standing-view {s} {e} r m z (opens heard high settled) =
       turns = z .turns + 1;
       ring = ring-opened (z .turns) (z .ring) w;
       once = once-wrote w (z .once) (λ k l a. clash a (held-absent (s .table) _ high k l));
-      weighed = weighed-wrote w (z .weighed) (weighed-kept (turned (s .table) (openAt (s .table))) _ _ (fieldsOf (e .datagram)) (w .below)
+      weighed = weighed-wrote w (z .weighed) (weighed-settled (turned (s .table) (openAt (s .table))) _ _ (w .below)
           (r .places) refl settled);
     }
 

@@ -55,7 +55,7 @@ module _ {k : Call} {es : List Call} {p : Place} {b : List ℕ} {i n j : ℕ} (z
   stands-there = ap (take (f .plen)) (drop-drop (offsetOf f) (i * place) b) ∙ z .bytes
 
   -- the place tells from its figures which is the last
-  last-told : (not (p .fec) && leb (p .count) (j + 1)) ≡ isLast f
+  pub last-told : (not (p .fec) && leb (p .count) (j + 1)) ≡ isLast f
   unfolding isLast
   last-told =
       ap (λ (v : Bool). not v && leb (p .count) (j + 1)) (z .fits .cut .fec)

@@ -5,11 +5,10 @@ use mathlib.Core.List.{List}
 use Prim.Native.Nat.{ℕ, _<_}
 use native.Mathlib.Omega.{arith}
 use lib.ListN.{length}
-use Rattle.header_rules.specs.declared.Header.{Header}
 use Rattle.places_rules.specs.declared.Place.{Place}
 use Rattle.places_rules.specs.declared.Table.{Table}
 use Rattle.places_rules.specs.declared.Displaced.{Displaced}
-use Rattle.places_rules.specs.Places.{four, open-now, delivered, spoiled, freePlace, placeAt, withPlace, keptIn, inCondition}
+use Rattle.places_rules.specs.Places.{four, open-now, delivered, spoiled, freePlace, placeAt, withPlace, inCondition}
 use Rattle.form_rules.specs.Agree.{enoughIn}
 use Rattle.receiver_rules.specs.Promise.{Outcome, outcome, closedAt, Settled, waits, delivers, damaged}
 use Rattle.receiver_rules.proofs.Ranges.{written-place}
@@ -34,7 +33,8 @@ module _ (u : Table) (j : ℕ) (p : Place) (below : j < four) (size : length (u 
       subst Weighed (sym (ap (λ (t : Table). placeAt t j) (closed-again u j p below size c) ∙ written-place u j (inCondition p c) size below))
       (weighed-closed p c other (ap enoughIn (sym (written-place u j p size below)) ∙ e))
 
-  weighed-settled : p .condition ≡ open-now → {d : Displaced} {b o : List ℕ} {y : Outcome}
+  -- an open place in which a fragment was just kept stays open just where what it holds does not suffice
+  pub weighed-settled : p .condition ≡ open-now → {d : Displaced} {b o : List ℕ} {y : Outcome}
       → Settled (withPlace u j p) j d b o y → Weighed (placeAt (y .table) j)
   unfolding outcome
   weighed-settled is-open (waits e) =
@@ -45,9 +45,3 @@ module _ (u : Table) (j : ℕ) (p : Place) (below : j < four) (size : length (u 
       })
   weighed-settled is-open (delivers P e a) = weighed-again delivered (λ z. omega arith) e
   weighed-settled is-open (damaged e a) = weighed-again spoiled (λ z. omega arith) e
-
--- an open place that keeps a fragment stays open just where what it holds then does not suffice
-pub weighed-kept : (u : Table) (j : ℕ) (p : Place) (h : Header) → j < four → length (u .places) ≡ four → p .condition ≡ open-now
-    → {d : Displaced} {b o : List ℕ} {y : Outcome} → Settled (withPlace u j (keptIn p h)) j d b o y → Weighed (placeAt (y .table) j)
-unfolding keptIn
-weighed-kept u j p h below size is-open settled = weighed-settled u j (keptIn p h) below size is-open settled
