@@ -24,6 +24,8 @@ pub mod Link
 pub mod Whole
 pub mod Alarm
 pub mod Witness
+pub mod Served
+pub mod Senders
 pub mod Useless
 pub mod Runs
 pub mod Turns

@@ -2,14 +2,13 @@
 use mathlib.Core.Path.{_≡_, refl, sym, ap, _∙_}
 use mathlib.Core.Bool.{true, false}
 use mathlib.Core.List.{List, [], _∷_}
-use Prim.Native.Nat.{ℕ, _*_, _%_, _<_}
+use Prim.Native.Nat.{ℕ, _<_}
 use native.Mathlib.Omega.{arith}
 use lib.Dec.{ltb, lit<}
-use lib.ListN.{length, getD, take, drop}
-use Rattle.base_rules.specs.Bounds.{most-f}
-use Rattle.base_rules.specs.Bytes.{Bytes, splice, bytesOf}
+use lib.ListN.{length, getD, take, replicate, length-replicate}
+use Rattle.base_rules.specs.Bounds.{most-l, most-f}
+use Rattle.base_rules.specs.Bytes.{splice, bytesOf}
 use Rattle.base_rules.specs.Round.{ceil}
-use Rattle.base_rules.proofs.ByteLaws.{bytes-append, bytes-take, bytes-drop}
 use Rattle.base_rules.proofs.Firsts.{skip, none-due}
 use Rattle.base_rules.proofs.Splice.{splice-start}
 use Rattle.base_rules.proofs.Logic.{same}
@@ -21,11 +20,10 @@ use Rattle.cut_rules.specs.Sizes as cut
 use Rattle.af_rules.specs.Packet.{headerOf, closed, packetOf, payloadOf}
 use Rattle.af_rules.specs.Claims.{Back}
 use Rattle.af_rules.proofs.Proved.{a1}
-use Rattle.header_rules.specs.declared.Header.{Header}
+use Rattle.code_rules.proofs.RowLaws.{zeros-at}
 use Rattle.header_rules.specs.Claims.{Fitting}
-use Rattle.header_rules.specs.Header.{fecPart, addressPart, frontOf, bodyOf, headerBytes}
 use Rattle.sender_rules.specs.Calls.{packetFault}
-use Rattle.sender_rules.specs.Fragments.{payloadFor, headerFor, fragmentFor}
+use Rattle.sender_rules.specs.Fragments.{payloadFor}
 use Rattle.link.specs.Demand.{Takes, count}
 
 -- without FEC and address, at an MTU
@@ -54,27 +52,19 @@ module _ (b : ℕ) (byte : b < 256) where
     unfolding Fitting
     takes = record { passed = passed-is; bytes = back .bytes; number = small; address = tt }
 
--- ---- what is sent of it
+-- ---- a packet buffer with room for all
 
-low : (x : ℕ) → x % 256 < 256
-low x = omega arith
+-- 8,192 zeros
+pub room : List ℕ
+room = replicate most-l 0
 
-module _ (mtu n : ℕ) (packet : List ℕ) (bytes : Bytes packet) (i : ℕ) where
-  abbrev h : Header
-  h = headerFor (plainAt mtu) n packet i
+pub room-long : length room ≡ most-l
+unfolding room
+room-long = length-replicate {A = ℕ} most-l 0
 
-  -- the 14 bytes of its header
-  header-bytes : Bytes (headerBytes h)
-  unfolding headerBytes bodyOf frontOf fecPart addressPart bytesOf headerFor
-  header-bytes =
-      (lit< tt, (lit< tt, (low _, (low _, (low _, (low _, (low _, (low _, (low _, (low _, (low _, (low _, (low _, (low _, tt))))))))))))))
-
-  -- what is sent of a packet of bytes, without FEC and address, is bytes
-  pub fragment-bytes : Bytes (fragmentFor (plainAt mtu) n packet i)
-  unfolding fragmentFor payloadFor partOf
-  fragment-bytes =
-      let size : ℕ = cut.s (plainAt mtu) (length packet) in
-      bytes-append (headerBytes h) _ header-bytes (bytes-take size (drop (i * size) packet) (bytes-drop (i * size) packet bytes))
+pub room-zero : (i : ℕ) → getD room i 0 ≡ 0
+unfolding room
+room-zero i = zeros-at most-l i
 
 -- ---- in one fragment, or in two
 
@@ -100,16 +90,18 @@ halved b byte = takes b byte 21 refl refl
 
 -- ---- its bytes
 
--- two of them in a buffer are two
-pub written-apart : (out : List ℕ) → splice out 0 (packetWith 1) ≡ splice out 0 (packetWith 2) → ⊥
-written-apart out e =
-    let one : 1 < 256 = lit< tt in
-    let two : 2 < 256 = lit< tt in
-    let packets : packetWith 1 ≡ packetWith 2 =
-    sym (splice-start out (packetWith 1) 13 (size-is 1 one)) ∙ ap (take 13) e ∙ splice-start out (packetWith 2) 13 (size-is 2 two) in
-    let payloads : _≡_ {A = List ℕ} (1 ∷ []) (2 ∷ []) = sym (back 1 one .same) ∙ ap payloadOf packets ∙ back 2 two .same in
+-- two of them are two,
+pub packets-apart : packetWith 1 ≡ packetWith 2 → ⊥
+packets-apart e =
+    let payloads : _≡_ {A = List ℕ} (1 ∷ []) (2 ∷ []) = sym (back 1 (lit< tt) .same) ∙ ap payloadOf e ∙ back 2 (lit< tt) .same in
     let z : _≡_ {A = ℕ} 1 2 = ap (λ (l : List ℕ). getD l 0 0) payloads in
     omega arith
+
+-- and so they are in a buffer
+pub written-apart : (out : List ℕ) → splice out 0 (packetWith 1) ≡ splice out 0 (packetWith 2) → ⊥
+written-apart out e =
+    packets-apart
+    (sym (splice-start out (packetWith 1) 13 (size-is 1 (lit< tt))) ∙ ap (take 13) e ∙ splice-start out (packetWith 2) 13 (size-is 2 (lit< tt)))
 
 -- of two fragments, the first has 7 bytes and begins with an A
 pub begins-a : (b : ℕ) → (length (payloadFor (plainAt 21) (packetWith b) 0) ≡ 7) × (getD (payloadFor (plainAt 21) (packetWith b) 0) 0 0 ≡ 65)
