@@ -3,7 +3,7 @@ use Rattle.link.specs.Run.{SomeRun}
 use Rattle.link.specs.Demand.{Demand3, Lifted, T3m, T3, MatchHeard, StaysEnough, NamesGone}
 use Rattle.link.specs.Steps.{T1, T2, T3b, Again}
 use Rattle.link.specs.Reached.{StaysInRange, GoesRound, HeldOnce, PartsApart, OpenWaits, ClosedSuffices, HeldCame, StaysKept, NoStray}
-use Rattle.link.specs.Useless.{SomeKeep, Falls}
+use Rattle.link.specs.Useless.{SomeKeep, Falls, SomeUseless}
 use Rattle.link.specs.Examples.{ThreeOthers, FourOthers}
 use Rattle.link.proofs.Alarm as alarm
 use Rattle.link.proofs.Examples.{handed-out-last, displaced-last}
@@ -91,6 +91,9 @@ some-keep = useless.some-keep
 
 pub falls : Falls
 falls = useless.falls
+
+pub some-useless : SomeUseless
+some-useless = useless.some-useless
 
 -- ---- there are runs
 

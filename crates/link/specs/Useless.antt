@@ -79,10 +79,10 @@ pub record StoresNoBytes (R : Receiver) : Type 0 where
 pub record StoresNoRecord (R : Receiver) : Type 0 where
   pub same : Always R (λ s e. e .left .table ≡ s .table)
 
--- "One that serves the first packet and then pretends": after a call that handed one out, it hands out nothing, or the same whatever comes
+-- "One that serves the first packet and then pretends": right after a call that handed one out, nothing, or the same whatever comes
 pub record Pretends (R : Receiver) : Type 0 where
-  pub blind : Always R (λ s c. Delivers c → (later : List Call) (u : State) → Served R (after c) later u
-      → (d e : Call) → Serves R u d → Serves R u e → d .lent ≡ e .lent → Delivers d → Delivers e → d .left .out ≡ e .left .out)
+  pub blind : Always R (λ s c. Delivers c → (d e : Call) → Serves R (after c) d → Serves R (after c) e → d .lent ≡ e .lent
+      → Delivers d → Delivers e → d .left .out ≡ e .left .out)
 
 -- "demand 3 holds from any reached state": from one that does not hold the number, its own calls, each of which left it held, and one more
 pub record Episode (R : Receiver) (g : Settings) (n : ℕ) (packet : List ℕ) (earlier : List Call) (e : Call) : Type 0 where
@@ -96,7 +96,7 @@ pub record Episode (R : Receiver) (g : Settings) (n : ℕ) (packet : List ℕ) (
   pub serves : Serves R state e
   pub own : All (Own g n packet) (e ∷ earlier)
 
--- one that pretends but once, then or later: at the first fragment after which a packet is enough, something else or nothing is handed out
+-- "and then pretends", be it but once: at the first fragment after which a packet is enough, something else or nothing is handed out
 pub record Withholds (R : Receiver) : Type 0 where
   pub g : Settings
   pub n : ℕ
@@ -108,7 +108,7 @@ pub record Withholds (R : Receiver) : Type 0 where
   pub enough-now : enoughAfter g n packet (call ∷ earlier) ≡ true
   pub withheld : Handed g n packet earlier call → ⊥
 
--- or at any other call a packet of its number is handed out
+-- "and then pretends", be it but once: at any other call a packet of the number is handed out
 pub record Invents (R : Receiver) : Type 0 where
   pub g : Settings
   pub n : ℕ
@@ -143,7 +143,7 @@ Sender = Settings → ℕ → List ℕ → ℕ → List ℕ → answer.Outcome
 abbrev pub WholeSender : Type 0
 WholeSender = Settings → ℕ → List ℕ → List ℕ → answer.Outcome
 
--- it keeps the promise of `fragment`,
+-- it keeps the promise of `fragment`, for a number of 16 bits and a packet of bytes,
 pub record Sends (S : Sender) : Type 0 where
   pub meets : (g : Settings) (n : ℕ) (packet : List ℕ) (i : ℕ) (out : List ℕ) → n < 65536 → Bytes packet
       → S g n packet i out ≡ fragmentCall g n packet i out
@@ -172,12 +172,12 @@ pub record SendsFixed (S : Sender) : Type 0 where
   pub same : (g : Settings) (n : ℕ) (packet packet′ : List ℕ) (i : ℕ) (out : List ℕ) → Takes g n packet → Takes g n packet′
       → bytesLeft (S g n packet i out) ≡ bytesLeft (S g n packet′ i out)
 
--- "a sender writing one fragment only": the same one whatever index is asked;
+-- "a sender writing one fragment only": the same one whatever index is asked
 pub record OneFragment (S : Sender) : Type 0 where
   pub same : (g : Settings) (n : ℕ) (packet : List ℕ) (i j : ℕ) (out : List ℕ) → Takes g n packet → i < count g packet → j < count g packet
       → bytesLeft (S g n packet i out) ≡ bytesLeft (S g n packet j out)
 
--- or, asked for all of them with room for all, one at the front, the first or any other, and the bytes behind it stay as they were
+-- "a sender writing one fragment only": of all, for which there is room, one at the front, whichever, and the bytes behind stay as they were
 pub record WritesOneOnly (S : WholeSender) : Type 0 where
   pub only : (g : Settings) (n : ℕ) (packet out : List ℕ) → Takes g n packet → length (fragmentsFor g n packet) ≤ length out
       → (i : ℕ) × (bytesLeft (S g n packet out) ≡ splice out 0 (fragmentFor g n packet i))
@@ -205,3 +205,21 @@ pub record Falls : Type 0 where
   pub sends-fixed-whole : (S : WholeSender) → SendsAll S → SendsFixed (anyIndex S) → ⊥
   pub one-fragment : (S : Sender) → Sends S → OneFragment S → ⊥
   pub writes-one-only : (S : WholeSender) → SendsAll S → WritesOneOnly S → ⊥
+
+-- and none falls for want of such a stack: there are some of each kind
+pub record SomeUseless : Type 0 where
+  pub refuses-all : (R : Receiver) × RefusesAll R
+  pub hands-nothing : (R : Receiver) × HandsNothing R
+  pub fixed : (R : Receiver) × Fixed R
+  pub stores-no-bytes : (R : Receiver) × StoresNoBytes R
+  pub stores-no-record : (R : Receiver) × StoresNoRecord R
+  pub pretends : (R : Receiver) × Pretends R
+  pub withholds : (R : Receiver) × Withholds R
+  pub invents : (R : Receiver) × Invents R
+  pub false-count : (R : Receiver) × FalseCount R
+  pub refuses-every-packet : (S : Sender) × RefusesEveryPacket S
+  pub refuses-every-packet-whole : (S : WholeSender) × RefusesEveryPacket (anyIndex S)
+  pub sends-fixed : (S : Sender) × SendsFixed S
+  pub sends-fixed-whole : (S : WholeSender) × SendsFixed (anyIndex S)
+  pub one-fragment : (S : Sender) × OneFragment S
+  pub writes-one-only : (S : WholeSender) × WritesOneOnly S
