@@ -17,7 +17,7 @@ use Rattle.base_rules.proofs.Numbers.{number-back}
 use Rattle.packed_rules.specs.Packed.{tableFrom, unpackFault}
 use Rattle.places_rules.specs.declared.Place.{Place}
 use Rattle.places_rules.specs.declared.Table.{Table}
-use Rattle.places_rules.specs.Places.{four, free, open-now, placeAt, heldAt}
+use Rattle.places_rules.specs.Places.{four, free, open-now, placeAt, keyIn, heldAt}
 use Rattle.places_rules.proofs.Ranges.{range-from}
 use Rattle.receiver_rules.specs.Calls.{shownOf}
 use Rattle.receiver_rules.proofs.Ranges.{place-fine}
@@ -38,7 +38,7 @@ twelve s = refl
 
 -- what is told of a place's number
 abbrev shownNumber : Place → ℕ
-shownNumber p = cond (eqb (p .condition) free) 0 (p .number)
+shownNumber p = cond (eqb (p .condition) free) 0 (keyIn p)
 
 small-mod : (x : ℕ) → x < 256 → x % 256 ≡ x
 small-mod x l = omega arith
@@ -81,7 +81,7 @@ module _ (s : Buffers) (stands : Stands s) where
       (number-back 2 _ [] (shown-small 3 (lit< tt)))
 
   -- and the two behind it are the number of its packet, where it is not free
-  pub number-read : (i : ℕ) → i < four → (placeAt t i .condition ≡ free → ⊥) → numberTold s i ≡ placeAt t i .number
+  pub number-read : (i : ℕ) → i < four → (placeAt t i .condition ≡ free → ⊥) → numberTold s i ≡ keyIn (placeAt t i)
   number-read i l some = shown-read i l ∙ rw (ne-eqb (placeAt t i .condition) free some)
 
 -- ---- the claims
@@ -120,12 +120,12 @@ holds-alike s c n =
           ),
     )
 
-open-place : (p : Place) (n : ℕ) → shownOf p ≡ open-now ∷ n ∷ [] → (p .condition ≡ open-now) × (p .number ≡ n)
+open-place : (p : Place) (n : ℕ) → shownOf p ≡ open-now ∷ n ∷ [] → (p .condition ≡ open-now) × (keyIn p ≡ n)
 unfolding shownOf
 open-place p n e =
     either (eqb (p .condition) free)
     (λ b. let z : _≡_ {A = ℕ} 0 1 = cc (rw b at e) in absurd (omega arith))
-    (λ b. let is : p .condition ∷ p .number ∷ [] ≡ open-now ∷ n ∷ [] = rw b at e in (cc, cc))
+    (λ b. let is : p .condition ∷ keyIn p ∷ [] ≡ open-now ∷ n ∷ [] = rw b at e in (cc, cc))
 
 -- a number that shows as open is told as open
 pub open-told : OpenTold

@@ -17,8 +17,9 @@ use Rattle.header_rules.proofs.Proved.{passed-sound}
 use Rattle.places_rules.specs.declared.Place.{Place}
 use Rattle.places_rules.specs.declared.Table.{Table}
 use Rattle.places_rules.specs.declared.Displaced.{Displaced}
-use Rattle.places_rules.specs.Places.{four, open-now, freePlace, freshTable, placeAt, displacedAt}
+use Rattle.places_rules.specs.Places.{four, open-now, freePlace, freshTable, placeAt, keyIn, displacedAt}
 use Rattle.places_rules.specs.Faults.{placeFault}
+use Rattle.places_rules.proofs.Keys.{key-small, free-small}
 use Rattle.receiver_rules.specs.Promise.{numberOf, Outcome, outcome, keepAt, Settled, waits, delivers, damaged, State, Step}
 use Rattle.receiver_rules.specs.declared.Received.{Received}
 use Rattle.receiver_rules.specs.declared.Received.the-variants.{Kept, Delivered, Damaged, Refused}
@@ -59,14 +60,14 @@ place-low p h = low _ 9 _ (lit< tt) (low _ 10 _ (lit< tt) (low _ 11 _ (lit< tt) 
 
 -- the number of each place has two bytes
 abbrev pub Small : State → Type 0
-Small s = (i : ℕ) → i < four → placeAt (s .table) i .number < 65536
+Small s = (i : ℕ) → i < four → keyIn (placeAt (s .table) i) < 65536
 
 -- so it is in a fresh table
-pub small-fresh : (i : ℕ) → i < four → placeAt freshTable i .number < 65536
+pub small-fresh : (i : ℕ) → i < four → keyIn (placeAt freshTable i) < 65536
 unfolding placeAt freshTable
-small-fresh i l = subst (λ (p : Place). p .number < 65536) (sym (getD-replicate four i freePlace freePlace l)) (lit< tt)
+small-fresh i l = subst (λ (p : Place). keyIn p < 65536) (sym (getD-replicate four i freePlace freePlace l)) free-small
 
-displaced-fits : (t : Table) (i : ℕ) → placeAt t i .number < 65536 → FitsDisplaced (displacedAt t i)
+displaced-fits : (t : Table) (i : ℕ) → keyIn (placeAt t i) < 65536 → FitsDisplaced (displacedAt t i)
 unfolding displacedAt
 displaced-fits t i l = either (eqb (placeAt t i .condition) open-now) (λ e. rw e l) (λ e. rw e tt)
 
@@ -107,12 +108,12 @@ module _ (own : Address) (s : State) (d o : List ℕ) (y : Outcome) (r : Good s)
         same-or-not i j
         (λ e. omega (
           arith,
-          ap (λ (k : ℕ). placeAt (y .table) k .number) e,
-          ap (λ (p : Place). p .number) (w .here),
+          ap (λ (k : ℕ). keyIn (placeAt (y .table) k)) e,
+          ap keyIn (w .here),
           w .number,
-          passed-sound own d bytes heard .written .number,
+          key-small h (passed-sound own d bytes heard .written),
         ))
-        (λ n. omega (arith, ap (λ (p : Place). p .number) (w .others i n), small i l))
+        (λ n. omega (arith, ap keyIn (w .others i n), small i l))
 
     view-small : View own s d o y → Small (leftBy y)
     unfolding outcome
