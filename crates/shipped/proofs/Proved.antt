@@ -1,7 +1,29 @@
--- The claims of specs/Runs.antt, each by citation. Assumes nothing.
+-- The claims of specs/Main.antt and Runs.antt, each by citation. Assumes nothing.
+use Rattle.shipped.specs.Main.{Demand3, Lifted, Bears, SentAll, NamesGone}
 use Rattle.shipped.specs.Runs.{IsRun, GoesOn, ReachedState, QueryTells, HoldsAlike, OpenTold}
-use Rattle.shipped.proofs.Runs as runs
+use Rattle.shipped.proofs.Main as main
 use Rattle.shipped.proofs.Query as query
+use Rattle.shipped.proofs.Runs as runs
+use Rattle.shipped.proofs.Sent as sent
+
+-- ---- demand 3
+
+pub demand-3 : Demand3
+demand-3 = main.demand-3
+
+pub lifted : Lifted
+lifted = main.lifted
+
+pub bears : Bears
+bears = main.bears
+
+pub sent-all : SentAll
+sent-all = sent.sent-all
+
+pub names-gone : NamesGone
+names-gone = main.names-gone
+
+-- ---- the runs behind it
 
 pub is-run : IsRun
 is-run = runs.is-run

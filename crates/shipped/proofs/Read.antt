@@ -4,7 +4,7 @@ use mathlib.Core.List.{List, [], _∷_, _++_}
 use Prim.Native.Nat.{ℕ, _≤_, _<_}
 use native.Mathlib.Omega.{arith}
 use borrow.Author.Tests.{ne-eqb}
-use lib.ListN.{length}
+use lib.ListN.{length, getD}
 use Rattle.base_rules.specs.Bytes.{splice, numberAt, bytesOf}
 use Rattle.base_rules.proofs.Numbers.{number-back}
 use Rattle.places_rules.specs.declared.Displaced.{Displaced}
@@ -34,20 +34,27 @@ Fits (Refused n) = (n ≡ 0 → ⊥) × (n ≡ 13 → ⊥)
 -- ---- read back
 
 module _ (told : List ℕ) (handed l m : ℕ) where
-  stands : Displaced → List ℕ
+  -- what stands where there is room for it
+  pub stands : Displaced → List ℕ
   stands d = splice told 0 (inWidths receipt-widths (receiptTold handed l m d))
 
+  -- a displaced number is told as 1 and itself
+  pub displaced-told : (n : ℕ) → n < 65536 → (getD (stands (Number n)) 5 0 ≡ 1) × (numberAt 2 (stands (Number n)) 6 ≡ n)
+  unfolding stands splice inWidths receiptTold displacedTold bytesOf numberAt
+  displaced-told n f = (refl, number-back 2 n [] f)
+
   displaced-back : (d : Displaced) → FitsDisplaced d → displacedFrom (stands d) ≡ displacedValues d
-  unfolding stands splice inWidths receiptTold displacedTold bytesOf numberAt displacedFrom displacedValues
+  unfolding stands splice inWidths receiptTold displacedTold bytesOf displacedFrom displacedValues
   displaced-back None f = refl
-  displaced-back (Number n) f = ap (λ (x : ℕ). 1 ∷ x ∷ []) (number-back 2 n [] f)
+  displaced-back (Number n) f = ap (λ (x : ℕ). 1 ∷ x ∷ []) (displaced-told n f .1)
 
   eight : (d : Displaced) → length (inWidths receipt-widths (receiptTold handed l m d)) ≡ 8
   unfolding inWidths receiptTold displacedTold bytesOf
   eight None = refl
   eight (Number n) = refl
 
-  told-there : (d : Displaced) → receipt-bytes ≤ length told → toldIn told (inWidths receipt-widths (receiptTold handed l m d)) ≡ stands d
+  -- which is so where there are 8 bytes
+  pub told-there : (d : Displaced) → receipt-bytes ≤ length told → toldIn told (inWidths receipt-widths (receiptTold handed l m d)) ≡ stands d
   unfolding stands
   told-there d room = told-room told _ (omega (arith, eight d))
 
@@ -55,9 +62,15 @@ none-handed : (told : List ℕ) (d : Displaced) → handedFrom (stands told 0 0 
 unfolding stands splice inWidths receiptTold bytesOf handedFrom
 none-handed told d = refl
 
+-- a packet that was handed out is told as 1, its length, and the count of its fragments not held
+pub handed-told : (told : List ℕ) (l m : ℕ) (d : Displaced) → l < 65536 → m < 65536
+    → (getD (stands told 1 l m d) 0 0 ≡ 1) × (numberAt 2 (stands told 1 l m d) 1 ≡ l) × (numberAt 2 (stands told 1 l m d) 3 ≡ m)
+unfolding stands splice inWidths receiptTold bytesOf numberAt
+handed-told told l m d small few = (refl, number-back 2 l [] small, number-back 2 m [] few)
+
 one-handed : (told : List ℕ) (l m : ℕ) (d : Displaced) → l < 65536 → m < 65536 → handedFrom (stands told 1 l m d) ≡ l ∷ m ∷ []
-unfolding stands splice inWidths receiptTold bytesOf numberAt handedFrom
-one-handed told l m d small few = ap₂ (λ (x y : ℕ). x ∷ y ∷ []) (number-back 2 l [] small) (number-back 2 m [] few)
+unfolding stands splice inWidths receiptTold bytesOf handedFrom
+one-handed told l m d small few = let there = handed-told told l m d small few in ap₂ (λ (x y : ℕ). x ∷ y ∷ []) (there .1) (there .2)
 
 -- the answer is read back off its number and what it tells
 pub answer-back : (a : Received) (told : List ℕ) → receipt-bytes ≤ length told → Fits a

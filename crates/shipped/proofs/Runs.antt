@@ -1,7 +1,7 @@
 -- A run of bailhammer_receive is one of `receive`: each call reads back the record that the last one left. Assumes nothing.
 use mathlib.Core.Path.{_≡_, refl, sym, ap₂, _∙_, subst}
-use mathlib.Core.List.{List, [], map}
-use Prim.Native.Nat.{ℕ}
+use mathlib.Core.List.{List, [], _∷_, map}
+use Prim.Native.Nat.{ℕ, _≤_}
 use lib.ListN.{length, replicate}
 use Rattle.base_rules.specs.Answer.{granted}
 use Rattle.base_rules.specs.Written.{numberOf}
@@ -11,17 +11,18 @@ use Rattle.places_rules.specs.declared.Table.{Table}
 use Rattle.places_rules.specs.Places.{freshTable}
 use Rattle.receiver_rules.specs.Promise as promise
 use Rattle.receiver_rules.specs.Promise.{Outcome, outcome, all-places, Step}
+use Rattle.receiver_rules.specs.declared.Received.{Received}
 use Rattle.card_rules.specs.Calls.{addressOf}
-use Rattle.card_rules.specs.Receiving.{Held, ReceivedWith}
+use Rattle.card_rules.specs.Receiving.{Held, ReceivedWith, toldAfter}
 use Rattle.card_rules.proofs.Proved.{zeros-fresh}
 use Rattle.card_rules.proofs.ReceiveLaws.{good-record}
 use Rattle.card_rules.proofs.ReceiveProved.{with-record}
 use Rattle.link.specs.Run as link
 use Rattle.link.proofs.View.{Good}
 use Rattle.link.proofs.Frame.{good-after, good-fresh}
-use Rattle.shipped.specs.Runs.{Buffers, Call, after, Made, Run, start, next, freshWith, Reached, answerFrom, stateOf, callOf}
+use Rattle.shipped.specs.Runs.{Buffers, Call, after, Made, Run, start, next, freshWith, Reached, receipt-bytes, answerFrom, stateOf, callOf}
 use Rattle.shipped.specs.Runs.{IsRun, GoesOn, ReachedState}
-use Rattle.shipped.proofs.Read.{answer-back}
+use Rattle.shipped.proofs.Read.{Fits, answer-back}
 use Rattle.shipped.proofs.Steps.{Small, small-fresh, step-fits, step-small}
 
 -- ---- buffers that calls have left
@@ -48,6 +49,15 @@ fresh-stands lent all =
 
 -- ---- a call
 
+-- the answer that it gave, which its number and the bytes told are, and which is read off them
+pub record Gave (e : Call) : Type 0 where
+  pub answer : Received
+  pub whole : Fits answer
+  pub number : e .number ≡ promise.numberOf answer .0
+  pub told : e .left .told ≡ toldAfter answer (e .told)
+  pub room : receipt-bytes ≤ length (e .told)
+  pub read : callOf e .left .answer ≡ promise.numberOf answer
+
 module _ (s : Buffers) (e : Call) (stands : Stands s) (m : Made s e) where
   abbrev before : Held
   before = record { record-bytes = s .table; lent = s .lent; told = e .told; out = e .out }
@@ -58,15 +68,19 @@ module _ (s : Buffers) (e : Call) (stands : Stands s) (m : Made s e) where
   abbrev left : Outcome
   left = outcome (with .answer) (with .table) (e .left .lent) (e .left .out)
 
+  fits : Fits (with .answer)
+  unfolding outcome
+  fits = step-fits (callOf e .own) (stateOf s) (e .datagram) (e .out) left (stands .good) (stands .small) (m .room) (with .step) (with .answer) refl
+
+  answer-read : callOf e .left .answer ≡ promise.numberOf (with .answer)
+  answer-read = ap₂ answerFrom (with .number) (with .told) ∙ answer-back (with .answer) (e .told) (m .told-room) fits
+
   -- what the caller reads of the call is what it left
   read-left : left ≡ callOf e .left
   unfolding outcome
   read-left =
-      let fits = step-fits (callOf e .own) (stateOf s) (e .datagram) (e .out) left (stands .good) (stands .small) (m .room) (with .step) (with .answer) refl in
-      let answer : answerFrom (e .number) (e .left .told) ≡ promise.numberOf (with .answer) =
-      ap₂ answerFrom (with .number) (with .told) ∙ answer-back (with .answer) (e .told) (m .told-room) fits in
       ap₂ (λ (a : ℕ × List ℕ) (t : Table). record { answer = a; table = t; bytes = e .left .lent; out = e .left .out })
-      (sym answer) (taken (e .left .record-bytes) (with .table) (with .read-back) .1)
+      (sym answer-read) (taken (e .left .record-bytes) (with .table) (with .read-back) .1)
 
   made : link.Made (stateOf s) (callOf e)
   made = record {
@@ -74,6 +88,9 @@ module _ (s : Buffers) (e : Call) (stands : Stands s) (m : Made s e) where
     bytes = m .bytes;
     meets = subst (Step (callOf e .own) (stateOf s) (e .datagram) (e .out)) read-left (with .step);
   }
+
+  call-gave : Gave e
+  call-gave = record { answer = with .answer; whole = fits; number = with .number; told = with .told; room = m .told-room; read = answer-read }
 
   call-stands : Stands (after e)
   call-stands = record {
@@ -110,3 +127,20 @@ goes-on first c es now run = run-link (reached-stands c) run
 
 pub reached-state : ReachedState
 reached-state s c = record { lent = c .lent; all = c .all; calls = map callOf (c .calls); run = is-run (c .lent) (c .all) (c .calls) s (c .run) }
+
+-- ---- calls from reached buffers on
+
+-- the buffers that they leave are reached,
+pub reached-after : {first now : Buffers} {es : List Call} → Reached first → Run first es now → Reached now
+reached-after c start = c
+reached-after c (next e run m) =
+    let before = reached-after c run in
+    record { lent = before .lent; all = before .all; calls = e ∷ before .calls; run = next e (before .run) m }
+
+-- each is a call of `receive`,
+pub made-link : {s : Buffers} {e : Call} → Reached s → Made s e → link.Made (stateOf s) (callOf e)
+made-link c m = made _ _ (reached-stands c) m
+
+-- and its answer is read off what it gave
+pub made-gave : {s : Buffers} {e : Call} → Reached s → Made s e → Gave e
+made-gave c m = call-gave _ _ (reached-stands c) m
