@@ -30,7 +30,7 @@ use Rattle.shipped.proofs.Runs.{Gave}
 module _ {e : Call} (gave : Gave e) where
   -- where `receive` answers a, the number of a was given, and a was told whole
   record Tells (a : Received) : Type 0 where
-    pub number : e .number ≡ numberOf a .0
+    pub number : e .given ≡ numberOf a .0
     pub told : e .left .told ≡ toldAfter a (e .told)
     pub whole : Fits a
 
@@ -53,7 +53,7 @@ module _ {e : Call} (gave : Gave e) where
       let is : e .left .told ≡ stands (e .told) 1 l m d = t .told ∙ told-there (e .told) 1 l m d (gave .room) in
       rw is ((t .number, there .0), there .1, there .2)
 
-  names : (handed l m n : ℕ) → n < 65536 → (e .number ≡ 0) ⊎ (e .number ≡ 13)
+  names : (handed l m n : ℕ) → n < 65536 → (e .given ≡ 0) ⊎ (e .given ≡ 13)
       → e .left .told ≡ toldIn (e .told) (inWidths receipt-widths (receiptTold handed l m (Number n))) → Names e n
   names handed l m n small given put =
       let there = displaced-told (e .told) handed l m n small in
@@ -83,11 +83,11 @@ module _ (e : Call) where
   abbrev t : List ℕ
   t = e .left .told
 
-  answer-0 : e .number ≡ 0 → callOf e .left .answer ≡ (0, handedFrom t ++ displacedFrom t)
+  answer-0 : e .given ≡ 0 → callOf e .left .answer ≡ (0, handedFrom t ++ displacedFrom t)
   unfolding answerFrom
   answer-0 given = rw given
 
-  answer-13 : e .number ≡ 13 → callOf e .left .answer ≡ (13, displacedFrom t)
+  answer-13 : e .given ≡ 13 → callOf e .left .answer ≡ (13, displacedFrom t)
   unfolding answerFrom
   answer-13 given = rw given
 
@@ -112,9 +112,9 @@ module _ (e : Call) where
   link-named n named =
       let d : displacedFrom t ≡ displacedValues (Number n) = displaced-is t n (named .displaced) (named .number) in
       ⊎-elim
-      (λ (given : e .number ≡ 0).
+      (λ (given : e .given ≡ 0).
       same-or-not (getD t 0 0) 0
       (λ none. subst (link.Names (Number n)) (sym (answer-0 given ∙ ap₂ (λ (x y : List ℕ). (0, x ++ y)) (handed-no none) d)) by-kept)
       (λ some. subst (link.Names (Number n)) (sym (answer-0 given ∙ ap₂ (λ (x y : List ℕ). (0, x ++ y)) (handed-yes some) d)) (by-delivered _ _)))
-      (λ (given : e .number ≡ 13). subst (link.Names (Number n)) (sym (answer-13 given ∙ ap (λ (x : List ℕ). (13, x)) d)) by-damaged)
+      (λ (given : e .given ≡ 13). subst (link.Names (Number n)) (sym (answer-13 given ∙ ap (λ (x : List ℕ). (13, x)) d)) by-damaged)
       (named .answered)

@@ -1,5 +1,5 @@
 -- The claims of specs/Main.antt and Runs.antt, each by citation. Assumes nothing.
-use Rattle.shipped.specs.Main.{Demand3, Lifted, Bears, SentAll, NamesGone}
+use Rattle.shipped.specs.Main.{Demand3, Lifted, Bears, SentAll, SentOne, MatchHeard, NamesGone}
 use Rattle.shipped.specs.Runs.{IsRun, GoesOn, ReachedState, QueryTells, HoldsAlike, OpenTold}
 use Rattle.shipped.proofs.Main as main
 use Rattle.shipped.proofs.Query as query
@@ -19,6 +19,12 @@ bears = main.bears
 
 pub sent-all : SentAll
 sent-all = sent.sent-all
+
+pub sent-one : SentOne
+sent-one = sent.sent-one
+
+pub match-heard : MatchHeard
+match-heard = sent.match-heard
 
 pub names-gone : NamesGone
 names-gone = main.names-gone

@@ -53,7 +53,7 @@ fresh-stands lent all =
 pub record Gave (e : Call) : Type 0 where
   pub answer : Received
   pub whole : Fits answer
-  pub number : e .number ≡ promise.numberOf answer .0
+  pub number : e .given ≡ promise.numberOf answer .0
   pub told : e .left .told ≡ toldAfter answer (e .told)
   pub room : receipt-bytes ≤ length (e .told)
   pub read : callOf e .left .answer ≡ promise.numberOf answer
@@ -62,8 +62,8 @@ module _ (s : Buffers) (e : Call) (stands : Stands s) (m : Made s e) where
   abbrev before : Held
   before = record { record-bytes = s .table; lent = s .lent; told = e .told; out = e .out }
 
-  with : ReceivedWith (addressOf (e .addressed) (e .source) (e .dest)) (e .datagram) before (e .left) (e .number) (tableFrom (s .table))
-  with = with-record (addressOf (e .addressed) (e .source) (e .dest)) (e .datagram) before (e .left) (e .number) (m .meets) (stands .read)
+  with : ReceivedWith (addressOf (e .addressed) (e .source) (e .dest)) (e .datagram) before (e .left) (e .given) (tableFrom (s .table))
+  with = with-record (addressOf (e .addressed) (e .source) (e .dest)) (e .datagram) before (e .left) (e .given) (m .meets) (stands .read)
 
   abbrev left : Outcome
   left = outcome (with .answer) (with .table) (e .left .lent) (e .left .out)
@@ -101,29 +101,26 @@ module _ (s : Buffers) (e : Call) (stands : Stands s) (m : Made s e) where
 
 -- ---- runs
 
--- calls from such buffers on leave such buffers,
-pub run-stands : {s u : Buffers} {es : List Call} → Stands s → Run s es u → Stands u
-run-stands stands start = stands
-run-stands stands (next e run m) = call-stands _ e (run-stands stands run) m
-
--- and are calls of `receive`
-pub run-link : {s u : Buffers} {es : List Call} → Stands s → Run s es u → link.Run (stateOf s) (map callOf es) (stateOf u)
-run-link stands start = link.start
-run-link stands (next e run m) = link.next (callOf e) (run-link stands run) (made _ e (run-stands stands run) m)
+-- calls from such buffers on are calls of `receive`, and leave such buffers
+pub run-link : {s u : Buffers} {es : List Call} → Stands s → Run s es u → link.Run (stateOf s) (map callOf es) (stateOf u) × Stands u
+run-link stands start = (link.start, stands)
+run-link stands (next e run m) =
+    let before = run-link stands run in
+    (link.next (callOf e) (before .0) (made _ e (before .1) m), call-stands _ e (before .1) m)
 
 -- every run from the fresh buffers is one of `receive` from a fresh table
 pub is-run : IsRun
 is-run lent all es now run =
     subst (λ (t : Table). link.Run (record { table = t; bytes = lent }) (map callOf es) (stateOf now))
     (sym (taken (replicate table-bytes 0) freshTable zeros-fresh .1))
-    (run-link (fresh-stands lent all) run)
+    (run-link (fresh-stands lent all) run .0)
 
 -- reached buffers are such buffers
 pub reached-stands : {s : Buffers} → Reached s → Stands s
-reached-stands c = run-stands (fresh-stands (c .lent) (c .all)) (c .run)
+reached-stands c = run-link (fresh-stands (c .lent) (c .all)) (c .run) .1
 
 pub goes-on : GoesOn
-goes-on first c es now run = run-link (reached-stands c) run
+goes-on first c es now run = run-link (reached-stands c) run .0
 
 pub reached-state : ReachedState
 reached-state s c = record { lent = c .lent; all = c .all; calls = map callOf (c .calls); run = is-run (c .lent) (c .all) (c .calls) s (c .run) }

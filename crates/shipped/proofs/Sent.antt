@@ -1,53 +1,97 @@
 -- What bailhammer_fragments wrote and told, taken as the fragments of its packet. Assumes nothing.
+use mathlib.Core.Logic.{⊎-elim}
 use mathlib.Core.Path.{_≡_, refl, ap, _∙_}
+use mathlib.Core.Bool.{false}
 use mathlib.Core.List.{List, [], _∷_}
-use Prim.Native.Nat.{ℕ, zero, suc, _-_, _<_}
+use Prim.Native.Nat.{ℕ, zero, suc, _+_, _-_, _≤_, _<_}
 use native.Mathlib.Omega.{arith}
+use borrow.Author.Tests.{eq-eqb, ne-eqb}
 use lib.Dec.{eqb}
-use lib.ListN.{length}
-use Rattle.base_rules.specs.Answer.{Answer, granted, settled}
+use lib.ListN.{length, take, drop}
+use lib.Seq.{take-at}
+use Rattle.base_rules.specs.Answer.{granted, settled}
 use Rattle.base_rules.specs.Bytes.{splice, numberAt, bytesOf}
 use Rattle.base_rules.proofs.Logic.{either}
 use Rattle.base_rules.proofs.Numbers.{number-back}
+use Rattle.cut_rules.specs.declared.Address.{Address}
 use Rattle.cut_rules.specs.declared.Settings.{Settings}
 use Rattle.cut_rules.specs.Sizes.{h, f, s}
 use Rattle.header_rules.specs.Claims.{Fitting}
-use Rattle.sender_rules.specs.Calls.{fragmentsFault, fragmentsCall}
+use Rattle.header_rules.specs.Read.{badAddress}
+use Rattle.sender_rules.specs.Calls.{fragmentFault, fragmentCall, fragmentsFault, fragmentsCall}
 use Rattle.sender_rules.specs.Fragments.{payloadFor, fragmentFor, fragmentsFor}
 use Rattle.sender_rules.proofs.Proved.{splits}
 use Rattle.sender_rules.proofs.Splitting.{all-passed}
 use Rattle.card_rules.specs.Calls.{addressOf}
 use Rattle.card_rules.specs.Claims.{InTwo, none, more}
 use Rattle.card_rules.specs.Sending.{settingsOf, twos}
-use Rattle.card_rules.specs.Told.{refusalIn, inWidths, toldOf, answerIn, bytesIn}
-use Rattle.card_rules.proofs.Proved.{split-whole}
+use Rattle.card_rules.specs.Told.{refusalIn, inWidths, toldOf, answerIn, bytesIn, SentAs}
+use Rattle.card_rules.proofs.Proved.{length-whole, split-whole}
 use Rattle.card_rules.proofs.TellLaws.{told-room}
 use Rattle.link.specs.Demand as link
-use Rattle.shipped.specs.Main.{Sending, settings, split-bytes, Cut, count, fragmentAt, SentAll}
+use Rattle.link.proofs.Proved as proved
+use Rattle.shipped.specs.Runs.{Call, callOf}
+use Rattle.shipped.specs.Main.{Sending, settings, Cut, count, fragmentAt, SentAll, SentOne, Matches, MatchHeard}
 
--- ---- four numbers told in two bytes each
+-- ---- numbers told in two bytes each
 
 -- what stands where they are told
-stands : List ℕ → List ℕ → List ℕ
-stands told values = splice told 0 (inWidths (twos 4) values)
+stands : ℕ → List ℕ → List ℕ → List ℕ
+stands n told values = splice told 0 (inWidths (twos n) values)
+
+one-back : (told : List ℕ) (a : ℕ) → InTwo (a ∷ []) → numberAt 2 (stands 1 told (a ∷ [])) 0 ≡ a
+unfolding stands splice inWidths bytesOf numberAt
+one-back told a (more p none) = number-back 2 a [] p
 
 four-back : (told : List ℕ) (a b c d : ℕ) → InTwo (a ∷ b ∷ c ∷ d ∷ [])
-    → (numberAt 2 (stands told (a ∷ b ∷ c ∷ d ∷ [])) 0 ≡ a) × (numberAt 2 (stands told (a ∷ b ∷ c ∷ d ∷ [])) 2 ≡ b)
-    × (numberAt 2 (stands told (a ∷ b ∷ c ∷ d ∷ [])) 4 ≡ c) × (numberAt 2 (stands told (a ∷ b ∷ c ∷ d ∷ [])) 6 ≡ d)
+    → (numberAt 2 (stands 4 told (a ∷ b ∷ c ∷ d ∷ [])) 0 ≡ a) × (numberAt 2 (stands 4 told (a ∷ b ∷ c ∷ d ∷ [])) 2 ≡ b)
+    × (numberAt 2 (stands 4 told (a ∷ b ∷ c ∷ d ∷ [])) 4 ≡ c) × (numberAt 2 (stands 4 told (a ∷ b ∷ c ∷ d ∷ [])) 6 ≡ d)
 unfolding stands splice inWidths bytesOf numberAt
 four-back told a b c d (more p (more q (more r (more t none)))) =
     (number-back 2 a [] p, number-back 2 b [] q, number-back 2 c [] r, number-back 2 d [] t)
 
--- a call that gave 0 had no fault; it granted its values, and left what it had to write
-done : (fault : ℕ) (values written before : List ℕ) → 0 ≡ refusalIn (answerIn (settled fault values written before))
-    → (fault ≡ 0) × (answerIn (settled fault values written before) ≡ granted values) × (bytesIn (settled fault values written before) ≡ written)
-unfolding refusalIn answerIn bytesIn settled
-done zero values written before e = (refl, refl, refl)
-done (suc fault) values written before e = absurd (omega arith)
+-- ---- a call that gave 0
+
+-- it had no fault; it granted its values and told them, and left what it had to write
+record Done (n fault : ℕ) (values written before told told-after after : List ℕ) : Type 0 where
+  pub faultless : fault ≡ 0
+  pub values-due : answerIn (settled fault values written before) ≡ granted values
+  pub values-told : told-after ≡ stands n told values
+  pub out : after ≡ written
+
+done : (n fault : ℕ) (values written before told told-after after : List ℕ) → length (inWidths (twos n) values) ≤ length told
+    → SentAs (twos n) (settled fault values written before) told told-after after 0 → Done n fault values written before told told-after after
+unfolding refusalIn answerIn bytesIn settled toldOf stands
+done n zero values written before told told-after after room said =
+    record { faultless = refl; values-due = refl; values-told = said .told ∙ told-room told (inWidths (twos n) values) room; out = said .out }
+done n (suc fault) values written before told told-after after room said = absurd (omega (arith, said .number))
+
+-- ---- addresses
 
 fitting : (addressed source dest : ℕ) → source < 65536 → dest < 65536 → Fitting (addressOf addressed source dest)
 unfolding Fitting addressOf
 fitting addressed source dest p q = either (eqb addressed 0) (λ e. rw e tt) (λ e. rw e (p, q))
+
+-- no address is accepted whatever the call is handed,
+none-accepted : (own : Address) (addressed source dest : ℕ) → addressed ≡ 0 → badAddress own (addressOf addressed source dest) ≡ false
+unfolding badAddress addressOf
+none-accepted own addressed source dest e = rw e
+
+-- and one that it is handed
+same-accepted : (addressed addressed′ source dest : ℕ) → (addressed ≡ 0 → ⊥)
+    → badAddress (addressOf addressed source dest) (addressOf addressed′ source dest) ≡ false
+unfolding badAddress addressOf
+same-accepted addressed addressed′ source dest some =
+    rw (ne-eqb addressed 0 some)
+    (either (eqb addressed′ 0) (λ e. rw e) (λ e. rw (e, eq-eqb source source refl, eq-eqb dest dest refl)))
+
+matching : (c : Sending) (e : Call) → Matches c e → badAddress (callOf e .own) (settings c .address) ≡ false
+unfolding settingsOf
+matching c e m =
+    ⊎-elim (none-accepted (callOf e .own) (c .addressed) (c .source) (c .dest))
+    (λ (same : (e .addressed ≡ 0 → ⊥) × (e .source ≡ c .source) × (e .dest ≡ c .dest)).
+    rw (same .1, same .2) (same-accepted (e .addressed) (c .addressed) (c .source) (c .dest) (same .0)))
+    m
 
 -- ---- what the call left
 
@@ -68,32 +112,27 @@ module _ (c : Sending) (cut : Cut c) where
   abbrev written : List ℕ
   written = splice (c .out) 0 (fragmentsFor g (c .number) (c .packet))
 
-  due : (fragmentsFault g (c .number) (c .packet) (length (c .out)) ≡ 0)
-      × (answerIn (fragmentsCall g (c .number) (c .packet) (c .out)) ≡ granted figures)
-      × (bytesIn (fragmentsCall g (c .number) (c .packet) (c .out)) ≡ written)
-  unfolding fragmentsCall
-  due = done _ figures written (c .out) (cut .meets .number)
-
-  eight : length (inWidths (twos 4) figures) ≡ split-bytes
+  eight : length (inWidths (twos 4) figures) ≡ 8
   unfolding inWidths bytesOf
   eight = refl
 
-  told : c .told-after ≡ stands (c .told) figures
-  unfolding stands toldOf
-  told =
-      cut .meets .told
-      ∙ ap (λ (a : Answer). toldOf (twos 4) a (c .told)) (due .1)
-      ∙ told-room (c .told) (inWidths (twos 4) figures) (omega (arith, eight, cut .told-room))
+  due : Done 4 (fragmentsFault g (c .number) (c .packet) (length (c .out))) figures written (c .out) (c .told) (c .told-after) (c .out-after)
+  unfolding fragmentsCall
+  due = done 4 _ figures written (c .out) (c .told) (c .told-after) (c .out-after) (omega (arith, eight, cut .told-room)) (cut .meets)
+
+  in-two : InTwo figures
+  unfolding fragmentsCall
+  in-two = split-whole g (c .number) (c .packet) (c .out) figures (due .values-due)
 
   figures-read : (numberAt 2 (c .told-after) 0 ≡ f g l) × (numberAt 2 (c .told-after) 2 ≡ h g)
       × (numberAt 2 (c .told-after) 4 ≡ s g l) × (numberAt 2 (c .told-after) 6 ≡ last)
-  figures-read = rw told (four-back (c .told) (f g l) (h g) (s g l) last (split-whole g (c .number) (c .packet) (c .out) figures (due .1)))
+  figures-read = rw (due .values-told) (four-back (c .told) (f g l) (h g) (s g l) last in-two)
 
   -- its packet is one that the sender takes
   pub takes : link.Takes g (c .number) (c .packet)
   unfolding settingsOf
   takes = record {
-    passed = all-passed g (c .number) (c .packet) _ (due .0);
+    passed = all-passed g (c .number) (c .packet) _ (due .faultless);
     bytes = cut .bytes;
     number = cut .number;
     address = fitting (c .addressed) (c .source) (c .dest) (cut .source) (cut .dest);
@@ -106,11 +145,47 @@ module _ (c : Sending) (cut : Cut c) where
   -- and each is the one that is taken by what it tells
   pub fragment-is : (i : ℕ) → i < count c → fragmentAt c i ≡ fragmentFor g (c .number) (c .packet) i
   fragment-is i less =
-      rw (figures-read .0, figures-read .1, figures-read .2, figures-read .3, cut .meets .out ∙ due .2)
-      (splits g (c .number) (c .packet) (c .out) (due .0) i (omega (arith, count-is)))
+      rw (figures-read .0, figures-read .1, figures-read .2, figures-read .3, due .out)
+      (splits g (c .number) (c .packet) (c .out) (due .faultless) i (omega (arith, count-is)))
+
+  -- bailhammer_fragment writes the same
+  module _ (i : ℕ) (less : i < count c) (told told-after out out-after : List ℕ) (room : 2 ≤ length told)
+      (said : SentAs (twos 1) (fragmentCall g (c .number) (c .packet) i out) told told-after out-after 0) where
+    abbrev fragment : List ℕ
+    fragment = fragmentFor g (c .number) (c .packet) i
+
+    two : length (inWidths (twos 1) (length fragment ∷ [])) ≡ 2
+    unfolding inWidths bytesOf
+    two = refl
+
+    one-due : Done 1 (fragmentFault g (c .number) (c .packet) i (length out)) (length fragment ∷ []) (splice out 0 fragment) out told told-after out-after
+    unfolding fragmentCall
+    one-due = done 1 _ (length fragment ∷ []) (splice out 0 fragment) out told told-after out-after (omega (arith, two)) said
+
+    length-read : numberAt 2 told-after 0 ≡ length fragment
+    unfolding fragmentCall
+    length-read =
+        rw (one-due .values-told)
+        (one-back told (length fragment) (length-whole g (c .number) (c .packet) i out (length fragment ∷ []) (one-due .values-due)))
+
+    one-written : take (numberAt 2 told-after 0) out-after ≡ fragmentAt c i
+    unfolding splice
+    one-written =
+        rw (length-read, one-due .out, fragment-is i less)
+        (take-at fragment (drop (0 + length fragment) out) (length fragment) refl)
 
 -- ---- the claims
 
 -- all fragments of a packet are sent
 pub sent-all : SentAll
 sent-all c cut = (count-is c cut, fragment-is c cut)
+
+-- one by one they are the same
+pub sent-one : SentOne
+sent-one = one-written
+
+-- where addresses match they are heard
+pub match-heard : MatchHeard
+match-heard c cut i less e is m =
+    proved.match-heard (settings c) (c .number) (c .packet) (takes c cut) (callOf e) i (omega (arith, count-is c cut)) (is ∙ fragment-is c cut i less)
+    (matching c e m)

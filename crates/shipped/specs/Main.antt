@@ -6,16 +6,16 @@ use mathlib.Core.Path.{_≡_}
 use mathlib.Core.Bool.{Bool, true, false}
 use mathlib.Core.List.{List, _∷_, map}
 use Prim.Native.Nat.{ℕ, _≤_, _<_}
-use lib.ListN.{length, getD}
+use lib.ListN.{length, getD, take}
 use Rattle.base_rules.specs.Bytes.{Bytes, splice, numberAt}
 use Rattle.cut_rules.specs.declared.Settings.{Settings}
 use Rattle.cut_rules.specs.Missing.{losses}
 use Rattle.places_rules.specs.Places.{open-now}
 use Rattle.sender_rules.specs.Fragments.{fragmentFor}
-use Rattle.sender_rules.specs.Calls.{fragmentsCall, partAt}
+use Rattle.sender_rules.specs.Calls.{fragmentCall, fragmentsCall, partAt}
 use Rattle.card_rules.specs.Told.{SentAs}
 use Rattle.card_rules.specs.Sending.{settingsOf, twos}
-use Rattle.link.specs.Run.{heard, numberIn, lost, All, Each}
+use Rattle.link.specs.Run.{heard, numberIn, indexIn, lost, All, Each}
 use Rattle.link.specs.Demand as link
 use Rattle.shipped.specs.Runs.{Buffers, Call, after, Made, Run, Reached, callOf, ShownAs, Holds}
 
@@ -100,7 +100,7 @@ BeforeDone c P es = Each (λ earlier e. enoughAfter c earlier ≡ false → P e)
 
 -- card.h: the call gives 0 and tells "1 where a packet was handed out (1)"
 abbrev pub HandsOut : Call → Type 0
-HandsOut e = (e .number ≡ 0) × (getD (e .left .told) 0 0 ≡ 1)
+HandsOut e = (e .given ≡ 0) × (getD (e .left .told) 0 0 ≡ 1)
 
 -- "handed out byte for byte": card.h, "its length (2), how many of its fragments are not held (2)", and the packet at the front of out
 pub record Handed (c : Sending) (earlier : List Call) (e : Call) : Type 0 where
@@ -111,7 +111,7 @@ pub record Handed (c : Sending) (earlier : List Call) (e : Call) : Type 0 where
 
 -- card.h: the call gives 0 or 13 and tells "1 and the number of the packet that lost its place before it was formed (1 and 2)"
 pub record Names (e : Call) (n : ℕ) : Type 0 where
-  pub answered : (e .number ≡ 0) ⊎ (e .number ≡ 13)
+  pub answered : (e .given ≡ 0) ⊎ (e .given ≡ 13)
   pub displaced : getD (e .left .told) 5 0 ≡ 1
   pub number : numberAt 2 (e .left .told) 6 ≡ n
 
@@ -168,6 +168,23 @@ SentAll =
     (c : Sending) → Cut c
     → (count c ≡ link.count (settings c) (c .packet))
     × ((i : ℕ) → i < count c → fragmentAt c i ≡ fragmentFor (settings c) (c .number) (c .packet) i)
+
+-- bailhammer_fragment, which writes one at the front of out and tells its length, writes the same
+abbrev pub SentOne : Type 0
+SentOne =
+    (c : Sending) → Cut c → (i : ℕ) → i < count c → (told told-after out out-after : List ℕ) → 2 ≤ length told
+    → SentAs (twos 1) (fragmentCall (settings c) (c .number) (c .packet) i out) told told-after out-after 0
+    → take (numberAt 2 told-after 0) out-after ≡ fragmentAt c i
+
+-- "addresses match": the packet is sent without one, or the call is handed the same
+abbrev pub Matches : Sending → Call → Type 0
+Matches c e = (c .addressed ≡ 0) ⊎ ((e .addressed ≡ 0 → ⊥) × (e .source ≡ c .source) × (e .dest ≡ c .dest))
+
+-- then its fragment i passes the checks, and has come as the one that it is
+abbrev pub MatchHeard : Type 0
+MatchHeard =
+    (c : Sending) → Cut c → (i : ℕ) → i < count c → (e : Call) → e .datagram ≡ fragmentAt c i → Matches c e
+    → (heard (callOf e) ≡ true) × (numberIn (callOf e) ≡ key c) × (indexIn (callOf e) ≡ i)
 
 -- no false alarm: a number that a call names was shown as open before it, and is not held after it
 abbrev pub NamesGone : Type 0

@@ -31,7 +31,7 @@ pub record Call : Type 0 where
   pub told : List ℕ
   pub out : List ℕ
   pub left : Held
-  pub number : ℕ
+  pub given : ℕ
 
 -- the buffers that a call leaves to the next one
 abbrev pub after : Call → Buffers
@@ -48,7 +48,7 @@ pub record Made (s : Buffers) (e : Call) : Type 0 where
   pub bytes : Bytes (e .datagram)
   pub meets : CardReceived (addressOf (e .addressed) (e .source) (e .dest)) (e .datagram)
       (record { record-bytes = s .table; lent = s .lent; told = e .told; out = e .out })
-      (e .left) (e .number)
+      (e .left) (e .given)
 
 -- ---- runs
 
@@ -80,9 +80,9 @@ handedFrom told = cond (eqb (getD told 0 0) 0) [] (numberAt 2 told 1 ∷ numberA
 
 -- the answer: the number given, and what is told with 0 and with 13; any other number tells nothing
 unfoldable pub answerFrom : ℕ → List ℕ → ℕ × List ℕ
-answerFrom number told = (
-  number,
-  cond (eqb number 0) (handedFrom told ++ displacedFrom told) (cond (eqb number 13) (displacedFrom told) []),
+answerFrom given told = (
+  given,
+  cond (eqb given 0) (handedFrom told ++ displacedFrom told) (cond (eqb given 13) (displacedFrom told) []),
 )
 
 -- the record and the lent bytes, as `receive` has them
@@ -96,7 +96,7 @@ callOf e = record {
   datagram = e .datagram;
   lent = e .out;
   left = record {
-    answer = answerFrom (e .number) (e .left .told);
+    answer = answerFrom (e .given) (e .left .told);
     table = tableFrom (e .left .record-bytes);
     bytes = e .left .lent;
     out = e .left .out;
@@ -109,7 +109,7 @@ callOf e = record {
 abbrev pub query-bytes : ℕ
 query-bytes = 12
 
--- these
+-- what it tells of the record in the buffers
 unfoldable pub queried : Buffers → List ℕ
 queried s = inWidths places-widths (placesTold (tableFrom (s .table)))
 

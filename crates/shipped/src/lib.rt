@@ -1,1 +1,1 @@
-// No code: demand 3 of the calls for C (specs/Runs.antt: their runs; proofs/Proved.antt cites the proofs).
+// No code: demand 3 of the library that is shipped (specs/Main.antt: the page; Runs.antt: the runs; proofs/Proved.antt cites the proofs).
