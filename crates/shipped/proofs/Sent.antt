@@ -1,5 +1,5 @@
 -- What bailhammer_fragments wrote and told, taken as the fragments of its packet. Assumes nothing.
-use mathlib.Core.Logic.{⊎-elim}
+use mathlib.Core.Logic.{inl, inr}
 use mathlib.Core.Path.{_≡_, refl, ap, _∙_}
 use mathlib.Core.Bool.{false}
 use mathlib.Core.List.{List, [], _∷_}
@@ -87,11 +87,8 @@ same-accepted addressed addressed′ source dest some =
 
 matching : (c : Sending) (e : Call) → Matches c e → badAddress (callOf e .own) (settings c .address) ≡ false
 unfolding settingsOf
-matching c e m =
-    ⊎-elim (none-accepted (callOf e .own) (c .addressed) (c .source) (c .dest))
-    (λ (same : (e .addressed ≡ 0 → ⊥) × (e .source ≡ c .source) × (e .dest ≡ c .dest)).
-    rw (same .1, same .2) (same-accepted (e .addressed) (c .addressed) (c .source) (c .dest) (same .0)))
-    m
+matching c e (inl without) = none-accepted (callOf e .own) (c .addressed) (c .source) (c .dest) without
+matching c e (inr same) = rw (same .1, same .2) (same-accepted (e .addressed) (c .addressed) (c .source) (c .dest) (same .0))
 
 -- ---- what the call left
 
@@ -182,7 +179,7 @@ sent-all c cut = (count-is c cut, fragment-is c cut)
 
 -- one by one they are the same
 pub sent-one : SentOne
-sent-one = one-written
+sent-one c cut i less told told-after out out-after room said = one-written c cut i less told told-after out out-after (omega arith) said
 
 -- where addresses match they are heard
 pub match-heard : MatchHeard
