@@ -44,7 +44,8 @@ free-typed = record {
   kept = length-replicate most-f false;
 }
 
-fresh-typed : TypedTable freshTable
+-- the fields of a fresh table have the bytes of their types
+pub fresh-typed : TypedTable freshTable
 unfolding freshTable placeAt
 fresh-typed = record {
   places = refl;

@@ -1,5 +1,6 @@
 pub mod Read
 pub mod Sent
+pub mod Typed
 pub mod Steps
 pub mod Runs
 pub mod Query

@@ -12,8 +12,8 @@ use Rattle.link.specs.Run as run
 use Rattle.link.specs.Demand as link
 use Rattle.link.proofs.Proved as proved
 use Rattle.shipped.specs.Runs.{Buffers, Call, after, Made, Run, start, next, Reached, callOf, stateOf}
-use Rattle.shipped.specs.Main.{Sending, settings, Cut, count, key, Own, Scene, enoughAfter, missingAfter, Said, HeldAfter, Demanded}
-use Rattle.shipped.specs.Main.{Among, Demand3, Lifted, Bears, NamesGone}
+use Rattle.shipped.specs.Main.{Sending, settings, Cut, key, Own, Scene, missingAfter, Said, HeldAfter, Demanded}
+use Rattle.shipped.specs.Main.{Demand3, Lifted, Bears, NamesGone}
 use Rattle.shipped.proofs.Answers.{told-handed, told-named, link-handed, link-named}
 use Rattle.shipped.proofs.Query.{holds-alike, open-told}
 use Rattle.shipped.proofs.Runs.{Gave, goes-on, reached-state, reached-after, made-link, made-gave}

@@ -1,6 +1,6 @@
 -- The claims of specs/Main.antt and Runs.antt, each by citation. Assumes nothing.
 use Rattle.shipped.specs.Main.{Demand3, Lifted, Bears, SentAll, SentOne, MatchHeard, NamesGone}
-use Rattle.shipped.specs.Runs.{IsRun, GoesOn, ReachedState, QueryTells, HoldsAlike, OpenTold}
+use Rattle.shipped.specs.Runs.{IsRun, GoesOn, ReachedState, QueryTells, HoldsAlike, OpenTold, SomeCall}
 use Rattle.shipped.proofs.Main as main
 use Rattle.shipped.proofs.Query as query
 use Rattle.shipped.proofs.Runs as runs
@@ -48,3 +48,6 @@ holds-alike = query.holds-alike
 
 pub open-told : OpenTold
 open-told = query.open-told
+
+pub some-call : SomeCall
+some-call = runs.some-call

@@ -29,6 +29,7 @@ use Rattle.link.proofs.View.{no-room-fault}
 use Rattle.shipped.specs.Runs.{Buffers, stateOf, queried, conditionTold, numberTold, ShownAs, Holds}
 use Rattle.shipped.specs.Runs.{QueryTells, HoldsAlike, OpenTold}
 use Rattle.shipped.proofs.Runs.{Stands, reached-stands}
+use Rattle.shipped.proofs.Typed.{key-small}
 
 -- ---- what is told
 
@@ -59,7 +60,7 @@ module _ (s : Buffers) (stands : Stands s) where
   condition-small i l = omega (arith, range-from (placeAt t i) (place-fine t (stands .good .ranged) i l) .condition)
 
   shown-small : (i : ℕ) → i < four → shownNumber (placeAt t i) < 65536
-  shown-small i l = either (eqb (placeAt t i .condition) free) (λ e. rw e (lit< tt)) (λ e. rw e (stands .small i l))
+  shown-small i l = either (eqb (placeAt t i .condition) free) (λ e. rw e (lit< tt)) (λ e. rw e (key-small (stands .typed .each i l)))
 
   -- byte 3 i is the condition of place i,
   pub condition-read : (i : ℕ) → i < four → conditionTold s i ≡ placeAt t i .condition

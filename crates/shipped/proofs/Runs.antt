@@ -1,29 +1,37 @@
 -- A run of bailhammer_receive is one of `receive`: each call reads back the record that the last one left. Assumes nothing.
-use mathlib.Core.Path.{_≡_, refl, sym, ap₂, _∙_, subst}
+use mathlib.Core.Path.{_≡_, refl, sym, ap, ap₂, _∙_, subst}
 use mathlib.Core.List.{List, [], _∷_, map}
 use Prim.Native.Nat.{ℕ, _≤_}
+use borrow.Author.Tests.{eq-eqb}
 use lib.ListN.{length, replicate}
 use Rattle.base_rules.specs.Answer.{granted}
+use Rattle.base_rules.specs.Bounds.{most-l}
+use Rattle.base_rules.specs.Bytes.{Bytes}
 use Rattle.base_rules.specs.Written.{numberOf}
 use Rattle.base_rules.specs.declared.Written.the-variants.{Done}
-use Rattle.packed_rules.specs.Packed.{table-bytes, tableFrom, unpackFault, unpackCall}
+use Rattle.cut_rules.specs.declared.Address.{Address}
+use Rattle.packed_rules.specs.Claims.{TypedTable}
+use Rattle.packed_rules.specs.Packed.{table-bytes, packedOf, tableFrom, unpackFault, unpackCall}
+use Rattle.packed_rules.proofs.Proved.{unpacks}
 use Rattle.places_rules.specs.declared.Table.{Table}
 use Rattle.places_rules.specs.Places.{freshTable}
 use Rattle.receiver_rules.specs.Promise as promise
 use Rattle.receiver_rules.specs.Promise.{Outcome, outcome, all-places, Step}
 use Rattle.receiver_rules.specs.declared.Received.{Received}
+use Rattle.receiver_rules.proofs.Proved.{some-outcome}
 use Rattle.card_rules.specs.Calls.{addressOf}
-use Rattle.card_rules.specs.Receiving.{Held, ReceivedWith, toldAfter}
+use Rattle.card_rules.specs.Receiving.{onRecord, toldAfter, Held, ReceivedWith, CardReceived}
 use Rattle.card_rules.proofs.Proved.{zeros-fresh}
 use Rattle.card_rules.proofs.ReceiveLaws.{good-record}
-use Rattle.card_rules.proofs.ReceiveProved.{with-record}
+use Rattle.card_rules.proofs.ReceiveProved.{fresh-typed, with-record}
 use Rattle.link.specs.Run as link
 use Rattle.link.proofs.View.{Good}
 use Rattle.link.proofs.Frame.{good-after, good-fresh}
 use Rattle.shipped.specs.Runs.{Buffers, Call, after, Made, Run, start, next, freshWith, Reached, receipt-bytes, answerFrom, stateOf, callOf}
-use Rattle.shipped.specs.Runs.{IsRun, GoesOn, ReachedState}
+use Rattle.shipped.specs.Runs.{IsRun, GoesOn, ReachedState, SomeCall}
 use Rattle.shipped.proofs.Read.{Fits, answer-back}
-use Rattle.shipped.proofs.Steps.{Small, small-fresh, step-fits, step-small}
+use Rattle.shipped.proofs.Steps.{Answers, step-answers, step-fits}
+use Rattle.shipped.proofs.Typed.{step-typed}
 
 -- ---- buffers that calls have left
 
@@ -31,7 +39,7 @@ use Rattle.shipped.proofs.Steps.{Small, small-fresh, step-fits, step-sm
 pub record Stands (s : Buffers) : Type 0 where
   pub read : unpackFault (s .table) ≡ 0
   pub good : Good (stateOf s)
-  pub small : Small (stateOf s)
+  pub typed : TypedTable (stateOf s .table)
 
 -- bytes that are unpacked as a record have no fault, and are that record's
 taken : (bytes : List ℕ) (t : Table) → unpackCall bytes ≡ (granted [], t) → (unpackFault bytes ≡ 0) × (t ≡ tableFrom bytes)
@@ -44,7 +52,7 @@ fresh-stands lent all =
     record {
       read = zeros .0;
       good = subst (λ (t : Table). Good (record { table = t; bytes = lent })) (zeros .1) (good-fresh lent all);
-      small = subst (λ (t : Table). Small (record { table = t; bytes = lent })) (zeros .1) small-fresh;
+      typed = subst TypedTable (zeros .1) fresh-typed;
     }
 
 -- ---- a call
@@ -70,7 +78,7 @@ module _ (s : Buffers) (e : Call) (stands : Stands s) (m : Made s e) where
 
   fits : Fits (with .answer)
   unfolding outcome
-  fits = step-fits (callOf e .own) (stateOf s) (e .datagram) (e .out) left (stands .good) (stands .small) (m .room) (with .step) (with .answer) refl
+  fits = step-fits (callOf e .own) (stateOf s) (e .datagram) (e .out) left (stands .good) (stands .typed) (m .room) (with .step) (with .answer) refl
 
   answer-read : callOf e .left .answer ≡ promise.numberOf (with .answer)
   answer-read = ap₂ answerFrom (with .number) (with .told) ∙ answer-back (with .answer) (e .told) (m .told-room) fits
@@ -96,7 +104,7 @@ module _ (s : Buffers) (e : Call) (stands : Stands s) (m : Made s e) where
   call-stands = record {
     read = taken (e .left .record-bytes) (with .table) (with .read-back) .0;
     good = good-after (stands .good) made;
-    small = step-small (callOf e .own) (stateOf s) (e .datagram) (e .out) (callOf e .left) (stands .good) (stands .small) (m .bytes) (m .room) (made .meets);
+    typed = step-typed (callOf e .own) (stateOf s) (e .datagram) (e .out) (callOf e .left) (stands .good) (stands .typed) (m .bytes) (m .room) (made .meets);
   }
 
 -- ---- runs
@@ -141,3 +149,42 @@ made-link c m = made _ _ (reached-stands c) m
 -- and its answer is read off what it gave
 pub made-gave : {s : Buffers} {e : Call} → Reached s → Made s e → Gave e
 made-gave c m = call-gave _ _ (reached-stands c) m
+
+-- ---- there are calls
+
+module _ (s : Buffers) (stands : Stands s) (own : Address) (datagram told out : List ℕ) (room : most-l ≤ length out) (bytes : Bytes datagram)
+    (y : Outcome) (step : Step own (stateOf s) datagram out y) where
+  answers : Answers y
+  answers = step-answers own (stateOf s) datagram out y (stands .good) (stands .typed) room step
+
+  is-outcome : y ≡ outcome (answers .0) (y .table) (y .bytes) (y .out)
+  unfolding outcome
+  is-outcome = ap (λ (a : ℕ × List ℕ). record { answer = a; table = y .table; bytes = y .bytes; out = y .out }) (answers .1)
+
+  -- what a call with that outcome leaves: the record packed, the answer told
+  abbrev left-by : Held
+  left-by = record { record-bytes = packedOf (y .table); lent = y .bytes; told = toldAfter (answers .0) told; out = y .out }
+
+  received : CardReceived own datagram (record { record-bytes = s .table; lent = s .lent; told = told; out = out }) left-by
+      (promise.numberOf (answers .0) .0)
+  unfolding CardReceived onRecord
+  received = rw (eq-eqb (unpackFault (s .table)) 0 (stands .read)) (record {
+    answer = answers .0;
+    table = y .table;
+    step = subst (Step own (stateOf s) datagram out) is-outcome step;
+    packed = refl;
+    read-back = unpacks (y .table) (step-typed own (stateOf s) datagram out y (stands .good) (stands .typed) bytes room step);
+    told = refl;
+    number = refl;
+  })
+
+-- whatever a call is handed with full room, there is one
+pub some-call : SomeCall
+some-call s c addressed source dest datagram told out room told-room bytes =
+    let own = addressOf addressed source dest in
+    let stands = reached-stands c in
+    let y = some-outcome own (stateOf s) datagram out in (
+      left-by s stands own datagram told out room bytes (y .0) (y .1),
+      promise.numberOf (answers s stands own datagram told out room bytes (y .0) (y .1) .0) .0,
+      record { room = room; told-room = told-room; bytes = bytes; meets = received s stands own datagram told out room bytes (y .0) (y .1) },
+    )

@@ -1,6 +1,6 @@
 -- What bailhammer_fragments wrote and told, taken as the fragments of its packet. Assumes nothing.
 use mathlib.Core.Logic.{inl, inr}
-use mathlib.Core.Path.{_≡_, refl, ap, _∙_}
+use mathlib.Core.Path.{_≡_, refl, _∙_}
 use mathlib.Core.Bool.{false}
 use mathlib.Core.List.{List, [], _∷_}
 use Prim.Native.Nat.{ℕ, zero, suc, _+_, _-_, _≤_, _<_}
@@ -99,13 +99,14 @@ module _ (c : Sending) (cut : Cut c) where
   abbrev l : ℕ
   l = length (c .packet)
 
-  -- f, h, s and the last Plen, and all fragments one behind the other
   abbrev last : ℕ
   last = length (payloadFor g (c .packet) (f g l - 1))
 
+  -- what it tells: f, h, s and the last Plen
   abbrev figures : List ℕ
   figures = f g l ∷ h g ∷ s g l ∷ last ∷ []
 
+  -- what it writes: all fragments, one behind the other
   abbrev written : List ℕ
   written = splice (c .out) 0 (fragmentsFor g (c .number) (c .packet))
 

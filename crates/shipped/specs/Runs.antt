@@ -164,3 +164,18 @@ HoldsAlike = (s : Buffers) → Reached s → (n : ℕ) → (Holds s n → link.H
 -- a number that the state shows as open is told as open
 abbrev pub OpenTold : Type 0
 OpenTold = (s : Buffers) → Reached s → (n : ℕ) → link.ShownOpen (stateOf s) n → ShownAs open-now s n
+
+-- and there are runs: from reached buffers there is a call with any inputs that lend full room
+abbrev pub SomeCall : Type 0
+SomeCall =
+    (s : Buffers) → Reached s → (addressed source dest : ℕ) (datagram told out : List ℕ)
+    → most-l ≤ length out → receipt-bytes ≤ length told → Bytes datagram → (left : Held) × (given : ℕ) × Made s (record {
+      addressed = addressed;
+      source = source;
+      dest = dest;
+      datagram = datagram;
+      told = told;
+      out = out;
+      left = left;
+      given = given;
+    })
