@@ -181,7 +181,8 @@ module _ (g : Settings) (n : ℕ) (packet : List ℕ) (takes : Takes g n packet)
 
   -- ---- where nothing of it came
 
-  absent-step : four ≤ heldAt (s .table) (keyFor g n) → come (keyFor g n) es ≡ (λ j. false) → View (e .own) s (e .datagram) (e .lent) (e .left) → Next g n packet es e i
+  absent-step : four ≤ heldAt (s .table) (keyFor g n) → come (keyFor g n) es ≡ (λ j. false) → View (e .own) s (e .datagram) (e .lent) (e .left)
+      → Next g n packet es e i
   absent-step absent none (unheard fault q) = absurd (fault (b .passes))
   absent-step absent none (refuses passes low fault q) = absurd (omega (arith, low, absent, ap (heldAt (s .table)) key-is))
   absent-step absent none (keeps passes low fault z) = absurd (omega (arith, low, absent, ap (heldAt (s .table)) key-is))

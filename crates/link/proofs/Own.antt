@@ -159,7 +159,15 @@ module _ (g : Settings) (packet : List ℕ) (passed : packetFault g packet ≡ 0
 
     opened-mine : Mine g n packet (openedBy h)
     unfolding openedBy headerFor
-    opened-mine = record { number = key-opened h ∙ key-sent g n packet i; count = refl; fec = refl; rsk = refl; rsz = refl; size = (false, refl); last = omega arith }
+    opened-mine = record {
+      number = key-opened h ∙ key-sent g n packet i;
+      count = refl;
+      fec = refl;
+      rsk = refl;
+      rsz = refl;
+      size = (false, refl);
+      last = omega arith;
+    }
 
     -- a place that its fragment opens has the figures of the packet, and no fragment yet
     pub opened-full : (at : ℕ) (b : List ℕ) → Full g n packet (λ j. false) at (openedBy h) b

@@ -201,7 +201,8 @@ module _ (g : Settings) (n : ℕ) (packet : List ℕ) (takes : Takes g n packet)
 
       wrote-stage : Stage g n packet es s → Stage g n packet es (after e) ⊎ Gone g n packet es e
       wrote-stage (not-yet absent none) =
-          inl (not-yet (held-none (e .left .table) (keyFor g n) (λ k a. wrote-strange w (keyFor g n) other k (held-absent (s .table) (keyFor g n) absent k a))) none)
+          inl (not-yet (held-none (e .left .table) (keyFor g n)
+          (λ k a. wrote-strange w (keyFor g n) other k (held-absent (s .table) (keyFor g n) absent k a))) none)
       wrote-stage (open-at i o z) =
           same-or-not i j
           (λ q.

@@ -170,8 +170,8 @@ module _ (g : Settings) (n : ℕ) (packet : List ℕ) (takes : Takes g n packet)
         (λ i b.
         brought es s (good-run (good-reached reached) run) (standing run own held) e made i b .answered .delivered before now .0)
         (λ f.
-        clash now (enough-with g n packet takes (e ∷ es) (come (keyFor g n) es) (come-foreign (keyFor g n) e es f) ∙ sym (enough-is g packet (takes .passed) n es)
-        ∙ before))
+        clash now (enough-with g n packet takes (e ∷ es) (come (keyFor g n) es) (come-foreign (keyFor g n) e es f)
+        ∙ sym (enough-is g packet (takes .passed) n es) ∙ before))
 
     turning : {es : List Call} {s : State} → Run first es s → All (Own g n packet) es → HeldAfter g n es
         → (e : Call) → Made s e → Own g n packet e → enoughAfter g n packet es ≡ false → enoughAfter g n packet (e ∷ es) ≡ true
