@@ -11,6 +11,14 @@ pub data Answer : Type 0 where
 pub data Outcome : Type 0 where
   outcome : Answer → List ℕ → Outcome
 
+-- its answer,
+unfoldable pub answerIn : Outcome → Answer
+answerIn (outcome a bytes) = a
+
+-- and the bytes
+unfoldable pub bytesIn : Outcome → List ℕ
+bytesIn (outcome a bytes) = bytes
+
 -- the answer where `fault` is the number that is due, 0 for none
 unfoldable pub answered : ℕ → List ℕ → Answer
 answered zero values = granted values

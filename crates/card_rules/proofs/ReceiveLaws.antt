@@ -12,7 +12,7 @@ use denote.Shadow.{shadow}
 use lib.Dec.{ltb, eqb}
 use lib.ListN.{length, getD}
 use mir.Val.{Val}
-use Rattle.base_rules.specs.Answer.{Answer, answered, outcome}
+use Rattle.base_rules.specs.Answer.{Answer, answered, outcome, bytesIn}
 use Rattle.base_rules.specs.Bytes.{splice}
 use Rattle.base_rules.specs.Written.{numberOf}
 use Rattle.base_rules.specs.declared.Written.{Written}
@@ -31,7 +31,6 @@ use Rattle.places_rules.proofs.Records.{as-long}
 use Rattle.receiver_rules.specs.Promise as promise
 use Rattle.receiver_rules.specs.Promise.{Step}
 use Rattle.receiver_rules.specs.declared.Received.{Received}
-use Rattle.card_rules.specs.Told.{bytesIn}
 use Rattle.card_rules.specs.Receiving.{onRecord, toldAfter, Held, ReceivedWith, CardReceived}
 use Rattle.card_rules.proofs.ToldLaws.{chosen}
 use Rattle.card_rules.proofs.TellLaws.{whole}

@@ -7,7 +7,7 @@ use native.Mathlib.Omega.{arith}
 use borrow.Author.Tests.{eqb-true, eqb-false, eq-eqb, ne-eqb}
 use lib.Dec.{eqb, lit<}
 use lib.ListN.{length-replicate, getD-replicate}
-use Rattle.base_rules.specs.Answer.{refused, Outcome, outcome, settled}
+use Rattle.base_rules.specs.Answer.{refused, Outcome, outcome, settled, answerIn, bytesIn}
 use Rattle.base_rules.specs.Bounds.{most-f, most-l}
 use Rattle.base_rules.specs.Bytes.{Bytes}
 use Rattle.base_rules.proofs.Logic.{either}
@@ -25,7 +25,7 @@ use Rattle.receiver_rules.specs.declared.Received.{Received}
 use Rattle.receiver_rules.specs.declared.Received.the-variants.{Delivered, Refused}
 use Rattle.receiver_rules.proofs.Proved.{one-outcome, one-received, delivery-writes, count-told}
 use Rattle.receiver_rules.proofs.Unique.{step-settled, step-refused}
-use Rattle.card_rules.specs.Told.{refusalIn, answerIn, bytesIn}
+use Rattle.card_rules.specs.Told.{refusalIn}
 use Rattle.card_rules.specs.Receiving.{onRecord, toldAfter, Held, ReceivedWith, CardReceived, clearFor}
 use Rattle.card_rules.specs.Claims.{ZerosFresh, ClearedZeros, OneReceipt, RefusedUnchanged, ReceiptWhole}
 use Rattle.card_rules.proofs.CountLaws.{missing-few}

@@ -5,7 +5,7 @@ use mathlib.Core.List.{List}
 use Prim.Native.Nat.{ℕ, zero, suc, _+_, _-_, _≤_, _<_}
 use native.Mathlib.Omega.{arith}
 use lib.ListN.{length}
-use Rattle.base_rules.specs.Answer.{granted, answered, settled}
+use Rattle.base_rules.specs.Answer.{granted, answered, settled, answerIn}
 use Rattle.base_rules.specs.Tests.{first}
 use Rattle.cut_rules.specs.Plan.{withFec, figuresOf}
 use Rattle.cut_rules.specs.Sizes.{c, k, z, n, h, S, L, f, s, assured}
@@ -18,7 +18,6 @@ use Rattle.sender_rules.specs.Calls.{checks, packetFault, fragmentFault, fragme
 use Rattle.sender_rules.specs.Fragments.{payloadFor}
 use Rattle.sender_rules.proofs.Checks.{none-more, taken}
 use Rattle.sender_rules.proofs.FragmentLengths.{fragment-size, size-most}
-use Rattle.card_rules.specs.Told.{answerIn}
 use Rattle.card_rules.specs.Claims.{InTwo, none, more, PlanWhole, LengthWhole, SplitWhole}
 
 -- ---- the plan

@@ -3,9 +3,9 @@ use mathlib.Core.Path.{_≡_, refl, sym, ap, _∙_}
 use mathlib.Core.Bool.{Bool, true, false, cond}
 use mathlib.Core.List.{List, [], _∷_}
 use Prim.Native.Nat.{ℕ}
-use Rattle.base_rules.specs.Answer.{Answer, granted, refused, Outcome, outcome, settled}
+use Rattle.base_rules.specs.Answer.{Answer, granted, refused, Outcome, outcome, settled, answerIn, bytesIn}
 use Rattle.base_rules.specs.Tests.{first}
-use Rattle.card_rules.specs.Told.{refusalIn, toldIn, inWidths, toldOf, answerIn, bytesIn, CardWritten, CardTold, SentAs}
+use Rattle.card_rules.specs.Told.{refusalIn, toldIn, inWidths, toldOf, CardWritten, CardTold, SentAs}
 
 -- ---- a call that writes
 

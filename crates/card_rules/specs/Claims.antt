@@ -4,7 +4,7 @@ use mathlib.Core.List.{List, [], _∷_}
 use mathlib.Core.Logic.{_⊎_}
 use Prim.Native.Nat.{ℕ, _^_, _<_, _≤_}
 use lib.ListN.{length, getD, replicate}
-use Rattle.base_rules.specs.Answer.{granted}
+use Rattle.base_rules.specs.Answer.{granted, answerIn}
 use Rattle.base_rules.specs.Bounds.{most-f, most-l}
 use Rattle.base_rules.specs.Bytes.{Bytes}
 use Rattle.cut_rules.specs.Plan.{planFault, figuresOf}
@@ -26,7 +26,7 @@ use Rattle.walk_rules.specs.declared.Handed.the-variants as handed
 use Rattle.walk_rules.specs.declared.Walker.{Walker}
 use Rattle.walk_rules.specs.Names.{deepest}
 use Rattle.walk_rules.specs.Step.{opens, walkStep}
-use Rattle.card_rules.specs.Told.{refusalIn, answerIn, CardWritten}
+use Rattle.card_rules.specs.Told.{refusalIn, CardWritten}
 use Rattle.card_rules.specs.Receiving.{Held, CardReceived, clearFor}
 use Rattle.card_rules.specs.Items.{walker-bytes, walkerBytes, walkerFrom, walkStepCall}
 use Rattle.card_rules.specs.Blocks.{CardFilled}

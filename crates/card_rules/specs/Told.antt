@@ -6,7 +6,7 @@ use Prim.Native.Nat.{ℕ}
 use lib.Dec.{ltb}
 use lib.ListN.{length}
 use Rattle.base_rules.specs.Bytes.{splice, bytesOf}
-use Rattle.base_rules.specs.Answer.{Answer, granted, refused, Outcome, outcome}
+use Rattle.base_rules.specs.Answer.{Answer, granted, refused, Outcome, answerIn, bytesIn}
 
 -- the number given back: the refusal's, 0 where nothing is refused
 unfoldable pub refusalIn : Answer → ℕ
@@ -27,14 +27,6 @@ inWidths (w ∷ widths) (v ∷ values) = bytesOf w v ++ inWidths widths values
 unfoldable pub toldOf : List ℕ → Answer → List ℕ → List ℕ
 toldOf widths (granted values) before = toldIn before (inWidths widths values)
 toldOf widths (refused n) before = before
-
--- the answer of a call that writes
-unfoldable pub answerIn : Outcome → Answer
-answerIn (outcome a bytes) = a
-
--- and the bytes that it leaves
-unfoldable pub bytesIn : Outcome → List ℕ
-bytesIn (outcome a bytes) = bytes
 
 -- ---- what a call for C promises; `due` is what it has to answer, and r the number that it gives back
 

@@ -6,7 +6,7 @@ use native.Mathlib.Omega.{arith}
 use lib.Dec.{lit<}
 use lib.ListN.{length, getD, take, drop, length-append}
 use lib.Seq.{drop-at, getD-append-add, getD-drop}
-use Rattle.base_rules.specs.Answer.{Outcome, outcome, granted, refused}
+use Rattle.base_rules.specs.Answer.{Outcome, outcome, granted, refused, bytesIn}
 use Rattle.base_rules.specs.Bounds.{most-l}
 use Rattle.base_rules.specs.Bytes.{splice, bytesOf}
 use Rattle.base_rules.specs.Round.{ceil}
@@ -20,7 +20,7 @@ use Rattle.sender_rules.proofs.Cases.{one-done, all-done}
 use Rattle.sender_rules.proofs.FragmentLengths.{header-size, fragment-size, size-most}
 use Rattle.sender_rules.proofs.Proved.{joins-plain}
 use Rattle.link.specs.Demand.{Takes, count}
-use Rattle.link.specs.Useless.{Sender, WholeSender, Sends, SendsAll, bytesLeft, anyIndex, RefusesEveryPacket, SendsFixed, OneFragment, WritesOneOnly}
+use Rattle.link.specs.Useless.{Sender, WholeSender, Sends, SendsAll, anyIndex, RefusesEveryPacket, SendsFixed, OneFragment, WritesOneOnly}
 use Rattle.link.proofs.Witness.{plainAt, packetWith, size-is, room, room-long, room-zero, in-one, in-two, whole, halved, packets-apart, begins-a}
 
 -- ---- what a sender that keeps its promise leaves in a buffer with room
@@ -108,20 +108,20 @@ refuses-every-packet-whole S sends bad =
     granted-or-refused (good .0) _ (refused .0) (refused .1) (good .1) (refused .2)
 
 pub sends-fixed : (S : Sender) → Sends S → SendsFixed S → ⊥
-unfolding bytesLeft
+unfolding bytesIn
 sends-fixed S sends bad =
     sent-apart
-    (sym (ap bytesLeft (leaves-one 1 (lit< tt) S sends .1))
+    (sym (ap bytesIn (leaves-one 1 (lit< tt) S sends .1))
     ∙ bad .same (plainAt 1400) 0 (packetWith 1) (packetWith 2) 0 room (takes-one 1 (lit< tt)) (takes-one 2 (lit< tt))
-    ∙ ap bytesLeft (leaves-one 2 (lit< tt) S sends .1))
+    ∙ ap bytesIn (leaves-one 2 (lit< tt) S sends .1))
 
 pub sends-fixed-whole : (S : WholeSender) → SendsAll S → SendsFixed (anyIndex S) → ⊥
-unfolding bytesLeft
+unfolding bytesIn
 sends-fixed-whole S sends bad =
     sent-apart
-    (sym (ap bytesLeft (leaves-all 1 (lit< tt) S sends .1))
+    (sym (ap bytesIn (leaves-all 1 (lit< tt) S sends .1))
     ∙ bad .same (plainAt 1400) 0 (packetWith 1) (packetWith 2) 0 room (takes-one 1 (lit< tt)) (takes-one 2 (lit< tt))
-    ∙ ap bytesLeft (leaves-all 2 (lit< tt) S sends .1))
+    ∙ ap bytesIn (leaves-all 2 (lit< tt) S sends .1))
 
 -- ---- one fragment of two
 
@@ -159,10 +159,10 @@ unfolding splice fragmentFor headerFor headerBytes bodyOf frontOf bytesOf
 index-at = (refl, refl)
 
 pub one-fragment : (S : Sender) → Sends S → OneFragment S → ⊥
-unfolding bytesLeft
+unfolding bytesIn
 one-fragment S sends bad =
-    let left : (i : ℕ) → i < 2 → bytesLeft (S (plainAt 21) 0 (packetWith 1) i room) ≡ splice room 0 (part i) =
-    λ i below. ap bytesLeft (sent takes-two S sends i (omega (arith, two)) (omega (arith, part-long i)) .1) in
+    let left : (i : ℕ) → i < 2 → bytesIn (S (plainAt 21) 0 (packetWith 1) i room) ≡ splice room 0 (part i) =
+    λ i below. ap bytesIn (sent takes-two S sends i (omega (arith, two)) (omega (arith, part-long i)) .1) in
     let same = bad .same (plainAt 21) 0 (packetWith 1) 0 1 room takes-two (omega (arith, two)) (omega (arith, two)) in
     let z : _≡_ {A = ℕ} 0 1 =
     sym (index-at .0) ∙ ap (λ (l : List ℕ). getD l 6 0) (sym (left 0 (omega arith)) ∙ same ∙ left 1 (omega arith)) ∙ index-at .1 in
@@ -191,11 +191,11 @@ behind-one i =
     ∙ room-zero (0 + length (part i) + far)
 
 pub writes-one-only : (S : WholeSender) → SendsAll S → WritesOneOnly S → ⊥
-unfolding bytesLeft
+unfolding bytesIn
 writes-one-only S sends bad =
     let long : length (fragmentsFor (plainAt 21) 0 (packetWith 1)) ≤ 42 =
     omega (arith, ap length all-two, length-append (part 0) (part 1), part-long 0, part-long 1) in
     let one = bad .only (plainAt 21) 0 (packetWith 1) room takes-two (omega (arith, room-long)) in
-    let all = ap bytesLeft (sent-all takes-two S sends (omega arith) .1) ∙ ap (splice room 0) all-two in
+    let all = ap bytesIn (sent-all takes-two S sends (omega arith) .1) ∙ ap (splice room 0) all-two in
     let z : _≡_ {A = ℕ} 80 0 = sym second-begins ∙ ap (λ (l : List ℕ). getD l 21 0) (sym all ∙ one .1) ∙ behind-one (one .0) in
     omega arith

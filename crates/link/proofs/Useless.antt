@@ -24,7 +24,7 @@ use Rattle.sender_rules.specs.Fragments.{payloadFor, fragmentFor, fragmentsFor}
 use Rattle.link.specs.Run.{Call}
 use Rattle.link.specs.Demand.{keyFor}
 use Rattle.link.specs.Useless.{Receiver, Keeps, Serves, Delivers, RefusesAll, HandsNothing, Fixed, StoresNoBytes, StoresNoRecord, Pretends}
-use Rattle.link.specs.Useless.{Withholds, Invents, FalseCount, Sender, WholeSender, bytesLeft, anyIndex, SomeKeep, Falls, SomeUseless}
+use Rattle.link.specs.Useless.{Withholds, Invents, FalseCount, Sender, WholeSender, anyIndex, SomeKeep, Falls, SomeUseless}
 use Rattle.link.proofs.Senders as senders
 use Rattle.link.proofs.Served.{Ready, call, serves, does, number-brought, episode, not-before, enough, not-enough}
 use Rattle.link.proofs.Served.{lent, lent-zero, fresh, fresh-free, at-first, first, said-by, held, another, delivers, written, stands}
@@ -233,7 +233,7 @@ first-only g n packet out = answer.outcome (answer.granted []) (splice out 0 (fr
 
 -- there are useless stacks of each kind
 pub some-useless : SomeUseless
-unfolding refusing empty empties first-only bytesLeft
+unfolding refusing empty empties first-only answer.bytesIn
 some-useless =
     record {
       refuses-all = (refuser, record { refuses = λ s r e c. (2, refuses c) });

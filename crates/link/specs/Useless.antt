@@ -152,10 +152,6 @@ pub record Sends (S : Sender) : Type 0 where
 pub record SendsAll (S : WholeSender) : Type 0 where
   pub meets : (g : Settings) (n : ℕ) (packet out : List ℕ) → n < 65536 → Bytes packet → S g n packet out ≡ fragmentsCall g n packet out
 
--- the lent bytes after a call
-unfoldable pub bytesLeft : answer.Outcome → List ℕ
-bytesLeft (answer.outcome a left) = left
-
 -- a sender of all, as one that does not look at the index
 abbrev pub anyIndex : WholeSender → Sender
 anyIndex S g n packet i out = S g n packet out
@@ -170,17 +166,17 @@ pub record RefusesEveryPacket (S : Sender) : Type 0 where
 -- "One fixed packet": the same is sent whatever the packet
 pub record SendsFixed (S : Sender) : Type 0 where
   pub same : (g : Settings) (n : ℕ) (packet packet′ : List ℕ) (i : ℕ) (out : List ℕ) → Takes g n packet → Takes g n packet′
-      → bytesLeft (S g n packet i out) ≡ bytesLeft (S g n packet′ i out)
+      → answer.bytesIn (S g n packet i out) ≡ answer.bytesIn (S g n packet′ i out)
 
 -- "a sender writing one fragment only": the same one whatever index is asked
 pub record OneFragment (S : Sender) : Type 0 where
   pub same : (g : Settings) (n : ℕ) (packet : List ℕ) (i j : ℕ) (out : List ℕ) → Takes g n packet → i < count g packet → j < count g packet
-      → bytesLeft (S g n packet i out) ≡ bytesLeft (S g n packet j out)
+      → answer.bytesIn (S g n packet i out) ≡ answer.bytesIn (S g n packet j out)
 
 -- "a sender writing one fragment only": of all, for which there is room, one at the front, whichever, and the bytes behind stay as they were
 pub record WritesOneOnly (S : WholeSender) : Type 0 where
   pub only : (g : Settings) (n : ℕ) (packet out : List ℕ) → Takes g n packet → length (fragmentsFor g n packet) ≤ length out
-      → (i : ℕ) × (bytesLeft (S g n packet out) ≡ splice out 0 (fragmentFor g n packet i))
+      → (i : ℕ) × (answer.bytesIn (S g n packet out) ≡ splice out 0 (fragmentFor g n packet i))
 
 -- ---- what is claimed of them
 

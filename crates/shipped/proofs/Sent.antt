@@ -9,7 +9,7 @@ use borrow.Author.Tests.{eq-eqb, ne-eqb}
 use lib.Dec.{eqb}
 use lib.ListN.{length, take, drop}
 use lib.Seq.{take-at}
-use Rattle.base_rules.specs.Answer.{granted, settled}
+use Rattle.base_rules.specs.Answer.{granted, settled, answerIn, bytesIn}
 use Rattle.base_rules.specs.Bytes.{splice, numberAt, bytesOf}
 use Rattle.base_rules.proofs.Logic.{either}
 use Rattle.base_rules.proofs.Numbers.{number-back}
@@ -25,7 +25,7 @@ use Rattle.sender_rules.proofs.Splitting.{all-passed}
 use Rattle.card_rules.specs.Calls.{addressOf}
 use Rattle.card_rules.specs.Claims.{InTwo, none, more}
 use Rattle.card_rules.specs.Sending.{settingsOf, twos}
-use Rattle.card_rules.specs.Told.{refusalIn, inWidths, toldOf, answerIn, bytesIn, SentAs}
+use Rattle.card_rules.specs.Told.{refusalIn, inWidths, toldOf, SentAs}
 use Rattle.card_rules.proofs.Proved.{length-whole, split-whole}
 use Rattle.card_rules.proofs.TellLaws.{told-room}
 use Rattle.link.specs.Demand as link
