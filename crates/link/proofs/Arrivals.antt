@@ -1,220 +1,189 @@
--- What the datagrams of the examples are read as, and what came in calls that bring them. Assumes nothing.
-use mathlib.Core.Path.{_≡_, refl, sym, ap, ap₂, _∙_}
-use mathlib.Core.Bool.{Bool, true, false, _&&_, _||_}
-use mathlib.Core.List.{List, [], _∷_, map, reverse}
-use Prim.Native.Nat.{ℕ, suc, _+_, _≤_}
+-- The lines of a run beside its calls: that there are such calls, and what came in them, by tests that are computed over the lines. Assumes nothing.
+use mathlib.Core.Path.{_≡_, refl, sym, ap, ap₂, _∙_, fun-ext}
+use mathlib.Core.Bool.{Bool, true, false, not, _&&_, _||_}
+use mathlib.Core.List.{List, [], _∷_, _++_, map, reverse}
+use Prim.Native.Nat.{ℕ, zero, suc, _≤_, _<_}
 use native.Mathlib.Omega.{arith}
-use borrow.Author.Tests.{eqb-true, eq-eqb, ltb-true}
-use lib.Dec.{ltb, eqb, lit<}
-use lib.ListN.{length}
+use borrow.Author.Tests.{eqb-true, ne-eqb, eq-eqb}
+use lib.Dec.{leb, eqb}
+use lib.ListN.{length, take, drop}
 use Rattle.base_rules.specs.Bounds.{most-l}
-use Rattle.base_rules.specs.Bytes.{Bytes}
 use Rattle.base_rules.specs.Tests.{among}
-use Rattle.base_rules.proofs.Logic.{clash, and-left, and-right}
-use Rattle.cut_rules.specs.declared.Address.{Address}
-use Rattle.cut_rules.specs.Plan.{houseOf}
-use Rattle.cut_rules.specs.Edge.{plain}
-use Rattle.cut_rules.specs.Sizes as cut
-use Rattle.header_rules.specs.Read.{faultOf}
-use Rattle.link.specs.Run.{Call, freshWith, heard, numberIn, come, All, Input, inputOf, Lawful}
-use Rattle.link.specs.Demand.{keyFor, Own, Among, Begins}
-use Rattle.link.specs.Examples.{packet, number, other, Arrival, Its, Of, Broken, datagramOf, Playable}
-use Rattle.link.proofs.Heard.{Foreign, brings-number, come-none, come-own, come-foreign}
-use Rattle.link.proofs.Runs.{some-run, bytes-fragment}
-use Rattle.link.proofs.Turns.{Brings-next, All-next}
-use Rattle.link.proofs.Brings.{packet-count, other-count, packet-takes, other-takes, small, possible, Kind, its-brings, Kinds, all-possible}
+use Rattle.base_rules.proofs.Logic.{either, clash, and-left, and-right}
+use Rattle.cut_rules.specs.Missing.{losses}
+use Rattle.link.specs.Run.{Call, freshWith, heard, numberIn, indexIn, come, lost, All, Each, Input, inputOf, Lawful}
+use Rattle.link.specs.Demand.{count, keyFor, Own, Among, Begins, enoughAfter, BeforeDone}
+use Rattle.link.specs.Examples.{settingsOf, packetUnder, ownAt, datagramAt, Arrival, Line, Comes, Beside, none, one-more, Playable}
+use Rattle.link.proofs.Enough.{suffices, enough-is}
+use Rattle.link.proofs.Runs.{some-run}
+use Rattle.link.proofs.Packets.{countUnder, bearable, sent-takes, sent-count, sent-bears, its-key}
+use Rattle.link.proofs.Brings.{possible, hears, numberAt, indexAt}
+use Rattle.link.proofs.Brings.{bytes-arrival, Kind, fault-is, number-is, index-is, own-is}
 
--- ---- there are calls that bring them
+-- ---- lines beside calls
 
-bytes-small : (d : List ℕ) → small d ≡ true → Bytes d
-unfolding small
-bytes-small [] p = tt
-bytes-small (x ∷ d) p = (ltb-true x 256 (and-left _ _ p), bytes-small d (and-right (ltb x 256) _ p))
+module _ {P : Line → Call → Type 0} where
+  -- what holds of each line and its call holds of each call
+  pub beside-all : {Q : Call → Type 0} {ls : List Line} {es : List Call} → ((l : Line) (e : Call) → P l e → Q e) → Beside P ls es → All Q es
+  unfolding All
+  beside-all f none = tt
+  beside-all f (one-more p b) = (f _ _ p, beside-all f b)
 
-bytes-arrival : (a : Arrival) → possible a ≡ true → Bytes (datagramOf a)
-unfolding possible datagramOf
-bytes-arrival (Its i) p = bytes-fragment houseOf number packet (packet-takes number (lit< tt)) i (omega (arith, ltb-true i 12 p, packet-count))
-bytes-arrival (Of n) p = bytes-fragment plain n other (other-takes n (ltb-true n 65536 (and-left _ _ p))) 0 (omega (arith, other-count))
-bytes-arrival (Broken d) p = bytes-small d (and-right (ltb (length d) 14) _ p)
+  -- the last ones of both lists
+  pub beside-take : {ls : List Line} {es : List Call} (k : ℕ) → Beside P ls es → Beside P (take k ls) (take k es)
+  beside-take zero b = none
+  beside-take (suc k) none = none
+  beside-take (suc k) (one-more p b) = one-more p (beside-take k b)
 
-module _ (own : Address) (out : List ℕ) where
-  abbrev pub inputFor : Arrival → Input
-  inputFor a = record { own = own; datagram = datagramOf a; lent = out }
+  -- and what stands before them
+  pub beside-drop : {ls : List Line} {es : List Call} (k : ℕ) → Beside P ls es → Beside P (drop k ls) (drop k es)
+  beside-drop zero b = b
+  beside-drop (suc k) none = none
+  beside-drop (suc k) (one-more p b) = beside-drop k b
 
-  pub lawful : most-l ≤ length out → (xs : List Arrival) → all-possible xs ≡ true → Lawful (map inputFor xs)
+-- the calls have what the lines say, and that is possible
+abbrev pub Kinds : List Line → List Call → Type 0
+Kinds ls es = Beside (λ l e. Kind (l .0) e) ls es
+
+-- each line is possible
+unfoldable pub all-possible : List Line → Bool
+all-possible [] = true
+all-possible (l ∷ ls) = possible (l .0) && all-possible ls
+
+-- then so are the calls that have what they say
+pub kinds : {ls : List Line} {es : List Call} → all-possible ls ≡ true → Beside Comes ls es → Kinds ls es
+unfolding all-possible
+kinds p none = none
+kinds p (one-more {l = l} c b) =
+    one-more (record { fine = and-left (possible (l .0)) _ p; own = c .own; datagram = c .datagram }) (kinds (and-right (possible (l .0)) _ p) b)
+
+-- ---- there are such calls
+
+module _ (out : List ℕ) where
+  abbrev inputFor : Line → Input
+  inputFor l = record { own = ownAt (l .0); datagram = datagramAt (l .0); lent = out }
+
+  lawful : most-l ≤ length out → (ls : List Line) → all-possible ls ≡ true → Lawful (map inputFor ls)
   unfolding Lawful all-possible
   lawful room [] p = tt
-  lawful room (a ∷ xs) p = (room, bytes-arrival a (and-left (possible a) _ p), lawful room xs (and-right (possible a) _ p))
+  lawful room (l ∷ ls) p = (room, bytes-arrival (l .0) (and-left (possible (l .0)) _ p), lawful room ls (and-right (possible (l .0)) _ p))
 
-  pub inputs-are : (xs : List Arrival) (es : List Call) → map inputOf es ≡ map inputFor xs
-      → (map (λ (e : Call). e .datagram) es ≡ map datagramOf xs) × All (λ e. (e .own ≡ own) × (e .lent ≡ out)) es
+  inputs-are : (ls : List Line) (es : List Call) → map inputOf es ≡ map inputFor ls → Beside Comes ls es × All (λ e. e .lent ≡ out) es
   unfolding All
-  inputs-are [] [] is = (refl, tt)
+  inputs-are [] [] is = (none, tt)
   inputs-are [] (e ∷ es) is = let z : suc (length (map inputOf es)) ≡ 0 = ap length is in absurd (omega arith)
-  inputs-are (a ∷ xs) [] is = let z : 0 ≡ suc (length (map inputFor xs)) = ap length is in absurd (omega arith)
-  inputs-are (a ∷ xs) (e ∷ es) is =
-      let head : inputOf e ≡ inputFor a = cc in
-      let rest : map inputOf es ≡ map inputFor xs = cc in
-      let more = inputs-are xs es rest in (
-        ap₂ (λ (d : List ℕ) (l : List (List ℕ)). d ∷ l) (ap (λ (i : Input). i .datagram) head) (more .0),
-        ((ap (λ (i : Input). i .own) head, ap (λ (i : Input). i .lent) head), more .1),
+  inputs-are (l ∷ ls) [] is = let z : 0 ≡ suc (length (map inputFor ls)) = ap length is in absurd (omega arith)
+  inputs-are (l ∷ ls) (e ∷ es) is =
+      let head : inputOf e ≡ inputFor l = cc in
+      let rest : map inputOf es ≡ map inputFor ls = cc in
+      let more = inputs-are ls es rest in (
+        one-more (record { own = ap (λ (i : Input). i .own) head; datagram = ap (λ (i : Input). i .datagram) head }) (more .0),
+        (ap (λ (i : Input). i .lent) head, more .1),
       )
 
--- possible arrivals can be played, with any lent bytes, any buffer with room and any address configured
-pub playable : (opening arrivals : List Arrival) → all-possible (reverse opening) ≡ true → all-possible (reverse arrivals) ≡ true
-    → Playable opening arrivals
-playable opening arrivals p q lent out own all room =
-    let old = some-run (freshWith lent) (map (inputFor own out) (reverse opening)) (lawful own out room (reverse opening) p) in
-    let es = some-run (old .1) (map (inputFor own out) (reverse arrivals)) (lawful own out room (reverse arrivals) q) in
-    let came = inputs-are own out (reverse arrivals) (es .0) (es .2) in (
-      record {
-        lent = lent;
-        all = all;
-        old = old .0;
-        first = old .1;
-        opened = old .3;
-        opening-came = inputs-are own out (reverse opening) (old .0) (old .2) .0;
-        es = es .0;
-        now = es .1;
-        run = es .3;
-        came = came .0;
-      },
-      refl,
-      came .1,
-    )
+-- possible lines can be played, with any lent bytes and any buffer with room
+pub playable : (lines : List Line) → all-possible (reverse lines) ≡ true → Playable lines
+playable lines p lent out all room =
+    let x = some-run (freshWith lent) (map (inputFor out) (reverse lines)) (lawful out room (reverse lines) p) in
+    let comes = inputs-are out (reverse lines) (x .0) (x .2) in
+    (record { lent = lent; all = all; es = x .0; now = x .1; run = x .3; comes = comes .0 }, refl, comes .1)
 
 -- ---- what came
 
--- fragment i of the packet is among these arrivals
-unfoldable pub came : List Arrival → ℕ → Bool
-came [] i = false
-came (Its j ∷ xs) i = eqb j i || came xs i
-came (Of n ∷ xs) i = came xs i
-came (Broken d ∷ xs) i = came xs i
+-- fragment i of the number n is among these lines, and heard
+unfoldable pub came : ℕ → List Line → ℕ → Bool
+came n [] i = false
+came n (l ∷ ls) i = (hears (l .0) && (eqb (numberAt (l .0)) n && eqb (indexAt (l .0)) i)) || came n ls i
 
-foreign : (n : ℕ) (e : Call) → Kind (Of n) e → Foreign number e
-unfolding Kind
-foreign n e k = λ passes is. k .2 (sym (k .1) ∙ is)
+-- a call is heard just where what comes is
+pub heard-is : {a : Arrival} {e : Call} → Kind a e → heard e ≡ hears a
+heard-is k = ap (λ (x : ℕ). eqb x 0) (fault-is k)
 
--- the fragments that came in the calls are those among the arrivals that they bring
-pub come-is : (xs : List Arrival) (es : List Call) → Kinds xs es → come number es ≡ came xs
-unfolding Kinds Kind came keyFor
-come-is [] [] k = come-none number
-come-is [] (e ∷ es) k = absurd k
-come-is (Its i ∷ xs) [] k = absurd k
-come-is (Its i ∷ xs) (e ∷ es) k =
-    come-own houseOf number packet e es i (its-brings i e (k .0)) ∙ ap {B = ℕ → Bool} (λ c j. eqb i j || c j) (come-is xs es (k .1))
-come-is (Of n ∷ xs) [] k = absurd k
-come-is (Of n ∷ xs) (e ∷ es) k = come-foreign number e es (foreign n e (k .0)) ∙ come-is xs es (k .1)
-come-is (Broken d ∷ xs) [] k = absurd k
-come-is (Broken d ∷ xs) (e ∷ es) k = come-foreign number e es (λ passes. absurd (k .0 passes)) ∙ come-is xs es (k .1)
+one-came : (n i : ℕ) {a : Arrival} {e : Call} → Kind a e
+    → (heard e && (eqb (numberIn e) n && eqb (indexIn e) i)) ≡ (hears a && (eqb (numberAt a) n && eqb (indexAt a) i))
+one-came n i {a} {e} k =
+    either (hears a)
+    (λ h. simp (heard-is k ∙ h, h, number-is k h, index-is k h))
+    (λ h. simp (heard-is k ∙ h, h))
 
--- ---- what T1 supposes of them
+-- the fragments that came in the calls are those among the lines
+pub come-is : (n : ℕ) {ls : List Line} {es : List Call} → Kinds ls es → come n es ≡ came n ls
+unfolding come came
+come-is n none = fun-ext (λ i. refl)
+come-is n (one-more k b) = fun-ext (λ i. ap₂ _||_ (one-came n i k) (ap (λ (c : ℕ → Bool). c i) (come-is n b)))
 
-own : (a : Arrival) (e : Call) → Kind a e → Own houseOf number packet e
-unfolding Kind Own keyFor
-own (Its i) e k = λ h is. (i, k .0, k .1)
-own (Of n) e k = λ h is. absurd (k .2 (sym (k .1) ∙ is))
-own (Broken d) e k = λ h is. absurd (k (eqb-true _ _ h))
+-- how many fragments of the number n are missing
+unfoldable pub missed : ℕ → List Line → ℕ
+missed n ls = losses (λ i. not (came n ls i)) (countUnder n)
 
--- the arrival has one of these numbers, if it is of another packet
-unfoldable pub among-these : List ℕ → Arrival → Bool
-among-these others (Its i) = true
-among-these others (Of n) = among n others
-among-these others (Broken d) = true
+-- and whether the others are enough
+unfoldable pub enoughIn : ℕ → List Line → Bool
+enoughIn n ls = leb (missed n ls) (bearable n)
 
-is-among : (others : List ℕ) (a : Arrival) (e : Call) → Kind a e → among-these others a ≡ true → Among number others e
-unfolding Kind Among among-these keyFor
-is-among others (Its i) e k t = λ h strange. absurd (strange (brings-number houseOf number packet e i (its-brings i e k)))
-is-among others (Of n) e k t = λ h strange. ap (λ (m : ℕ). among m others) (k .1) ∙ t
-is-among others (Broken d) e k t = λ h strange. absurd (k (eqb-true _ _ h))
+module _ (n : ℕ) {ls : List Line} {es : List Call} (k : Kinds ls es) where
+  -- the same by the number that the receiver tells it by
+  pub come-key : come (keyFor (settingsOf n) n) es ≡ came n ls
+  come-key = ap (λ (key : ℕ). come key es) (its-key n) ∙ come-is n k
 
--- whatever these calls bring under the packet's number is one of its own fragments
-pub all-own : (xs : List Arrival) (es : List Call) → Kinds xs es → All (Own houseOf number packet) es
-unfolding Kinds All
-all-own [] [] k = tt
-all-own [] (e ∷ es) k = absurd k
-all-own (a ∷ xs) [] k = absurd k
-all-own (a ∷ xs) (e ∷ es) k = (own a e (k .0), all-own xs es (k .1))
+  -- so many of its fragments are lost
+  pub lost-is : losses (lost (keyFor (settingsOf n) n) es) (count (settingsOf n) (packetUnder n)) ≡ missed n ls
+  unfolding missed
+  lost-is = ap₂ (λ (c : ℕ → Bool) (f : ℕ). losses (λ i. not (c i)) f) come-key (sent-count n)
 
--- each of the arrivals that is of another packet has one of these numbers
-unfoldable pub all-these : List ℕ → List Arrival → Bool
-all-these others [] = true
-all-these others (a ∷ xs) = among-these others a && all-these others xs
+  -- and it is enough just where the lines say it
+  pub enough-told : n < 65536 → enoughAfter (settingsOf n) n (packetUnder n) es ≡ enoughIn n ls
+  unfolding enoughIn missed
+  enough-told small =
+      enough-is (settingsOf n) (packetUnder n) (sent-takes n small .passed) n es ∙ ap (suffices (settingsOf n) (packetUnder n)) come-key
+      ∙ sent-bears n (came n ls)
 
--- then the calls bring no other numbers than these beside the packet's
-pub all-among : (others : List ℕ) (xs : List Arrival) (es : List Call) → Kinds xs es → all-these others xs ≡ true → All (Among number others) es
-unfolding Kinds All all-these
-all-among others [] [] k t = tt
-all-among others [] (e ∷ es) k t = absurd k
-all-among others (a ∷ xs) [] k t = absurd k
-all-among others (a ∷ xs) (e ∷ es) k t =
-    (is-among others a e (k .0) (and-left (among-these others a) _ t), all-among others xs es (k .1) (and-right (among-these others a) _ t))
+-- ---- what demand 3 supposes
 
--- the oldest is the packet's
-unfoldable pub is-its : Arrival → Bool
-is-its (Its i) = true
-is-its (Of n) = false
-is-its (Broken d) = false
+-- whatever comes under a number is one of the fragments of what is sent under it
+pub all-own : (n : ℕ) {ls : List Line} {es : List Call} → Kinds ls es → All (Own (settingsOf n) n (packetUnder n)) es
+all-own n k = beside-all (λ l e. own-is n) k
 
-its-first : (a : Arrival) (e : Call) → Kind a e → is-its a ≡ true → (heard e ≡ true) × (numberIn e ≡ number)
-unfolding is-its keyFor
-its-first (Its i) e k t = let b = its-brings i e k in (eq-eqb _ _ (b .passes), brings-number houseOf number packet e i b)
-its-first (Of n) e k t = clash t refl
-its-first (Broken d) e k t = clash t refl
+-- the oldest line is heard, with the number n
+unfoldable pub begins-with : ℕ → List Line → Bool
+begins-with n [] = true
+begins-with n (l ∷ []) = hears (l .0) && eqb (numberAt (l .0)) n
+begins-with n (l ∷ (k ∷ ls)) = begins-with n (k ∷ ls)
 
--- of arrivals, the last one first: there are none, or the oldest is a fragment of the packet
-unfoldable pub begins-its : List Arrival → Bool
-begins-its [] = true
-begins-its (a ∷ []) = is-its a
-begins-its (a ∷ (b ∷ xs)) = begins-its (b ∷ xs)
+-- then the first call is
+pub begins : (n : ℕ) {ls : List Line} {es : List Call} → Kinds ls es → begins-with n ls ≡ true → Begins (keyFor (settingsOf n) n) es
+unfolding Begins begins-with
+begins n none t = tt
+begins n (one-more {l = l} k none) t =
+    let h : hears (l .0) ≡ true = and-left (hears (l .0)) _ t in
+    (heard-is k ∙ h, number-is k h ∙ eqb-true _ n (and-right (hears (l .0)) _ t) ∙ sym (its-key n))
+begins n (one-more k (one-more j b)) t = begins n (one-more j b) t
 
--- then the first of the calls is heard, with the packet's number
-pub begins : (xs : List Arrival) (es : List Call) → Kinds xs es → begins-its xs ≡ true → Begins number es
-unfolding Kinds Begins begins-its
-begins [] [] k t = tt
-begins [] (e ∷ es) k t = absurd k
-begins (a ∷ xs) [] k t = absurd k
-begins (a ∷ []) (e ∷ []) k t = its-first a e (k .0) t
-begins (a ∷ []) (e ∷ (d ∷ es)) k t = absurd (k .1)
-begins (a ∷ (b ∷ xs)) (e ∷ []) k t = absurd (k .1)
-begins (a ∷ (b ∷ xs)) (e ∷ (d ∷ es)) k t = begins (b ∷ xs) (d ∷ es) (k .1) t
+-- before it is enough, what is heard has the number n or one of the others
+abbrev pub allowed : ℕ → List ℕ → Arrival → List Line → Bool
+allowed n others a ls = not (hears a) || (eqb (numberAt a) n || (enoughIn n ls || among (numberAt a) others))
 
--- ---- each brings the next of some numbers
+-- of each line
+unfoldable pub limited : ℕ → List ℕ → List Line → Bool
+limited n others [] = true
+limited n others (l ∷ ls) = allowed n others (l .0) ls && limited n others ls
 
--- the arrival is a fragment sent under the number n
-unfoldable pub is-number : ℕ → Arrival → Bool
-is-number n (Its i) = eqb number n
-is-number n (Of m) = eqb m n
-is-number n (Broken d) = false
+last-of : (a b c d : Bool) → (not a || (b || (c || d))) ≡ true → a ≡ true → b ≡ false → c ≡ false → d ≡ true
+last-of true false false d t p q r = t
+last-of true false true d t p q r = clash refl r
+last-of true true c d t p q r = clash refl q
+last-of false b c d t p q r = clash p refl
 
-next-one : (n : ℕ) (a : Arrival) (e : Call) → Kind a e → is-number n a ≡ true → (faultOf (e .own) (e .datagram) ≡ 0) × (numberIn e ≡ n)
-unfolding Kind is-number keyFor
-next-one n (Its i) e k t = let b = its-brings i e k in (b .passes, brings-number houseOf number packet e i b ∙ eqb-true number n t)
-next-one n (Of m) e k t = (k .0, k .1 ∙ eqb-true m n t)
-next-one n (Broken d) e k t = clash t refl
-
--- the arrivals have, from the oldest on, the numbers of the openings from m on
-unfoldable pub in-turn : (ℕ → ℕ) → ℕ → List Arrival → Bool
-in-turn who m [] = true
-in-turn who m (a ∷ xs) = is-number (who (m + length xs)) a && in-turn who m xs
-
--- there are as many calls as arrivals
-pub kinds-long : (xs : List Arrival) (es : List Call) → Kinds xs es → length es ≡ length xs
-unfolding Kinds
-kinds-long [] [] k = refl
-kinds-long [] (e ∷ es) k = absurd k
-kinds-long (a ∷ xs) [] k = absurd k
-kinds-long (a ∷ xs) (e ∷ es) k = ap suc (kinds-long xs es (k .1))
-
--- calls that bring arrivals in turn bring the next number each
-pub all-next : (who : ℕ → ℕ) (m : ℕ) (xs : List Arrival) (es : List Call) → Kinds xs es → in-turn who m xs ≡ true → All-next who m es
-unfolding Kinds All-next Brings-next in-turn
-all-next who m [] [] k t = tt
-all-next who m [] (e ∷ es) k t = absurd k
-all-next who m (a ∷ xs) [] k t = absurd k
-all-next who m (a ∷ xs) (e ∷ es) k t =
-    let one = next-one (who (m + length xs)) a e (k .0) (and-left (is-number (who (m + length xs)) a) _ t) in (
-      (one .0, one .1 ∙ ap (λ (l : ℕ). who (m + l)) (sym (kinds-long xs es (k .1)))),
-      all-next who m xs es (k .1) (and-right (is-number (who (m + length xs)) a) _ t),
-    )
+-- then so is it of the calls
+pub limit : (n : ℕ) → n < 65536 → (others : List ℕ) {ls : List Line} {es : List Call} → Kinds ls es → limited n others ls ≡ true
+    → BeforeDone (settingsOf n) n (packetUnder n) (Among (keyFor (settingsOf n) n) others) es
+unfolding Each Among limited
+limit n small others none t = tt
+limit n small others (one-more {l = l} {ls = ls} k b) t = (
+  (λ before h strange.
+      let hears-it : hears (l .0) ≡ true = sym (heard-is k) ∙ h in
+      let is = number-is k hears-it in
+      ap (λ (m : ℕ). among m others) is
+      ∙ last-of (hears (l .0)) (eqb (numberAt (l .0)) n) (enoughIn n ls) _ (and-left (allowed n others (l .0) ls) _ t) hears-it
+      (ne-eqb _ n (λ z. strange (is ∙ z ∙ sym (its-key n)))) (sym (enough-told n b small) ∙ before)),
+  limit n small others b (and-right (allowed n others (l .0) ls) _ t),
+)

@@ -1,168 +1,226 @@
--- The two packets of the examples, and what a call that brings one of their datagrams is. Assumes nothing.
-use mathlib.Core.Path.{_≡_, refl, sym, ap, _∙_}
-use mathlib.Core.Bool.{Bool, true, not, _&&_}
-use mathlib.Core.List.{List, [], _∷_, map}
+-- What comes in a call of the examples, and what such a call is. Assumes nothing.
+use mathlib.Core.Path.{_≡_, refl, sym, ap, ap₂, _∙_, subst}
+use mathlib.Core.Bool.{Bool, true, false, not, cond, _&&_}
+use mathlib.Core.List.{List, [], _∷_, _++_, append-nil, append-assoc}
 use Prim.Native.Nat.{ℕ, zero, suc, _+_, _≤_, _<_}
 use native.Mathlib.Omega.{arith}
-use borrow.Author.Tests.{eqb-false, eq-eqb, ltb-true, lt-ltb, le-ltb, not-true}
-use lib.Dec.{ltb, eqb, lit<, lit≤}
+use borrow.Author.Tests.{eqb-true, eqb-false, eq-eqb, ltb-true, le-ltb, le-leb, lt-leb, leb-true, leb-false, not-true}
+use lib.Dec.{ltb, leb, eqb, lit<, lit≤}
 use lib.ListN.{length, replicate, length-replicate}
 use Rattle.base_rules.specs.Bounds.{most-f}
 use Rattle.base_rules.specs.Bytes.{Bytes}
 use Rattle.base_rules.specs.Round.{ceil}
-use Rattle.base_rules.proofs.Firsts.{due, skip, none-due}
-use Rattle.base_rules.proofs.Logic.{and-left, and-right}
+use Rattle.base_rules.specs.Tests.{first}
+use Rattle.base_rules.proofs.Firsts.{skip, none-due}
+use Rattle.base_rules.proofs.Logic.{either, clash, and-left, and-right}
 use Rattle.af_rules.specs.Packet.{most-payload, packetOf}
 use Rattle.af_rules.specs.Calls.{afFault}
 use Rattle.af_rules.specs.Claims.{Back}
 use Rattle.af_rules.proofs.Proved.{a1}
+use Rattle.cut_rules.specs.declared.Address.{Address}
+use Rattle.cut_rules.specs.declared.Address.the-variants.{None, Pair}
 use Rattle.cut_rules.specs.declared.Settings.{Settings}
-use Rattle.cut_rules.specs.Plan.{houseOf, fit}
+use Rattle.cut_rules.specs.Plan.{fit, withFec}
 use Rattle.cut_rules.specs.Edge.{plain}
+use Rattle.cut_rules.specs.Missing as missing
 use Rattle.cut_rules.specs.Sizes as cut
-use Rattle.header_rules.specs.Read.{isShort, badAddress, faultOf}
+use Rattle.cut_rules.proofs.Proved.{any-three, no-four}
+use Rattle.header_rules.specs.declared.Header.{Header}
+use Rattle.header_rules.specs.Read.{addressOf, fieldsOf, badAddress, faultOf}
 use Rattle.header_rules.specs.Claims.{Fitting}
+use Rattle.form_rules.specs.Agree.{enough}
 use Rattle.sender_rules.specs.Calls.{packetFault}
-use Rattle.sender_rules.specs.Fragments.{fragmentFor}
-use Rattle.link.specs.Run.{Call, numberIn}
-use Rattle.link.specs.Demand.{Takes, count, keyFor}
-use Rattle.link.specs.Examples.{packet, number, other, Arrival, Its, Of, Broken, datagramOf}
+use Rattle.sender_rules.specs.Fragments.{payloadFor, headerFor, fragmentFor}
+use Rattle.sender_rules.proofs.Proved.{received}
+use Rattle.link.specs.Run.{Call, heard, numberIn, indexIn}
+use Rattle.link.specs.Demand.{Takes, count, keyFor, Own}
+use Rattle.link.specs.Examples.{here, house, packet, number, other, settingsOf, packetUnder, Arrival, Fragment, Longer, Other, ownAt, datagramAt}
+use Rattle.link.proofs.Enough.{suffices}
 use Rattle.link.proofs.Heard.{Brings, brings, brings-number}
+use Rattle.link.proofs.Runs.{bytes-fragment}
+use Rattle.link.proofs.Packets.{countUnder, sent-takes, sent-count, its-key}
+use Rattle.link.proofs.Longer.{longer-fault}
+use Rattle.header_rules.proofs.Proved.{reads-back}
+use Rattle.header_rules.specs.Header.{headerBytes}
+use Rattle.base_rules.proofs.ByteLaws.{bytes-append}
+use Rattle.sender_rules.proofs.Headers.{header-written}
 
--- ---- the two packets
 
-bytes-same : (n x : ℕ) → x < 256 → Bytes (replicate n x)
-bytes-same zero x h = tt
-bytes-same (suc n) x h = (h, bytes-same n x h)
-
--- a packet that was wrapped round n bytes x
-wrapped : (seq n x : ℕ) → seq < 65536 → x < 256 → n ≤ most-payload → Back seq true (replicate n x)
-wrapped seq n x a b c = a1 seq true (replicate n x) a (bytes-same n x b) (omega (arith, length-replicate n x))
-
--- it is taken where the settings and its count of fragments are
-taken : (g : Settings) (p : List ℕ) → fit g ≡ true → afFault p ≡ 0 → count g p ≤ most-f → packetFault g p ≡ 0
-unfolding packetFault
-taken g p fits passes few =
-    sym (skip 40 _ (ap not fits) (skip (afFault p) _ (ap not (eq-eqb _ _ passes)) (skip 41 [] (le-ltb most-f (count g p) few) none-due)))
-
-wrapped-size : (seq n x : ℕ) → Back seq true (replicate n x) → length (packetOf seq true (replicate n x)) ≡ n + 12
-wrapped-size seq n x b = b .size ∙ ap (λ (k : ℕ). k + 12) (length-replicate n x)
-
-packet-wrapped : Back 7 true (replicate 403 85)
-packet-wrapped = wrapped 7 403 85 (lit< tt) (lit< tt) (lit≤ tt)
-
-other-wrapped : Back 8 true (replicate 1375 170)
-other-wrapped = wrapped 8 1375 170 (lit< tt) (lit< tt) (lit≤ tt)
-
--- the packet of the examples has 415 bytes
-pub packet-size : length packet ≡ 415
-unfolding packet
-packet-size = wrapped-size 7 403 85 packet-wrapped
-
-other-size : length other ≡ 1387
-unfolding other
-other-size = wrapped-size 8 1375 170 other-wrapped
-
--- at the house settings it has 12 fragments
-pub packet-count : count houseOf packet ≡ 12
-unfolding ceil cut.c cut.k cut.n cut.addressBytes cut.h cut.divisor cut.S cut.L cut.f
-packet-count = ap (cut.f houseOf) packet-size
-
--- the other packet, without FEC at an MTU of 1,400, has two
-pub other-count : count plain other ≡ 2
-unfolding ceil cut.c cut.k cut.n cut.addressBytes cut.h cut.divisor cut.S cut.L cut.f
-other-count = ap (cut.f plain) other-size
-
--- they are taken, under any number
-house-fits : fit houseOf ≡ true
-unfolding fit cut.h cut.addressBytes
-house-fits = refl
-
-plain-fits : fit plain ≡ true
-unfolding fit cut.h cut.addressBytes
-plain-fits = refl
-
--- the sender takes the packet at the house settings, under any number
-pub packet-takes : (n : ℕ) → n < 65536 → Takes houseOf n packet
-unfolding packet Fitting
-packet-takes n h =
-    record {
-      passed = taken houseOf _ house-fits (packet-wrapped .passes) (omega (arith, packet-count));
-      bytes = packet-wrapped .bytes;
-      number = h;
-      address = tt;
-    }
-
--- and the other one without FEC, under any number
-pub other-takes : (n : ℕ) → n < 65536 → Takes plain n other
-unfolding other Fitting
-other-takes n h =
-    record {
-      passed = taken plain _ plain-fits (other-wrapped .passes) (omega (arith, other-count));
-      bytes = other-wrapped .bytes;
-      number = h;
-      address = tt;
-    }
-
--- ---- what a call brings
+-- ---- what comes in a call
 
 -- each number in a datagram is a byte
 unfoldable pub small : List ℕ → Bool
 small [] = true
 small (x ∷ d) = ltb x 256 && small d
 
--- the packet has 12 fragments; another packet's number is another one; what is no fragment is too short for a header
+-- it is one of the fragments, or bytes that are refused
 unfoldable pub possible : Arrival → Bool
-possible (Its i) = ltb i 12
-possible (Of n) = ltb n 65536 && not (eqb n number)
-possible (Broken d) = ltb (length d) 14 && small d
+possible (Fragment own n i) = ltb n 65536 && ltb i (countUnder n)
+possible (Longer n i) = ltb n 65536 && ltb i (countUnder n)
+possible (Other d) = small d && not (eqb (faultOf here d) 0)
 
--- a call by its arrival: it has fragment i; it is heard, with the other number n; or it is not heard
-unfoldable pub Kind : Arrival → Call → Type 0
-Kind (Its i) e = (i < count houseOf packet) × (e .datagram ≡ fragmentFor houseOf number packet i)
-Kind (Of n) e = (faultOf (e .own) (e .datagram) ≡ 0) × (numberIn e ≡ n) × (n ≡ number → ⊥)
-Kind (Broken d) e = faultOf (e .own) (e .datagram) ≡ 0 → ⊥
+-- the number with which it is refused by its header, 0 where it is heard
+unfoldable pub faultAt : Arrival → ℕ
+faultAt (Fragment own n i) = cond (badAddress own (settingsOf n .address)) 6 0
+faultAt (Longer n i) = 5
+faultAt (Other d) = faultOf here d
 
--- a call with fragment i of the packet is heard, whatever address is configured, and brings it
-pub its-brings : (i : ℕ) (e : Call) → Kind (Its i) e → Brings houseOf number packet e i
-unfolding Kind badAddress
-its-brings i e k = brings houseOf number packet (packet-takes number (lit< tt)) e i (k .0) (k .1) refl
+-- it is heard
+abbrev pub hears : Arrival → Bool
+hears a = eqb (faultAt a) 0
 
-too-short : (d : List ℕ) → length d < 14 → isShort d ≡ true
-unfolding isShort
-too-short d h = rw (lt-ltb (length d) 14 h)
+-- its number, where it is heard
+unfoldable pub numberAt : Arrival → ℕ
+numberAt (Fragment own n i) = n
+numberAt (Longer n i) = 0
+numberAt (Other d) = 0
 
-kind : (a : Arrival) (e : Call) → possible a ≡ true → e .datagram ≡ datagramOf a → Kind a e
-unfolding possible datagramOf Kind badAddress faultOf keyFor
-kind (Its i) e p is = (omega (arith, ltb-true i 12 p, packet-count), is)
-kind (Of n) e p is =
-    let b = brings plain n other (other-takes n (ltb-true n 65536 (and-left _ _ p))) e 0 (omega (arith, other-count)) is refl in
-    (b .passes, brings-number plain n other e 0 b, eqb-false n number (not-true _ (and-right (ltb n 65536) _ p)))
-kind (Broken d) e p is =
-    λ (passes : faultOf (e .own) (e .datagram) ≡ 0).
-    let short : isShort (e .datagram) ≡ true = ap isShort is ∙ too-short d (ltb-true _ _ (and-left _ _ p)) in
-    let told : 2 ≡ faultOf (e .own) (e .datagram) = due 2 _ short in
-    omega arith
+-- and its index
+unfoldable pub indexAt : Arrival → ℕ
+indexAt (Fragment own n i) = i
+indexAt (Longer n i) = 0
+indexAt (Other d) = 0
 
--- the calls are of these kinds one by one, and as many
-unfoldable pub Kinds : List Arrival → List Call → Type 0
-Kinds [] [] = Unit {0}
-Kinds [] (e ∷ es) = ⊥
-Kinds (a ∷ xs) [] = ⊥
-Kinds (a ∷ xs) (e ∷ es) = Kind a e × Kinds xs es
+accepts-itself : (a : Address) → badAddress a a ≡ false
+unfolding badAddress
+accepts-itself None = refl
+accepts-itself (Pair s d) = rw (eq-eqb s s refl, eq-eqb d d refl)
 
--- each of the arrivals is possible
-unfoldable pub all-possible : List Arrival → Bool
-all-possible [] = true
-all-possible (a ∷ xs) = possible a && all-possible xs
+bytes-small : (d : List ℕ) → small d ≡ true → Bytes d
+unfolding small
+bytes-small [] p = tt
+bytes-small (x ∷ d) p = (ltb-true x 256 (and-left _ _ p), bytes-small d (and-right (ltb x 256) _ p))
 
--- the last one first, as the calls
-pub kinds : (xs : List Arrival) (es : List Call) → all-possible xs ≡ true → map (λ (e : Call). e .datagram) es ≡ map datagramOf xs → Kinds xs es
-unfolding Kinds all-possible
-kinds [] [] p is = tt
-kinds [] (e ∷ es) p is = let z : suc (length (map (λ (e : Call). e .datagram) es)) ≡ 0 = ap length is in omega arith
-kinds (a ∷ xs) [] p is = let z : 0 ≡ suc (length (map datagramOf xs)) = ap length is in omega arith
-kinds (a ∷ xs) (e ∷ es) p is =
-    let head : e .datagram ≡ datagramOf a = cc in
-    let rest : map (λ (e : Call). e .datagram) es ≡ map datagramOf xs = cc in
-    (kind a e (and-left (possible a) _ p) head, kinds xs es (and-right (possible a) _ p) rest)
+module _ (n i : ℕ) (fine : (ltb n 65536 && ltb i (countUnder n)) ≡ true) where
+  takes : Takes (settingsOf n) n (packetUnder n)
+  takes = sent-takes n (ltb-true n 65536 (and-left (ltb n 65536) _ fine))
+
+  below : i < count (settingsOf n) (packetUnder n)
+  below = omega (arith, ltb-true i (countUnder n) (and-right (ltb n 65536) _ fine), sent-count n)
+
+  -- at a card that is set for its own address it passes, and reads as it was meant with anything behind it
+  passes : faultOf (settingsOf n .address) (fragmentFor (settingsOf n) n (packetUnder n) i) ≡ 0
+  passes =
+      received (settingsOf n) n (packetUnder n) i (settingsOf n .address) (takes .passed) (takes .number) (takes .address) below
+      (accepts-itself (settingsOf n .address)) .0
+
+  reads : (rest : List ℕ) → fieldsOf (fragmentFor (settingsOf n) n (packetUnder n) i ++ rest) ≡ headerFor (settingsOf n) n (packetUnder n) i
+  unfolding fragmentFor
+  reads rest =
+      let h : Header = headerFor (settingsOf n) n (packetUnder n) i in
+      ap fieldsOf (append-assoc (headerBytes h) (payloadFor (settingsOf n) (packetUnder n) i) rest)
+      ∙ reads-back h _ (header-written (settingsOf n) n (packetUnder n) i (takes .passed) below (takes .number) (takes .address))
+
+  sent-reads : fieldsOf (fragmentFor (settingsOf n) n (packetUnder n) i) ≡ headerFor (settingsOf n) n (packetUnder n) i
+  sent-reads = ap fieldsOf (sym (append-nil _)) ∙ reads []
+
+  bytes-sent : Bytes (fragmentFor (settingsOf n) n (packetUnder n) i)
+  bytes-sent = bytes-fragment (settingsOf n) n (packetUnder n) takes i below
+
+-- what comes is bytes
+pub bytes-arrival : (a : Arrival) → possible a ≡ true → Bytes (datagramAt a)
+unfolding datagramAt possible
+bytes-arrival (Fragment own n i) fine = bytes-sent n i fine
+bytes-arrival (Longer n i) fine = bytes-append (fragmentFor (settingsOf n) n (packetUnder n) i) _ (bytes-sent n i fine) (lit< tt, tt)
+bytes-arrival (Other d) fine = bytes-small d (and-left (small d) _ fine)
+
+-- ---- what a call with it is
+
+-- where nothing else is wrong, an address that is not accepted is 6
+address-due : (a b c d x y : Bool) (ts : List (Bool × ℕ)) → first ((a, 2) ∷ (b, 3) ∷ (c, 4) ∷ (d, 5) ∷ (x, 6) ∷ ts) ≡ 0
+    → first ((a, 2) ∷ (b, 3) ∷ (c, 4) ∷ (d, 5) ∷ (y, 6) ∷ ts) ≡ cond y 6 0
+unfolding first
+address-due true b c d x y ts e = absurd (omega arith)
+address-due false true c d x y ts e = absurd (omega arith)
+address-due false false true d x y ts e = absurd (omega arith)
+address-due false false false true x y ts e = absurd (omega arith)
+address-due false false false false true y ts e = absurd (omega arith)
+address-due false false false false false true ts e = refl
+address-due false false false false false false ts e = e
+
+same-but-address : (own own′ : Address) (d : List ℕ) → faultOf own d ≡ 0 → faultOf own′ d ≡ cond (badAddress own′ (addressOf d)) 6 0
+unfolding faultOf
+same-but-address own own′ d e = address-due _ _ _ _ (badAddress own (addressOf d)) _ _ e
+
+-- a call by what comes in it, which is possible
+pub record Kind (a : Arrival) (e : Call) : Type 0 where
+  pub fine : possible a ≡ true
+  pub own : e .own ≡ ownAt a
+  pub datagram : e .datagram ≡ datagramAt a
+
+fault-sent : (own : Address) (n i : ℕ) → (ltb n 65536 && ltb i (countUnder n)) ≡ true
+    → faultOf own (fragmentFor (settingsOf n) n (packetUnder n) i) ≡ cond (badAddress own (settingsOf n .address)) 6 0
+unfolding fieldsOf headerFor
+fault-sent own n i fine =
+    same-but-address (settingsOf n .address) own (fragmentFor (settingsOf n) n (packetUnder n) i) (passes n i fine)
+    ∙ ap (λ (h : Header). cond (badAddress own (h .address)) 6 0) (sent-reads n i fine)
+
+fault-told : (a : Arrival) → possible a ≡ true → faultOf (ownAt a) (datagramAt a) ≡ faultAt a
+unfolding ownAt datagramAt faultAt possible
+fault-told (Fragment own n i) fine = fault-sent own n i fine
+fault-told (Longer n i) fine =
+    longer-fault (fragmentFor (settingsOf n) n (packetUnder n) i) (0 ∷ []) (settingsOf n .address) (passes n i fine)
+    (reads n i fine (0 ∷ []) ∙ sym (sent-reads n i fine)) (lit< tt) here
+fault-told (Other d) fine = refl
+
+-- its header is refused with the number that is told of what comes
+pub fault-is : {a : Arrival} {e : Call} → Kind a e → faultOf (e .own) (e .datagram) ≡ faultAt a
+fault-is {a} k = ap₂ faultOf (k .own) (k .datagram) ∙ fault-told a (k .fine)
+
+accepted : (own : Address) (n i : ℕ) → hears (Fragment own n i) ≡ true → badAddress own (settingsOf n .address) ≡ false
+unfolding faultAt
+accepted own n i h = either (badAddress own (settingsOf n .address)) (λ e. clash h (ap (λ (b : Bool). eqb (cond b 6 0) 0) e)) (λ e. e)
+
+module _ {own : Address} {n i : ℕ} {e : Call} (k : Kind (Fragment own n i) e) where
+  -- the index of a fragment is below the count,
+  pub index-below : i < count (settingsOf n) (packetUnder n)
+  unfolding possible
+  index-below = below n i (k .fine)
+
+  -- and the number has two bytes
+  pub number-below : n < 65536
+  unfolding possible
+  number-below = takes n i (k .fine) .number
+
+  module _ (h : hears (Fragment own n i) ≡ true) where
+    -- the address of one that is heard matches,
+    pub matches : badAddress (e .own) (settingsOf n .address) ≡ false
+    unfolding ownAt
+    matches = ap (λ (a : Address). badAddress a (settingsOf n .address)) (k .own) ∙ accepted own n i h
+
+    -- and the call brings it
+    pub brings-sent : Brings (settingsOf n) n (packetUnder n) e i
+    unfolding datagramAt possible
+    brings-sent = brings (settingsOf n) n (packetUnder n) (takes n i (k .fine)) e i index-below (k .datagram) matches
+
+-- a datagram that is no fragment is not heard
+pub heard-fragment : {a : Arrival} {e : Call} (P : Arrival → Type 0) → Kind a e → hears a ≡ true
+    → ((own : Address) (n i : ℕ) → Kind (Fragment own n i) e → hears (Fragment own n i) ≡ true → P (Fragment own n i)) → P a
+unfolding possible faultAt
+heard-fragment {a = Fragment own n i} P k h f = f own n i k h
+heard-fragment {a = Longer n i} P k h f = clash refl (sym h)
+heard-fragment {a = Other d} P k h f = clash h (not-true _ (and-right (small d) _ (k .fine)))
+
+-- the number of a call that is heard
+pub number-is : {a : Arrival} {e : Call} → Kind a e → hears a ≡ true → numberIn e ≡ numberAt a
+unfolding numberAt
+number-is {e = e} k h =
+    heard-fragment (λ a. numberIn e ≡ numberAt a) k h
+    (λ own n i j l. brings-number (settingsOf n) n (packetUnder n) e i (brings-sent j l) ∙ its-key n)
+
+-- and its index
+pub index-is : {a : Arrival} {e : Call} → Kind a e → hears a ≡ true → indexIn e ≡ indexAt a
+unfolding indexAt headerFor
+index-is {e = e} k h = heard-fragment (λ a. indexIn e ≡ indexAt a) k h (λ own n i j l. ap (λ (x : Header). x .index) (brings-sent j l .fields))
+
+-- what is heard of a number is one of the fragments of what is sent under it
+pub own-is : {a : Arrival} {e : Call} (n : ℕ) → Kind a e → Own (settingsOf n) n (packetUnder n) e
+unfolding Own datagramAt
+own-is {a} {e} n k = λ h is.
+    let hears-it : hears a ≡ true = sym (ap (λ (x : ℕ). eqb x 0) (fault-is k)) ∙ h in
+    heard-fragment
+    (λ a. (i : ℕ) × (i < count (settingsOf n) (packetUnder n)) × (e .datagram ≡ fragmentFor (settingsOf n) n (packetUnder n) i)) k hears-it
+    (λ own m i j l.
+    let same : m ≡ n = sym (brings-number (settingsOf m) m (packetUnder m) e i (brings-sent j l) ∙ its-key m) ∙ is ∙ its-key n in
+    subst (λ (x : ℕ). (i : ℕ) × (i < count (settingsOf x) (packetUnder x)) × (e .datagram ≡ fragmentFor (settingsOf x) x (packetUnder x) i)) same
+    (i, index-below j, j .datagram))

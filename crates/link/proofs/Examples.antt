@@ -1,243 +1,240 @@
--- The examples of specs/Examples.antt: what T1 and T2 suppose holds of these runs, and so does what they promise. Assumes nothing.
-use mathlib.Core.Path.{_≡_, refl, sym, ap, ap₂, _∙_, subst}
-use mathlib.Core.Bool.{Bool, true, false, not}
-use mathlib.Core.List.{List, [], _∷_, tail, reverse}
-use Prim.Native.Nat.{ℕ, _+_, _≤_, _<_}
+-- The examples of specs/Examples.antt: what demand 3 supposes holds of these runs, by tests that are computed over their lines. Assumes nothing.
+use mathlib.Core.Path.{_≡_, refl, sym, ap, _∙_, subst}
+use mathlib.Core.Bool.{Bool, true, false}
+use mathlib.Core.List.{List, [], _∷_, _++_, map, reverse, tail}
+use Prim.Native.Nat.{ℕ, zero, suc, _≤_, _<_}
 use native.Mathlib.Omega.{arith}
-use borrow.Author.Tests.{eq-eqb}
-use lib.Dec.{T, eqb, lit<, lit≤}
-use lib.ListN.{length, getD}
-use Rattle.base_rules.specs.Tests.{among}
-use Rattle.base_rules.proofs.Every.{below, at}
-use Rattle.cut_rules.specs.Plan.{houseOf}
+use lib.Dec.{lit<, lit≤}
+use lib.ListN.{length, take, drop}
+use Rattle.base_rules.specs.Bytes.{numberAt}
+use Rattle.base_rules.specs.Tests.{among, first}
+use Rattle.base_rules.proofs.Logic.{either, clash}
+use Rattle.cut_rules.specs.declared.Settings.{Settings}
 use Rattle.cut_rules.specs.Missing as missing
 use Rattle.cut_rules.specs.Sizes as cut
-use Rattle.cut_rules.proofs.Proved.{c3, any-three, no-four}
-use Rattle.header_rules.specs.Read.{badAddress}
-use Rattle.sender_rules.proofs.Checks.{taken}
-use Rattle.receiver_rules.specs.declared.Received.the-variants.{Delivered}
-use Rattle.receiver_rules.specs.Promise.{numberOf, State}
-use Rattle.link.specs.Run.{Call, after, Run, start, next, Holds, lost, All}
-use Rattle.link.specs.Demand.{count, keyFor, Among, Begins, Scene, enoughAfter}
-use Rattle.link.specs.Steps.{T1, Promised, HandedOut}
-use Rattle.link.specs.Examples.{packet, number, Arrival, Played, opening, three-others, HandedOutLast, ThreeOthers, four-others, DisplacedLast}
-use Rattle.link.specs.Examples.{FourOthers}
-use Rattle.link.proofs.View.{Good}
-use Rattle.link.proofs.Frame.{good-fresh, good-run}
-use Rattle.link.proofs.Link.{at-most-three}
-use Rattle.link.proofs.Until.{until-displaced}
-use Rattle.link.proofs.Turns.{Stands, stands-held, stands-only, stands-fresh, Differ, stands-run}
-use Rattle.link.proofs.Brings.{packet-size, packet-count, packet-takes, Kind, Kinds, kinds, small, possible, all-possible}
-use Rattle.link.proofs.Arrivals.{kinds-long}
-use Rattle.link.proofs.Arrivals.{playable, came, come-is, all-own, among-these, all-these, all-among, is-its, begins-its, begins, is-number}
-use Rattle.link.proofs.Arrivals.{in-turn, all-next}
+use Rattle.header_rules.specs.Read as read
+use Rattle.receiver_rules.specs.declared.Received.{Received}
+use Rattle.receiver_rules.specs.Promise.{State, all-places}
+use Rattle.link.specs.Run.{Call, after, Made, Run, start, next, freshWith, Holds, ShownOpen, All, Each}
+use Rattle.link.specs.Demand.{Takes, keyFor, Scene, enoughAfter, HeldAfter, Said, Demanded}
+use Rattle.link.specs.Examples.{settingsOf, packetUnder, number, packet, house, Line, Comes, Answers, Beside, none, one-more, Played, Done, Gone}
+use Rattle.link.specs.Examples.{opening, three-others, HandedOutOnce, ThreeOthers, four-others, DisplacedLast, FourOthers}
+use Rattle.link.proofs.Whole.{demand-3, lifted, stays-enough}
+use Rattle.link.proofs.Turns.{lately, turn, stands-held}
+use Rattle.link.proofs.Packets as packets
+use Rattle.link.proofs.Brings as brings
+use Rattle.link.proofs.Arrivals.{beside-take, beside-drop, Kinds, all-possible, kinds, playable, came, missed, enoughIn, enough-told}
+use Rattle.link.proofs.Arrivals.{begins-with, begins, limited, limit}
+use Rattle.link.proofs.Threads.{turns, since, free-before, some-since, stand, free-now, scene-since, held-since}
+use Rattle.link.proofs.Answered.{displacedIn, displacedBy, settles, answerOf, answerTo, answersTo, turns-out, all-turn-out, answers-run}
 
--- ---- the numbers in the order in which they open a place
+-- ---- what demand 3 says of a run
 
-who : ℕ → ℕ
-who j = getD (101 ∷ 102 ∷ 103 ∷ 104 ∷ 5 ∷ 1 ∷ 2 ∷ 3 ∷ 4 ∷ []) j 0
+each-drop : (P : List Call → Call → Type 0) (k : ℕ) (es : List Call) → Each P es → Each P (drop k es)
+unfolding Each
+each-drop P zero es p = p
+each-drop P (suc k) [] p = tt
+each-drop P (suc k) (e ∷ es) p = each-drop P k es (p .1)
 
-differ : Differ who 9
-unfolding Differ who
-differ j k h l b e =
-    let each : T (below k (λ i. not (eqb (who i) (who k)))) = at 9 (λ k. below k (λ i. not (eqb (who i) (who k)))) tt k b in
-    subst (λ (v : Bool). T (not v)) (eq-eqb (who j) (who k) e) (at k (λ i. not (eqb (who i) (who k))) each j h)
+module _ (g : Settings) (n : ℕ) (packet : List ℕ) (takes : Takes g n packet) where
+  not-before : (e : Call) (es : List Call) → enoughAfter g n packet (e ∷ es) ≡ false → enoughAfter g n packet es ≡ false
+  not-before e es f = either (enoughAfter g n packet es) (λ yet. clash (stays-enough g n packet e es takes yet) f) (λ z. z)
 
-opening-possible : all-possible (reverse opening) ≡ true
-unfolding opening all-possible possible
-opening-possible = refl
+  -- as long as it is held and not enough, it shows as open
+  all-shown : (es : List Call) → Each (λ earlier e. HeldAfter g n earlier → Said g n packet earlier e) es → HeldAfter g n es
+      → enoughAfter g n packet es ≡ false → All (λ e. ShownOpen (after e) (keyFor g n)) es
+  unfolding Each All
+  all-shown [] s held f = tt
+  all-shown (e ∷ es) s held f = (s .0 (held .1) .shown (held .0) f, all-shown es (s .1) (held .1) (not-before e es f))
 
-module _ {arrivals : List Arrival} (r : Played opening arrivals) where
-  old-kinds : Kinds (reverse opening) (r .old)
-  old-kinds = kinds (reverse opening) (r .old) opening-possible (r .opening-came)
+-- of lines from the first fragment of n on, the last one first: so says a test of each
+record Suits (n : ℕ) (others : List ℕ) (later : ℕ) (ls : List Line) : Type 0 where
+  pub starts : begins-with n ls ≡ true
+  pub limits : limited n others ls ≡ true
+  pub before : enoughIn n (tail (drop later ls)) ≡ false
+  pub enough-now : enoughIn n (drop later ls) ≡ true
 
-  first-stands : Stands who 4 (r .first)
-  unfolding opening in-turn is-number who
-  first-stands =
-      let k = kinds-long (reverse opening) (r .old) old-kinds in
-      subst (λ (m : ℕ). Stands who m (r .first)) (omega (arith, k))
-      (stands-run who 9 differ (stands-fresh who (r .lent)) (good-fresh (r .lent) (r .all)) (r .opened) (omega (arith, k))
-      (all-next who 0 (reverse opening) (r .old) old-kinds refl))
+module _ (n : ℕ) (small : n < 65536) (others : List ℕ) (few : length others ≤ 3) (later : ℕ) {ls : List Line} (suits : Suits n others later ls)
+    {es : List Call} {first now : State} (ks : Kinds ls es) (scene : Scene (settingsOf n) n (packetUnder n) first es now) where
+  abbrev g : Settings
+  g = settingsOf n
 
-  first-good : Good (r .first)
-  first-good = good-run (good-fresh (r .lent) (r .all)) (r .opened)
+  abbrev p : List ℕ
+  p = packetUnder n
 
-  olds : Holds (r .first) 101 × Holds (r .first) 102 × Holds (r .first) 103 × Holds (r .first) 104
-  unfolding who
-  olds = (
-    stands-held first-stands 0 (lit< tt) (lit≤ tt),
-    stands-held first-stands 1 (lit< tt) (lit≤ tt),
-    stands-held first-stands 2 (lit< tt) (lit≤ tt),
-    stands-held first-stands 3 (lit< tt) (lit≤ tt),
-  )
+  demanded : Each (Demanded g n p) es
+  demanded =
+      demand-3 g n p first es now scene (begins n ks (suits .starts)) others few (limit n small others ks (suits .limits))
 
-  scene : (xs : List Arrival) (es : List Call) (now : State) → Kinds xs es → Run (r .first) es now → Scene houseOf number packet (r .first) es now
-  unfolding Differ who keyFor
-  scene xs es now k run =
+  done-with : {ys : List Line} {ds : List Call} → Kinds ys ds → drop later es ≡ ds → enoughIn n (tail ys) ≡ false → enoughIn n ys ≡ true
+      → Each (Demanded g n p) ds → Each (λ earlier e. HeldAfter g n earlier → Said g n p earlier e) ds → Done g n p others later first es now
+  unfolding Each All
+  done-with none is f t d s = clash t f
+  done-with (one-more {e = e} {es = ds} k b) is f t d s =
+      let before : enoughAfter g n p ds ≡ false = enough-told n b small ∙ f in
+      let enough-now : enoughAfter g n p (e ∷ ds) ≡ true = enough-told n (one-more k b) small ∙ t in
+      let said = d .0 .until-done before in
       record {
-        takes = packet-takes number (lit< tt);
-        reached = record { lent = r .lent; all = r .all; calls = r .old; run = r .opened };
-        free = λ held. let x = stands-only first-stands number held in differ (x .0) 4 (x .1) (x .2) (lit< tt) (x .3);
-        run = run;
-        own = all-own xs es k;
-      }
-
--- ---- lists of arrivals, by computed tests
-
--- the oldest is the packet's, the other numbers are 1, 2 and 3, and so many of its fragments are lost
-record Suits (xs : List Arrival) (missed : ℕ) : Type 0 where
-  pub starts : begins-its xs ≡ true
-  pub others : all-these (1 ∷ 2 ∷ 3 ∷ []) xs ≡ true
-  pub losses : missing.losses (λ i. not (came xs i)) 12 ≡ missed
-
-three-possible : all-possible (reverse three-others) ≡ true
-unfolding three-others all-possible possible small
-three-possible = refl
-
-three-suits : Suits (reverse three-others) 3
-unfolding three-others begins-its is-its all-these among-these among came missing.losses missing.count
-three-suits = record { starts = refl; others = refl; losses = refl }
-
-earlier-suits : Suits (tail (reverse three-others)) 4
-unfolding three-others begins-its is-its all-these among-these among came missing.losses missing.count
-earlier-suits = record { starts = refl; others = refl; losses = refl }
-
-four-possible : all-possible (reverse four-others) ≡ true
-unfolding four-others all-possible possible
-four-possible = refl
-
-four-in-turn : in-turn who 4 (reverse four-others) ≡ true
-unfolding four-others in-turn is-number who
-four-in-turn = refl
-
-until-fourth : Suits (tail (reverse four-others)) 11
-unfolding four-others begins-its is-its all-these among-these among came missing.losses missing.count
-until-fourth = record { starts = refl; others = refl; losses = refl }
-
--- ---- what T1 says of calls that suit
-
-t1 : T1
-t1 = at-most-three until-displaced
-
-module _ {arrivals : List Arrival} (r : Played opening arrivals) {xs : List Arrival} {missed : ℕ}
-    (suits : Suits xs missed) {es : List Call} {now : State}
-    (k : Kinds xs es) (run : Run (r .first) es now) where
-  its-scene : Scene houseOf number packet (r .first) es now
-  its-scene = scene r xs es now k run
-
-  its-begins : Begins number es
-  its-begins = begins xs es k (suits .starts)
-
-  its-others : All (Among number (1 ∷ 2 ∷ 3 ∷ [])) es
-  its-others = all-among (1 ∷ 2 ∷ 3 ∷ []) xs es k (suits .others)
-
-  held : All (λ e. Holds (after e) number) es
-  unfolding keyFor
-  held = t1 houseOf number packet (r .first) es now its-scene its-begins (1 ∷ 2 ∷ 3 ∷ []) (lit≤ tt) its-others .0
-
-  promised : Promised houseOf number packet es now
-  unfolding keyFor
-  promised = t1 houseOf number packet (r .first) es now its-scene its-begins (1 ∷ 2 ∷ 3 ∷ []) (lit≤ tt) its-others .1
-
-  handed-out : enoughAfter houseOf number packet es ≡ true → HandedOut houseOf number packet es
-  unfolding keyFor
-  handed-out = t1 houseOf number packet (r .first) es now its-scene its-begins (1 ∷ 2 ∷ 3 ∷ []) (lit≤ tt) its-others .2
-
-  -- what is lost decides, by the packet's 415 bytes
-  lost-is : missing.losses (lost number es) (count houseOf packet) ≡ missed
-  lost-is = ap₂ (λ (c : ℕ → Bool) (f : ℕ). missing.losses (λ i. not (c i)) f) (come-is xs es k) packet-count ∙ suits .losses
-
-  lost-415 : missing.losses (lost number es) (cut.f houseOf 415) ≡ missed
-  lost-415 = ap (λ (l : ℕ). missing.losses (lost number es) (cut.f houseOf l)) (sym packet-size) ∙ lost-is
-
-  sufficing : (l : ℕ) → length packet ≡ l → enoughAfter houseOf number packet es ≡ missing.suffice (lost number es) (cut.f houseOf l) (cut.n l) (cut.c l)
-  unfolding enoughAfter keyFor
-  sufficing l is =
-      let taken-415 = taken houseOf packet (packet-takes number (lit< tt) .passed) in
-      ap (missing.suffice (lost number es) (count houseOf packet) (cut.n (length packet))) (c3 houseOf (length packet) taken-415 refl)
-      ∙ ap (λ (x : ℕ). missing.suffice (lost number es) (cut.f houseOf x) (cut.n x) (cut.c x)) is
-
-  enough : missed ≤ 3 → enoughAfter houseOf number packet es ≡ true
-  enough few = sufficing 415 packet-size ∙ any-three (lost number es) (omega (arith, lost-415))
-
-  not-enough : 4 ≤ missed → enoughAfter houseOf number packet es ≡ false
-  not-enough many = sufficing 415 packet-size ∙ no-four (lost number es) (omega (arith, lost-415))
-
--- ---- three other numbers: the last call hands the packet out
-
-module _ (r : Played opening three-others) where
-  hands-out : {es : List Call} {now : State} → Run (r .first) es now → Kinds (reverse three-others) es → HandedOutLast (r .first) es now
-  unfolding three-others Kinds Kind badAddress keyFor
-  hands-out start k = absurd k
-  hands-out (next {es = es} e run made) k =
-      let before : enoughAfter houseOf number packet es ≡ false = not-enough r earlier-suits (k .1) run (lit≤ tt) in
-      let now-enough : enoughAfter houseOf number packet (e ∷ es) ≡ true = enough r three-suits k (next e run made) (lit≤ tt) in
-      let answer = promised r earlier-suits (k .1) run .answered e made 11 (k .0 .0) (k .0 .1) refl .delivered before now-enough .0 in
-      record {
-        olds = olds r;
-        scene = its-scene r three-suits k (next e run made);
-        begins = its-begins r three-suits k (next e run made);
-        others = its-others r three-suits k (next e run made);
-        last = e;
-        earlier = es;
-        split = refl;
+        scene = scene;
+        begins = begins n ks (suits .starts);
+        limit = limit n small others ks (suits .limits);
+        demanded = demanded;
+        call = e;
+        earlier = ds;
+        split = is;
         before = before;
-        enough-now = now-enough;
-        handed = handed-out r three-suits k (next e run made) now-enough;
-        told = (
-          answer .displaced,
-          answer .told ∙ ap₂ (λ (l m : ℕ). numberOf (Delivered l m (answer .displaced))) packet-size
-              (lost-is r three-suits k (next e run made)),
-        );
-        written = answer .written;
+        enough-now = enough-now;
+        shown = all-shown g n p (scene .takes) ds (s .1) (said .0 .1) before;
+        handed = said .1 .handed before enough-now;
       }
 
--- three other numbers: there are such runs, and in each of them the last call hands the packet out
-pub handed-out-last : ThreeOthers
-handed-out-last =
+  -- so demand 3 is what the record says
+  done : Done g n p others later first es now
+  done =
+      done-with (beside-drop later ks) refl (suits .before) (suits .enough-now) (each-drop _ later es demanded)
+      (each-drop _ later es (lifted g n p first es now scene))
+
+module _ (n : ℕ) (small : n < 65536) {lent : List ℕ} (all : length lent ≡ all-places) where
+  -- a packet that is held, and not enough, until the last call displaces it
+  gone : {ls : List Line} {es : List Call} {now : State} → Run (freshWith lent) es now → Kinds ls es → lately n (turns (tail ls)) ≡ true
+      → enoughIn n (take (since n (tail ls)) (tail ls)) ≡ false → lately n (turns ls) ≡ false
+      → (first : State) × Gone (settingsOf n) n (packetUnder n) first (take (suc (since n (tail ls))) es) now
+  unfolding Each All
+  gone start none held f t = clash held t
+  gone (next {es = es} e run made) (one-more {l = l} {ls = ls} k b) held f t =
+      let j : ℕ = since n ls in
+      let x = scene-since all n small (suc j) (next e run made) (one-more {l = l} k b) (free-before n ls) in
+      let scene = x .2 in
+      let before : enoughAfter (settingsOf n) n (packetUnder n) (take j es) ≡ false = enough-told n (beside-take j b) small ∙ f in
+      let lost-now : Holds (after e) (keyFor (settingsOf n) n) → ⊥ = free-now all n (next e run made) (one-more {l = l} k b) t in
+      let said = lifted (settingsOf n) n (packetUnder n) (x .0) (e ∷ take j es) (after e) scene in
+      let until : HeldAfter (settingsOf n) n (take j es) = held-since all n run b in (
+        x .0,
+        record {
+          scene = scene;
+          last = e;
+          earlier = take j es;
+          split = refl;
+          held = until;
+          before = before;
+          gone = lost-now;
+          shown = all-shown (settingsOf n) n (packetUnder n) (scene .takes) (take j es) (said .1) until before;
+          said = said .0 until;
+          named = said .0 until .named (some-since n b held) lost-now before;
+        },
+      )
+
+  -- it is held after each call since its first fragment, but for the last j
+  held-until : (j : ℕ) {ls : List Line} {es : List Call} {now : State} → Run (freshWith lent) es now → Kinds ls es
+      → HeldAfter (settingsOf n) n (take (since n (drop j ls)) (drop j es))
+  unfolding All since
+  held-until zero run k = held-since all n run k
+  held-until (suc j) start none = tt
+  held-until (suc j) (next e run made) (one-more k b) = held-until j run b
+
+-- ---- the tests that are computed over the lines
+
+-- of all lines, the last one first: each is possible, displaces none or the oldest, and has the answer that the lines tell
+record Plays (ls : List Line) : Type 0 where
+  pub can-come : all-possible ls ≡ true
+  pub in-turn : all-turn-out ls ≡ true
+  pub answered : answersTo ls ≡ map (λ (l : Line). l .1) ls
+
+module _ {lines : List Line} (plays : Plays (reverse lines)) (r : Played lines) where
+  kinds-of : Kinds (reverse lines) (r .es)
+  kinds-of = kinds (plays .can-come) (r .comes)
+
+  answers-of : Beside Answers (reverse lines) (r .es)
+  answers-of = answers-run (r .all) (r .run) kinds-of (plays .in-turn) (plays .answered)
+
+abbrev three-lines : List Line
+three-lines = reverse (opening ++ three-others)
+
+abbrev four-lines : List Line
+four-lines = reverse (opening ++ four-others)
+
+record Tests : Type 0 where
+  pub three : Plays three-lines
+  pub new-5 : lately 5 (turns (drop 23 three-lines)) ≡ false
+  pub old-101 : lately 101 (turns (drop 23 three-lines)) ≡ true
+  pub old-102 : lately 102 (turns (drop 23 three-lines)) ≡ true
+  pub old-103 : lately 103 (turns (drop 23 three-lines)) ≡ true
+  pub old-104 : lately 104 (turns (drop 23 three-lines)) ≡ true
+  pub its : Suits 5 (1 ∷ 2 ∷ 3 ∷ []) 2 (take 23 three-lines)
+  pub held-5 : since 5 (drop 1 three-lines) ≡ 22
+  pub gone-5 : lately 5 (turns three-lines) ≡ false
+  pub new-1 : lately 1 (turns (drop 21 three-lines)) ≡ false
+  pub one : Suits 1 (5 ∷ 2 ∷ 3 ∷ []) 9 (take 21 three-lines)
+  pub four : Plays four-lines
+  pub since-5 : since 5 (tail four-lines) ≡ 4
+  pub held-four : lately 5 (turns (tail four-lines)) ≡ true
+  pub before-four : enoughIn 5 (take (since 5 (tail four-lines)) (tail four-lines)) ≡ false
+  pub gone-four : lately 5 (turns four-lines) ≡ false
+
+tests : Tests
+unfolding three-others four-others opening displacedIn displacedBy settles answerOf answerTo answersTo turns-out all-turn-out turns since turn came
+    missed enoughIn begins-with limited all-possible missing.losses missing.count among packets.sizeUnder packets.countUnder packets.bearable
+    brings.possible brings.small brings.faultAt brings.numberAt brings.indexAt settingsOf first numberAt read.faultOf read.isShort read.notSync
+    read.badAddress read.bodyLength read.lengthOf read.addressAt read.addressOf read.hasFec read.hasAddress read.flagsAt cut.addressBytes
+tests =
     record {
-      some = playable opening three-others opening-possible three-possible;
-      every = λ r. hands-out r (r .run) (kinds (reverse three-others) (r .es) three-possible (r .came));
+      three = record { can-come = refl; in-turn = refl; answered = refl };
+      new-5 = refl;
+      old-101 = refl;
+      old-102 = refl;
+      old-103 = refl;
+      old-104 = refl;
+      its = record { starts = refl; limits = refl; before = refl; enough-now = refl };
+      held-5 = refl;
+      gone-5 = refl;
+      new-1 = refl;
+      one = record { starts = refl; limits = refl; before = refl; enough-now = refl };
+      four = record { can-come = refl; in-turn = refl; answered = refl };
+      since-5 = refl;
+      held-four = refl;
+      before-four = refl;
+      gone-four = refl;
     }
+
+-- ---- three other numbers
+
+hands-out : (r : Played (opening ++ three-others)) → HandedOutOnce (r .es) (r .now)
+unfolding settingsOf packetUnder
+hands-out r =
+    let ks : Kinds three-lines (r .es) = kinds-of (tests .three) r in
+    let its = scene-since (r .all) 5 (lit< tt) 23 (r .run) ks (tests .new-5) in
+    let one = scene-since (r .all) 1 (lit< tt) 21 (r .run) ks (tests .new-1) in
+    let old = stand (r .all) (its .1) (beside-drop 23 ks) in
+    record {
+      answers = answers-of (tests .three) r;
+      first = its .0;
+      olds = (
+        stands-held old 101 (tests .old-101),
+        stands-held old 102 (tests .old-102),
+        stands-held old 103 (tests .old-103),
+        stands-held old 104 (tests .old-104),
+      );
+      its = done 5 (lit< tt) (1 ∷ 2 ∷ 3 ∷ []) (lit≤ tt) 2 (tests .its) (beside-take 23 ks) (its .2);
+      held = subst (λ (j : ℕ). HeldAfter house number (take j (drop 1 (r .es)))) (tests .held-5) (held-until 5 (lit< tt) (r .all) 1 (r .run) ks);
+      gone = free-now (r .all) 5 (r .run) ks (tests .gone-5);
+      then = one .0;
+      one = done 1 (lit< tt) (5 ∷ 2 ∷ 3 ∷ []) (lit≤ tt) 9 (tests .one) (beside-take 21 ks) (one .2);
+    }
+
+-- there are such runs, and in each of them the packet is handed out once
+pub handed-out-once : ThreeOthers
+handed-out-once = record { some = playable (opening ++ three-others) (tests .three .can-come); every = hands-out }
 
 -- ---- a fourth displaces it
 
-module _ (r : Played opening four-others) where
-  -- 5 was opened four openings ago
-  displaced-now : {es : List Call} {now : State} → Run (r .first) es now → Kinds (reverse four-others) es → Holds now number → ⊥
-  unfolding four-others Differ who
-  displaced-now {es} {now} run k h =
-      let nine : 4 + length es ≡ 9 = ap (λ (n : ℕ). 4 + n) (kinds-long (reverse four-others) es k) in
-      let s : Stands who 9 now =
-      subst (λ (m : ℕ). Stands who m now) nine
-      (stands-run who 9 differ (first-stands r) (first-good r) run (omega arith) (all-next who 4 (reverse four-others) es k four-in-turn)) in
-      let x = stands-only s number h in
-      differ 4 (x .0) (omega (arith, x .2)) (omega (arith, x .1)) (x .1) (sym (x .3))
+displaces : (r : Played (opening ++ four-others)) → DisplacedLast (r .es) (r .now)
+unfolding settingsOf packetUnder
+displaces r =
+    let ks : Kinds four-lines (r .es) = kinds-of (tests .four) r in
+    let x = subst (λ (j : ℕ). (first : State) × Gone house number packet first (take (suc j) (r .es)) (r .now)) (tests .since-5)
+    (gone 5 (lit< tt) (r .all) (r .run) ks (tests .held-four) (tests .before-four) (tests .gone-four)) in
+    record { answers = answers-of (tests .four) r; first = x .0; its = x .1 }
 
-  displaces : {es : List Call} {now : State} → Run (r .first) es now → Kinds (reverse four-others) es → DisplacedLast (r .first) es now
-  unfolding four-others Kinds Kind All keyFor
-  displaces start k = absurd k
-  displaces (next {es = es} {u = u} e run made) k =
-      let before : enoughAfter houseOf number packet es ≡ false = not-enough r until-fourth (k .1) run (lit≤ tt) in
-      let some : 0 < length es = omega (arith, kinds-long (tail (reverse four-others)) es (k .1)) in
-      let gone = displaced-now (next e run made) k in
-      record {
-        last = e;
-        earlier = es;
-        split = refl;
-        then = u;
-        scene = its-scene r until-fourth (k .1) run;
-        made = made;
-        held = held r until-fourth (k .1) run;
-        shown = promised r until-fourth (k .1) run .shown some before;
-        gone = gone;
-        named = promised r until-fourth (k .1) run .displaced e made (all-own (reverse four-others) (e ∷ es) k .0) some gone .named before;
-      }
-
--- four other numbers: there are such runs, and in each of them the last call displaces it and names it
+-- there are such runs, and in each of them the last call displaces it and names it
 pub displaced-last : FourOthers
-displaced-last =
-    record {
-      some = playable opening four-others opening-possible four-possible;
-      every = λ r. displaces r (r .run) (kinds (reverse four-others) (r .es) four-possible (r .came));
-    }
+displaced-last = record { some = playable (opening ++ four-others) (tests .four .can-come); every = displaces }

@@ -29,7 +29,11 @@ pub mod Senders
 pub mod Useless
 pub mod Runs
 pub mod Turns
+pub mod Longer
+pub mod Packets
 pub mod Brings
 pub mod Arrivals
+pub mod Threads
+pub mod Answered
 pub mod Examples
 pub mod Proved

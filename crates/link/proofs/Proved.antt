@@ -6,7 +6,7 @@ use Rattle.link.specs.Reached.{StaysInRange, GoesRound, HeldOnce, PartsA
 use Rattle.link.specs.Useless.{SomeKeep, Falls, SomeUseless}
 use Rattle.link.specs.Examples.{ThreeOthers, FourOthers}
 use Rattle.link.proofs.Alarm as alarm
-use Rattle.link.proofs.Examples.{handed-out-last, displaced-last}
+use Rattle.link.proofs.Examples.{handed-out-once, displaced-last}
 use Rattle.link.proofs.Heard as heard
 use Rattle.link.proofs.Holdings as holdings
 use Rattle.link.proofs.Link as link
@@ -101,7 +101,7 @@ pub some-run : SomeRun
 some-run = runs.some-run
 
 pub three-others : ThreeOthers
-three-others = handed-out-last
+three-others = handed-out-once
 
 pub four-others : FourOthers
 four-others = displaced-last

@@ -1,105 +1,160 @@
--- Which numbers the four places hold when each call of a run opens a new one: those of the last four. Assumes nothing.
-use mathlib.Core.Path.{_≡_, sym, ap, _∙_, subst}
-use mathlib.Core.Bool.{true}
+-- Which numbers the four places hold after a run: the last four that opened one. Assumes nothing.
+use mathlib.Core.Path.{_≡_, refl, sym, ap, _∙_, subst}
+use mathlib.Core.Bool.{Bool, true, false, not, cond, _||_, _&&_}
 use mathlib.Core.List.{List, [], _∷_}
-use Prim.Native.Nat.{ℕ, _+_, _-_, _%_, _≤_, _<_}
+use Prim.Native.Nat.{ℕ, zero, suc, _+_, _-_, _%_, _≤_, _<_}
 use native.Mathlib.Omega.{arith}
-use lib.ListN.{length}
-use Rattle.header_rules.specs.Read.{fieldsOf, faultOf}
+use borrow.Author.Tests.{eqb-true, eq-eqb, ne-eqb}
+use lib.Dec.{eqb}
+use lib.ListN.{length, getD, take}
+use Rattle.base_rules.specs.Tests.{among}
+use Rattle.base_rules.proofs.Logic.{either, clash}
+use Rattle.header_rules.specs.Read.{fieldsOf}
 use Rattle.places_rules.specs.declared.Place.{Place}
 use Rattle.places_rules.specs.Places.{four, placeAt, keyIn, keyOf, holds, heldAt, openAt, turned}
 use Rattle.places_rules.specs.Claims.{Opened}
 use Rattle.places_rules.proofs.Proved.{fresh-is-opened, opens-in-turn}
-use Rattle.receiver_rules.specs.Promise.{State}
-use Rattle.link.specs.Run.{Call, after, Made, Run, start, next, freshWith, Holds, numberIn}
+use Rattle.receiver_rules.specs.declared.Received.the-variants.{Refused}
+use Rattle.receiver_rules.specs.Promise.{Outcome, outcome, State, all-places}
+use Rattle.link.specs.Run.{Call, after, Made, Run, start, next, freshWith, Holds, heard, numberIn}
 use Rattle.link.proofs.Basic.{same-or-not, less-or-not, held-found, held-some, holds-yes, holds-number, holds-some}
 use Rattle.link.proofs.View.{Good, View, unheard, refuses, keeps, opens}
-use Rattle.link.proofs.Frame.{Wrote, wrote-opened, see, good-run}
-use Rattle.link.proofs.Ring.{ring-opened}
+use Rattle.link.proofs.Frame.{leftBy, Wrote, wrote-held, wrote-opened, see, good-run, good-fresh}
+use Rattle.link.proofs.Ring.{ring-kept, ring-opened}
 
--- after m openings, the j-th of the number `who j`: each of the last four stands in its place
-pub record Stands (who : ℕ → ℕ) (m : ℕ) (s : State) : Type 0 where
-  pub ring : Opened m (s .table)
-  pub number : (j : ℕ) → j < m → m ≤ j + 4 → keyIn (placeAt (s .table) (j % four)) ≡ who j
+-- ---- one of the last of a list of numbers
 
--- the opening among the last four that went to place i
-abbrev lastAt : ℕ → ℕ → ℕ
-lastAt m i = m - 1 - (m - 1 - i) % 4
+or-true : (b : Bool) → (b || true) ≡ true
+or-true true = refl
+or-true false = refl
 
-last-at : (m i : ℕ) → i < m → i < 4 → (lastAt m i < m) × (m ≤ lastAt m i + 4) × (lastAt m i % 4 ≡ i)
-last-at m i h l = (omega arith, omega arith, omega arith)
+among-at : (k j : ℕ) (ns : List ℕ) → j < k → j < length ns → among (getD ns j 0) (take k ns) ≡ true
+unfolding among
+among-at zero j ns h l = absurd (omega arith)
+among-at (suc k) j [] h l = absurd (omega arith)
+among-at (suc k) zero (x ∷ ns) h l = simp (eq-eqb x x refl)
+among-at (suc k) (suc j) (x ∷ ns) h l = rw (among-at k j ns (omega arith) (omega arith)) (or-true (eqb x (getD ns j 0)))
 
-module _ {who : ℕ → ℕ} {m : ℕ} {s : State} (r : Stands who m s) where
-  -- each of them is held
-  pub stands-held : (j : ℕ) → j < m → m ≤ j + 4 → Holds s (who j)
-  stands-held j h l =
-      held-some (s .table) (who j) (j % four) (omega arith)
-      (holds-yes (placeAt (s .table) (j % four)) (who j) (r .ring .held (j % four) (omega arith) (omega arith)) (r .number j h l))
+at-among : (k n : ℕ) (ns : List ℕ) → among n (take k ns) ≡ true → (j : ℕ) × (j < k) × (j < length ns) × (getD ns j 0 ≡ n)
+unfolding among
+at-among zero n ns t = clash t refl
+at-among (suc k) n [] t = clash t refl
+at-among (suc k) n (x ∷ ns) t =
+    either (eqb x n)
+    (λ e. (0, omega arith, omega arith, eqb-true x n e))
+    (λ e.
+    let r = at-among k n ns (sym (ap (λ (b : Bool). b || among n (take k ns)) e) ∙ t) in
+    (suc (r .0), omega (arith, r .1), omega (arith, r .2), r .3))
+
+-- ---- the numbers stand in their places
+
+-- the number n is one of the last four
+abbrev pub lately : ℕ → List ℕ → Bool
+lately n ns = among n (take four ns)
+
+-- the numbers ns opened a place each, the last one first: each of the last four stands in its own
+pub record Stands (ns : List ℕ) (s : State) : Type 0 where
+  pub ring : Opened (length ns) (s .table)
+  pub number : (j : ℕ) → j < length ns → j < four → keyIn (placeAt (s .table) ((length ns - 1 - j) % four)) ≡ getD ns j 0
+
+module _ {ns : List ℕ} {s : State} (r : Stands ns s) (n : ℕ) where
+  -- each of the last four is held
+  pub stands-held : lately n ns ≡ true → Holds s n
+  stands-held t =
+      let x = at-among four n ns t in
+      let i : ℕ = (length ns - 1 - x .0) % four in
+      held-some (s .table) n i (omega arith)
+      (holds-yes (placeAt (s .table) i) n (r .ring .held i (omega arith) (omega (arith, x .2))) (r .number (x .0) (x .2) (x .1) ∙ x .3))
 
   -- and no other number is
-  pub stands-only : (n : ℕ) → Holds s n → (j : ℕ) × (j < m) × (m ≤ j + 4) × (who j ≡ n)
-  stands-only n h =
+  pub stands-only : Holds s n → lately n ns ≡ true
+  stands-only h =
       let i : ℕ = heldAt (s .table) n in
       let e : holds (placeAt (s .table) i) n ≡ true = held-found (s .table) n h in
-      less-or-not i m
+      less-or-not i (length ns)
       (λ l.
-      let j = last-at m i l h in
-      (lastAt m i, j .0, j .1, sym (r .number (lastAt m i) (j .0) (j .1)) ∙ ap (λ (x : ℕ). keyIn (placeAt (s .table) x)) (j .2) ∙ holds-number _ n e))
-      (λ l. absurd (holds-some _ n e (r .ring .left i h (λ (k : i < m). omega arith))))
+      let j : ℕ = (length ns - 1 - i) % four in
+      let back : (length ns - 1 - j) % four ≡ i = omega arith in
+      let is : getD ns j 0 ≡ n =
+      sym (r .number j (omega arith) (omega arith)) ∙ ap (λ (x : ℕ). keyIn (placeAt (s .table) x)) back ∙ holds-number _ n e in
+      ap (λ (m : ℕ). lately m ns) (sym is) ∙ among-at four j ns (omega arith) (omega arith))
+      (λ l. absurd (holds-some _ n e (r .ring .left i h (λ (k : i < length ns). omega arith))))
 
--- a fresh table is one after no opening, whatever numbers are to come
-pub stands-fresh : (who : ℕ → ℕ) (b : List ℕ) → Stands who 0 (freshWith b)
-stands-fresh who b = record { ring = fresh-is-opened; number = λ j (h : j < 0) l. absurd (omega arith) }
+-- a fresh table is one after no opening
+pub stands-fresh : (b : List ℕ) → Stands [] (freshWith b)
+stands-fresh b = record { ring = fresh-is-opened; number = λ j (h : j < 0) l. absurd (omega arith) }
 
--- a call that brings the next number
-unfoldable pub Brings-next : (ℕ → ℕ) → ℕ → Call → Type 0
-Brings-next who m e = (faultOf (e .own) (e .datagram) ≡ 0) × (numberIn e ≡ who m)
+-- ---- one call
 
-module _ {who : ℕ → ℕ} {m : ℕ} {s : State} {e : Call} (r : Stands who m s) (new : Holds s (who m) → ⊥) (good : Good s) (made : Made s e) where
-  opened : Wrote s (turned (s .table) (openAt (s .table))) (fieldsOf (e .datagram)) (openAt (s .table)) (e .left) → numberIn e ≡ who m
-      → Stands who (m + 1) (after e)
-  opened w is =
-      let turn : openAt (s .table) ≡ m % four = opens-in-turn m (s .table) (r .ring) in
+-- a number that is heard and is none of the last four opens a place
+unfoldable pub turn : Bool → ℕ → List ℕ → List ℕ
+turn hears n ns = cond (hears && not (lately n ns)) (n ∷ ns) ns
+
+module _ {ns : List ℕ} {s : State} {e : Call} (r : Stands ns s) (good : Good s) (made : Made s e) where
+  same-stands : (x : ℕ) → e .left ≡ outcome (Refused x) (s .table) (s .bytes) (e .lent) → Stands ns (after e)
+  unfolding outcome
+  same-stands x q = subst (λ (y : Outcome). Stands ns (leftBy y)) (sym q) r
+
+  kept-stands : {j : ℕ} → Wrote s (s .table) (fieldsOf (e .datagram)) j (e .left) → holds (placeAt (s .table) j) (numberIn e) ≡ true
+      → Stands ns (after e)
+  kept-stands {j} w held =
+      let key : (i : ℕ) → keyIn (placeAt (e .left .table) i) ≡ keyIn (placeAt (s .table) i) = λ i.
+      same-or-not i j
+      (λ q.
+      ap (λ (x : ℕ). keyIn (placeAt (e .left .table) x)) q ∙ ap keyIn (w .here) ∙ w .number ∙ sym (holds-number _ _ held)
+      ∙ ap (λ (x : ℕ). keyIn (placeAt (s .table) x)) (sym q))
+      (λ q. ap keyIn (w .others i q)) in
       record {
-        ring = ring-opened m (r .ring) w;
-        number = λ j (h : j < m + 1) (l : m + 1 ≤ j + 4).
-            same-or-not j m
-            (λ q.
-            ap (λ (x : ℕ). keyIn (placeAt (e .left .table) (x % four))) q
-            ∙ ap (λ (x : ℕ). keyIn (placeAt (e .left .table) x)) (sym turn)
-            ∙ ap keyIn (w .here) ∙ w .number ∙ is ∙ ap who (sym q))
-            (λ q. ap keyIn (w .others (j % four) (λ z. elsewhere j q h l (z ∙ turn)))
-            ∙ r .number j (omega (arith, q)) (omega arith));
+        ring = ring-kept (length ns) (r .ring) w (holds-some _ _ held);
+        number = λ j h l. key ((length ns - 1 - j) % four) ∙ r .number j h l;
       }
+
+  opened-stands : Wrote s (turned (s .table) (openAt (s .table))) (fieldsOf (e .datagram)) (openAt (s .table)) (e .left)
+      → Stands (numberIn e ∷ ns) (after e)
+  opened-stands w =
+      let m : ℕ = length ns in
+      let at : openAt (s .table) ≡ m % four = opens-in-turn m (s .table) (r .ring) in
+      record { ring = subst (λ (k : ℕ). Opened k (e .left .table)) (omega arith) (ring-opened m (r .ring) w); number = number-now at }
     where
-      elsewhere : (j : ℕ) → (j ≡ m → ⊥) → j < m + 1 → m + 1 ≤ j + 4 → j % 4 ≡ m % 4 → ⊥
-      elsewhere j q h l z = omega arith
+      number-now : openAt (s .table) ≡ length ns % four → (j : ℕ) → j < suc (length ns) → j < four
+          → keyIn (placeAt (e .left .table) ((suc (length ns) - 1 - j) % four)) ≡ getD (numberIn e ∷ ns) j 0
+      number-now at zero h l =
+          let here : (suc (length ns) - 1 - 0) % four ≡ openAt (s .table) = omega arith in
+          ap (λ (x : ℕ). keyIn (placeAt (e .left .table) x)) here ∙ ap keyIn (w .here) ∙ w .number
+      number-now at (suc j) h l =
+          let there : (suc (length ns) - 1 - suc j) % four ≡ (length ns - 1 - j) % four = omega arith in
+          ap (λ (x : ℕ). keyIn (placeAt (e .left .table) x)) there
+          ∙ ap keyIn (w .others ((length ns - 1 - j) % four) (λ z. elsewhere (length ns) j (omega arith) (omega arith) (z ∙ at)))
+          ∙ r .number j (omega arith) (omega arith)
+        where
+          elsewhere : (m j : ℕ) → j < m → j < 3 → (m - 1 - j) % 4 ≡ m % 4 → ⊥
+          elsewhere m j h l z = omega arith
 
-  stands-view : Brings-next who m e → View (e .own) s (e .datagram) (e .lent) (e .left) → Stands who (m + 1) (after e)
-  unfolding Brings-next keyOf
-  stands-view b (unheard f q) = absurd (f (b .0))
-  stands-view b (refuses passed low f q) = absurd (new (subst (Holds s) (b .1) low))
-  stands-view b (keeps passed low f z) = absurd (new (subst (Holds s) (b .1) low))
-  stands-view b (opens passed high z) = opened (wrote-opened (e .own) s good (e .datagram) (e .lent) (made .bytes) passed (e .left) _ z) (b .1)
+  stands-view : View (e .own) s (e .datagram) (e .lent) (e .left) → Stands (turn (heard e) (numberIn e) ns) (after e)
+  unfolding turn keyOf
+  stands-view (unheard f q) = rw (ne-eqb _ 0 f) (same-stands _ q)
+  stands-view (refuses passed low f q) = rw (eq-eqb _ _ passed, stands-only r (numberIn e) low) (same-stands _ q)
+  stands-view (keeps passed low f z) =
+      rw (eq-eqb _ _ passed, stands-only r (numberIn e) low)
+      (kept-stands (wrote-held (e .own) s good (e .datagram) (e .lent) (made .bytes) passed (e .left) _ refl low f z) (held-found (s .table) _ low))
+  stands-view (opens passed high z) =
+      rw (eq-eqb _ _ passed, not-lately high)
+      (opened-stands (wrote-opened (e .own) s good (e .datagram) (e .lent) (made .bytes) passed (e .left) _ z))
+    where
+      not-lately : four ≤ heldAt (s .table) (numberIn e) → lately (numberIn e) ns ≡ false
+      not-lately high = either (lately (numberIn e) ns) (λ t. absurd (omega (arith, high, stands-held r (numberIn e) t))) (λ t. t)
 
--- each call of a run brings the next number
-unfoldable pub All-next : (ℕ → ℕ) → ℕ → List Call → Type 0
-All-next who m [] = Unit {0}
-All-next who m (e ∷ es) = Brings-next who (m + length es) e × All-next who m es
+-- ---- a run
 
--- all numbers up to the openings `most` differ from the four before them
-unfoldable pub Differ : (ℕ → ℕ) → ℕ → Type 0
-Differ who most = (j k : ℕ) → j < k → k ≤ j + 4 → k < most → who j ≡ who k → ⊥
+-- the numbers that opened a place in these calls, the last one first
+unfoldable pub turnsOf : List Call → List ℕ
+turnsOf [] = []
+turnsOf (e ∷ es) = turn (heard e) (numberIn e) (turnsOf es)
 
--- calls with numbers that differ from the four before them open one place each, in turn
-pub stands-run : (who : ℕ → ℕ) (most : ℕ) → Differ who most → {m : ℕ} {s u : State} {es : List Call} → Stands who m s → Good s → Run s es u
-    → m + length es ≤ most → All-next who m es → Stands who (m + length es) u
-unfolding All-next Differ
-stands-run who most differ {s = s} r good start few all = subst (λ (k : ℕ). Stands who k s) (omega arith) r
-stands-run who most differ {m = m} r good (next {es = es} {u = u} e run made) few all =
-    let before : Stands who (m + length es) u = stands-run who most differ r good run (omega arith) (all .1) in
-    let g : Good u = good-run good run in
-    let new : Holds u (who (m + length es)) → ⊥ = λ h.
-    let x = stands-only before (who (m + length es)) h in
-    differ (x .0) (m + length es) (x .1) (x .2) (omega arith) (x .3) in
-    subst (λ (k : ℕ). Stands who k (after e)) (omega arith) (stands-view before new g made (all .0) (see g made))
+-- from a fresh table on they stand in their places
+pub stands : {b : List ℕ} {es : List Call} {s : State} → length b ≡ all-places → Run (freshWith b) es s → Stands (turnsOf es) s
+unfolding turnsOf
+stands {b} all start = stands-fresh b
+stands {b} all (next e run made) =
+    let good = good-run (good-fresh b all) run in
+    stands-view (stands all run) good made (see good made)
