@@ -1,14 +1,13 @@
 -- What each line of a run is answered, by T2 for the number of the line and for the one that it displaces. Assumes nothing.
-use mathlib.Core.Path.{_≡_, refl, sym, ap, ap₂, _∙_, subst}
+use mathlib.Core.Path.{_≡_, refl, sym, ap, _∙_, subst}
 use mathlib.Core.Bool.{Bool, true, false, not, cond, _&&_, _||_}
 use mathlib.Core.List.{List, [], _∷_, map}
-use Prim.Native.Nat.{ℕ, suc, _%_, _≤_, _<_}
+use Prim.Native.Nat.{ℕ, _%_, _≤_, _<_}
 use native.Mathlib.Omega.{arith}
-use borrow.Author.Tests.{eqb-true, eqb-false, eq-eqb, ne-eqb, ltb-true, not-true}
-use lib.Dec.{ltb, eqb}
+use borrow.Author.Tests.{eqb-false, ne-eqb, ltb-true, not-true}
+use lib.Dec.{ltb}
 use lib.ListN.{length, getD, take}
-use Rattle.base_rules.specs.Tests.{among}
-use Rattle.base_rules.proofs.Logic.{either, clash, and-left, and-right}
+use Rattle.base_rules.proofs.Logic.{either, and-left, and-right}
 use Rattle.header_rules.specs.Read.{faultOf}
 use Rattle.places_rules.specs.declared.Displaced.{Displaced}
 use Rattle.places_rules.specs.declared.Displaced.the-variants.{None, Number}
@@ -19,10 +18,10 @@ use Rattle.receiver_rules.specs.declared.Received.{Received}
 use Rattle.receiver_rules.specs.declared.Received.the-variants.{Kept, Delivered, Damaged, Refused}
 use Rattle.receiver_rules.specs.Promise.{numberOf, Outcome, outcome, State, keepAt, all-places}
 use Rattle.receiver_rules.proofs.Proved.{one-received}
-use Rattle.link.specs.Run.{Call, after, Made, Run, start, next, freshWith, Holds, numberIn, come}
+use Rattle.link.specs.Run.{Call, Made, Run, start, next, freshWith, Holds, numberIn, come}
 use Rattle.link.specs.Demand.{keyFor, Names, by-kept, by-delivered, by-damaged, enoughAfter}
 use Rattle.link.specs.Steps.{Answered, DisplacedBy}
-use Rattle.link.specs.Examples.{settingsOf, packetUnder, Arrival, Fragment, Other, datagramAt, packetAt, Line, outAfter, Answers, Beside, none, one-more}
+use Rattle.link.specs.Examples.{settingsOf, packetUnder, datagramAt, packetAt, Line, outAfter, Answers, Beside, none, one-more}
 use Rattle.link.proofs.View.{View, unheard, refuses, keeps, opens}
 use Rattle.link.proofs.Frame.{see, good-run, good-fresh}
 use Rattle.link.proofs.Stage.{settled-names}
@@ -30,7 +29,7 @@ use Rattle.link.proofs.Turns.{lately, stands-held}
 use Rattle.link.proofs.Packets.{sizeUnder, sent-size, its-key}
 use Rattle.link.proofs.Brings.{faultAt, hears, numberAt, indexAt, Kind, fault-is, index-below, number-below, matches}
 use Rattle.link.proofs.Brings.{heard-fragment, number-is, own-is}
-use Rattle.link.proofs.Arrivals.{Kinds, beside-take, came, missed, enoughIn, come-key, lost-is, enough-told}
+use Rattle.link.proofs.Arrivals.{or-false, Kinds, beside-take, came, missed, enoughIn, come-key, lost-is, enough-told}
 use Rattle.link.proofs.Threads.{turns, since, some-since, stand, free-now, promised}
 
 -- ---- the answer that the lines tell
@@ -110,10 +109,6 @@ names-not-refused n {d} by-damaged e = let z : Damaged d ≡ Refused n = one-rec
 
 delivered-same : {l l′ m m′ : ℕ} {d d′ : Displaced} → l ≡ l′ → m ≡ m′ → d ≡ d′ → numberOf (Delivered l m d) ≡ numberOf (Delivered l′ m′ d′)
 delivered-same p q r = cc
-
-or-false : (a b : Bool) → (a || b) ≡ true → a ≡ false → b ≡ true
-or-false true b t f = clash refl f
-or-false false b t f = t
 
 module _ {lent : List ℕ} (all : length lent ≡ all-places) {ls : List Line} {es : List Call} {s : State} (run : Run (freshWith lent) es s)
     (ks : Kinds ls es) (l : Line) {e : Call} (made : Made s e) (k : Kind (l .0) e) where

@@ -1,10 +1,10 @@
 -- The lines of a run beside its calls: that there are such calls, and what came in them, by tests that are computed over the lines. Assumes nothing.
 use mathlib.Core.Path.{_≡_, refl, sym, ap, ap₂, _∙_, fun-ext}
 use mathlib.Core.Bool.{Bool, true, false, not, _&&_, _||_}
-use mathlib.Core.List.{List, [], _∷_, _++_, map, reverse}
+use mathlib.Core.List.{List, [], _∷_, map, reverse}
 use Prim.Native.Nat.{ℕ, zero, suc, _≤_, _<_}
 use native.Mathlib.Omega.{arith}
-use borrow.Author.Tests.{eqb-true, ne-eqb, eq-eqb}
+use borrow.Author.Tests.{eqb-true, ne-eqb}
 use lib.Dec.{leb, eqb}
 use lib.ListN.{length, take, drop}
 use Rattle.base_rules.specs.Bounds.{most-l}
@@ -167,11 +167,10 @@ unfoldable pub limited : ℕ → List ℕ → List Line → Bool
 limited n others [] = true
 limited n others (l ∷ ls) = allowed n others (l .0) ls && limited n others ls
 
-last-of : (a b c d : Bool) → (not a || (b || (c || d))) ≡ true → a ≡ true → b ≡ false → c ≡ false → d ≡ true
-last-of true false false d t p q r = t
-last-of true false true d t p q r = clash refl r
-last-of true true c d t p q r = clash refl q
-last-of false b c d t p q r = clash p refl
+-- of two tests of which one is true and the first is not, it is the second
+pub or-false : (a b : Bool) → (a || b) ≡ true → a ≡ false → b ≡ true
+or-false true b t f = clash refl f
+or-false false b t f = t
 
 -- then so is it of the calls
 pub limit : (n : ℕ) → n < 65536 → (others : List ℕ) {ls : List Line} {es : List Call} → Kinds ls es → limited n others ls ≡ true
@@ -182,8 +181,9 @@ limit n small others (one-more {l = l} {ls = ls} k b) t = (
   (λ before h strange.
       let hears-it : hears (l .0) ≡ true = sym (heard-is k) ∙ h in
       let is = number-is k hears-it in
-      ap (λ (m : ℕ). among m others) is
-      ∙ last-of (hears (l .0)) (eqb (numberAt (l .0)) n) (enoughIn n ls) _ (and-left (allowed n others (l .0) ls) _ t) hears-it
-      (ne-eqb _ n (λ z. strange (is ∙ z ∙ sym (its-key n)))) (sym (enough-told n b small) ∙ before)),
+      let other : eqb (numberAt (l .0)) n ≡ false = ne-eqb _ n (λ z. strange (is ∙ z ∙ sym (its-key n))) in
+      let not-yet : enoughIn n ls ≡ false = sym (enough-told n b small) ∙ before in
+      let t′ = or-false (not (hears (l .0))) _ (and-left (allowed n others (l .0) ls) _ t) (ap not hears-it) in
+      ap (λ (m : ℕ). among m others) is ∙ or-false (enoughIn n ls) _ (or-false (eqb (numberAt (l .0)) n) _ t′ other) not-yet),
   limit n small others b (and-right (allowed n others (l .0) ls) _ t),
 )

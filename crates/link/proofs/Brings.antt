@@ -2,49 +2,30 @@
 use mathlib.Core.Path.{_≡_, refl, sym, ap, ap₂, _∙_, subst}
 use mathlib.Core.Bool.{Bool, true, false, not, cond, _&&_}
 use mathlib.Core.List.{List, [], _∷_, _++_, append-nil, append-assoc}
-use Prim.Native.Nat.{ℕ, zero, suc, _+_, _≤_, _<_}
+use Prim.Native.Nat.{ℕ, _<_}
 use native.Mathlib.Omega.{arith}
-use borrow.Author.Tests.{eqb-true, eqb-false, eq-eqb, ltb-true, le-ltb, le-leb, lt-leb, leb-true, leb-false, not-true}
-use lib.Dec.{ltb, leb, eqb, lit<, lit≤}
-use lib.ListN.{length, replicate, length-replicate}
-use Rattle.base_rules.specs.Bounds.{most-f}
+use borrow.Author.Tests.{eq-eqb, ltb-true, not-true}
+use lib.Dec.{ltb, eqb, lit<}
 use Rattle.base_rules.specs.Bytes.{Bytes}
-use Rattle.base_rules.specs.Round.{ceil}
 use Rattle.base_rules.specs.Tests.{first}
-use Rattle.base_rules.proofs.Firsts.{skip, none-due}
 use Rattle.base_rules.proofs.Logic.{either, clash, and-left, and-right}
-use Rattle.af_rules.specs.Packet.{most-payload, packetOf}
-use Rattle.af_rules.specs.Calls.{afFault}
-use Rattle.af_rules.specs.Claims.{Back}
-use Rattle.af_rules.proofs.Proved.{a1}
+use Rattle.base_rules.proofs.ByteLaws.{bytes-append}
 use Rattle.cut_rules.specs.declared.Address.{Address}
 use Rattle.cut_rules.specs.declared.Address.the-variants.{None, Pair}
-use Rattle.cut_rules.specs.declared.Settings.{Settings}
-use Rattle.cut_rules.specs.Plan.{fit, withFec}
-use Rattle.cut_rules.specs.Edge.{plain}
-use Rattle.cut_rules.specs.Missing as missing
-use Rattle.cut_rules.specs.Sizes as cut
-use Rattle.cut_rules.proofs.Proved.{any-three, no-four}
 use Rattle.header_rules.specs.declared.Header.{Header}
 use Rattle.header_rules.specs.Read.{addressOf, fieldsOf, badAddress, faultOf}
-use Rattle.header_rules.specs.Claims.{Fitting}
-use Rattle.form_rules.specs.Agree.{enough}
-use Rattle.sender_rules.specs.Calls.{packetFault}
+use Rattle.header_rules.specs.Header.{headerBytes}
+use Rattle.header_rules.proofs.Proved.{reads-back}
 use Rattle.sender_rules.specs.Fragments.{payloadFor, headerFor, fragmentFor}
 use Rattle.sender_rules.proofs.Proved.{received}
-use Rattle.link.specs.Run.{Call, heard, numberIn, indexIn}
-use Rattle.link.specs.Demand.{Takes, count, keyFor, Own}
-use Rattle.link.specs.Examples.{here, house, packet, number, other, settingsOf, packetUnder, Arrival, Fragment, Longer, Other, ownAt, datagramAt}
-use Rattle.link.proofs.Enough.{suffices}
+use Rattle.sender_rules.proofs.Headers.{header-written}
+use Rattle.link.specs.Run.{Call, numberIn, indexIn}
+use Rattle.link.specs.Demand.{Takes, count, Own}
+use Rattle.link.specs.Examples.{here, settingsOf, packetUnder, Arrival, Fragment, Longer, Other, ownAt, datagramAt}
 use Rattle.link.proofs.Heard.{Brings, brings, brings-number}
 use Rattle.link.proofs.Runs.{bytes-fragment}
 use Rattle.link.proofs.Packets.{countUnder, sent-takes, sent-count, its-key}
 use Rattle.link.proofs.Longer.{longer-fault}
-use Rattle.header_rules.proofs.Proved.{reads-back}
-use Rattle.header_rules.specs.Header.{headerBytes}
-use Rattle.base_rules.proofs.ByteLaws.{bytes-append}
-use Rattle.sender_rules.proofs.Headers.{header-written}
-
 
 -- ---- what comes in a call
 

@@ -1,9 +1,8 @@
 -- The examples of specs/Examples.antt: what demand 3 supposes holds of these runs, by tests that are computed over their lines. Assumes nothing.
-use mathlib.Core.Path.{_≡_, refl, sym, ap, _∙_, subst}
-use mathlib.Core.Bool.{Bool, true, false}
+use mathlib.Core.Path.{_≡_, refl, _∙_, subst}
+use mathlib.Core.Bool.{true, false}
 use mathlib.Core.List.{List, [], _∷_, _++_, map, reverse, tail}
 use Prim.Native.Nat.{ℕ, zero, suc, _≤_, _<_}
-use native.Mathlib.Omega.{arith}
 use lib.Dec.{lit<, lit≤}
 use lib.ListN.{length, take, drop}
 use Rattle.base_rules.specs.Bytes.{numberAt}
@@ -13,11 +12,10 @@ use Rattle.cut_rules.specs.declared.Settings.{Settings}
 use Rattle.cut_rules.specs.Missing as missing
 use Rattle.cut_rules.specs.Sizes as cut
 use Rattle.header_rules.specs.Read as read
-use Rattle.receiver_rules.specs.declared.Received.{Received}
 use Rattle.receiver_rules.specs.Promise.{State, all-places}
-use Rattle.link.specs.Run.{Call, after, Made, Run, start, next, freshWith, Holds, ShownOpen, All, Each}
+use Rattle.link.specs.Run.{Call, after, Run, start, next, freshWith, Holds, ShownOpen, All, Each}
 use Rattle.link.specs.Demand.{Takes, keyFor, Scene, enoughAfter, HeldAfter, Said, Demanded}
-use Rattle.link.specs.Examples.{settingsOf, packetUnder, number, packet, house, Line, Comes, Answers, Beside, none, one-more, Played, Done, Gone}
+use Rattle.link.specs.Examples.{settingsOf, packetUnder, number, packet, house, Line, Answers, Beside, none, one-more, Played, Done, Gone}
 use Rattle.link.specs.Examples.{opening, three-others, HandedOutOnce, ThreeOthers, four-others, DisplacedLast, FourOthers}
 use Rattle.link.proofs.Whole.{demand-3, lifted, stays-enough}
 use Rattle.link.proofs.Turns.{lately, turn, stands-held}
@@ -37,15 +35,15 @@ each-drop P (suc k) [] p = tt
 each-drop P (suc k) (e ∷ es) p = each-drop P k es (p .1)
 
 module _ (g : Settings) (n : ℕ) (packet : List ℕ) (takes : Takes g n packet) where
-  not-before : (e : Call) (es : List Call) → enoughAfter g n packet (e ∷ es) ≡ false → enoughAfter g n packet es ≡ false
-  not-before e es f = either (enoughAfter g n packet es) (λ yet. clash (stays-enough g n packet e es takes yet) f) (λ z. z)
-
   -- as long as it is held and not enough, it shows as open
   all-shown : (es : List Call) → Each (λ earlier e. HeldAfter g n earlier → Said g n packet earlier e) es → HeldAfter g n es
       → enoughAfter g n packet es ≡ false → All (λ e. ShownOpen (after e) (keyFor g n)) es
   unfolding Each All
   all-shown [] s held f = tt
-  all-shown (e ∷ es) s held f = (s .0 (held .1) .shown (held .0) f, all-shown es (s .1) (held .1) (not-before e es f))
+  all-shown (e ∷ es) s held f = (
+    s .0 (held .1) .shown (held .0) f,
+    all-shown es (s .1) (held .1) (either (enoughAfter g n packet es) (λ yet. clash (stays-enough g n packet e es takes yet) f) (λ z. z)),
+  )
 
 -- of lines from the first fragment of n on, the last one first: so says a test of each
 record Suits (n : ℕ) (others : List ℕ) (later : ℕ) (ls : List Line) : Type 0 where

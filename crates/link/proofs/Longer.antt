@@ -1,25 +1,20 @@
 -- A datagram that passes the checks, with bytes behind it: 5 LENGTH. Assumes nothing.
 use mathlib.Core.Path.{_≡_, refl, sym, ap, ap₂, _∙_}
-use mathlib.Core.Bool.{Bool, true, false, cond, _||_}
-use mathlib.Core.List.{List, [], _∷_, _++_}
+use mathlib.Core.Bool.{true, false, cond}
+use mathlib.Core.List.{List, _++_}
 use Prim.Native.Nat.{ℕ, zero, suc, _+_, _*_, _≤_, _<_}
 use native.Mathlib.Omega.{arith}
-use borrow.Author.Tests.{le-ltb}
-use lib.Dec.{eqb}
-use lib.ListN.{length, getD, take, length-append, List·getD-append}
+use borrow.Author.Tests.{le-ltb, ne-eqb}
+use lib.ListN.{length, length-append, List·getD-append}
 use lib.Seq.{take-append-le}
 use Rattle.base_rules.specs.Bytes.{numberAt}
 use Rattle.base_rules.proofs.Firsts.{due, skip}
-use Rattle.base_rules.proofs.Logic.{same, other}
+use Rattle.base_rules.proofs.Logic.{pass, same, other}
 use Rattle.cut_rules.specs.declared.Address.{Address}
 use Rattle.cut_rules.specs.Sizes.{addressBytes}
 use Rattle.header_rules.specs.declared.Header.{Header}
-use Rattle.header_rules.specs.Read.{addressAt, fieldsOf, bodyLength, lengthOf, isShort, notSync, badCrc, badLength, faultOf}
+use Rattle.header_rules.specs.Read.{addressAt, fieldsOf, bodyLength, lengthOf, isShort, badCrc, badLength, faultOf}
 use Rattle.header_rules.proofs.Checks.{Passing, fit-sync, passing}
-
-or-true : (b : Bool) {c : Bool} → c ≡ true → (b || c) ≡ true
-or-true true e = refl
-or-true false e = e
 
 module _ (s t : List ℕ) where
   number-front : (w i : ℕ) → i + w ≤ length s → numberAt w (s ++ t) i ≡ numberAt w s i
@@ -61,7 +56,8 @@ module _ (s t : List ℕ) where
     too-long =
         let wrong : length (s ++ t) ≡ lengthOf (s ++ t) + fieldsOf (s ++ t) .plen → ⊥ =
         λ e. omega (arith, e, p .sized, head-same, ap (λ (h : Header). h .plen) reads, length-append s t) in
-        or-true (eqb (fieldsOf (s ++ t) .plen) 0) (other wrong)
+        let size : fieldsOf (s ++ t) .plen ≡ fieldsOf s .plen = ap (λ (h : Header). h .plen) reads in
+        sym (pass (ne-eqb (fieldsOf (s ++ t) .plen) 0 (λ z. omega (arith, size, p .some))) (sym (other wrong)))
 
     -- for every configured address
     pub longer-fault : (own′ : Address) → faultOf own′ (s ++ t) ≡ 5

@@ -1,43 +1,33 @@
 -- The two packets of the examples, and what is sent of them under a number. Assumes nothing.
-use mathlib.Core.Path.{_≡_, refl, sym, ap, ap₂, _∙_, subst}
-use mathlib.Core.Bool.{Bool, true, false, not, cond, _&&_}
-use mathlib.Core.List.{List, [], _∷_}
+use mathlib.Core.Path.{_≡_, refl, sym, ap, _∙_}
+use mathlib.Core.Bool.{Bool, true, false, not, cond}
+use mathlib.Core.List.{List, []}
 use Prim.Native.Nat.{ℕ, zero, suc, _+_, _≤_, _<_}
 use native.Mathlib.Omega.{arith}
-use borrow.Author.Tests.{eqb-true, eqb-false, eq-eqb, ltb-true, le-ltb, le-leb, lt-leb, leb-true, leb-false, not-true}
-use lib.Dec.{ltb, leb, eqb, lit<, lit≤}
+use borrow.Author.Tests.{eqb-true, eqb-false, eq-eqb, le-ltb, le-leb, lt-leb, leb-true, leb-false}
+use lib.Dec.{leb, eqb, lit<, lit≤}
 use lib.ListN.{length, replicate, length-replicate}
 use Rattle.base_rules.specs.Bounds.{most-f}
 use Rattle.base_rules.specs.Bytes.{Bytes}
 use Rattle.base_rules.specs.Round.{ceil}
-use Rattle.base_rules.specs.Tests.{first}
 use Rattle.base_rules.proofs.Firsts.{skip, none-due}
-use Rattle.base_rules.proofs.Logic.{either, clash, and-left, and-right}
+use Rattle.base_rules.proofs.Logic.{either}
 use Rattle.af_rules.specs.Packet.{most-payload, packetOf}
 use Rattle.af_rules.specs.Calls.{afFault}
 use Rattle.af_rules.specs.Claims.{Back}
 use Rattle.af_rules.proofs.Proved.{a1}
-use Rattle.cut_rules.specs.declared.Address.{Address}
-use Rattle.cut_rules.specs.declared.Address.the-variants.{None, Pair}
 use Rattle.cut_rules.specs.declared.Settings.{Settings}
 use Rattle.cut_rules.specs.Plan.{fit, withFec}
 use Rattle.cut_rules.specs.Edge.{plain}
 use Rattle.cut_rules.specs.Missing as missing
 use Rattle.cut_rules.specs.Sizes as cut
 use Rattle.cut_rules.proofs.Proved.{any-three, no-four}
-use Rattle.header_rules.specs.declared.Header.{Header}
-use Rattle.header_rules.specs.Read.{addressOf, fieldsOf, badAddress, faultOf}
 use Rattle.header_rules.specs.Claims.{Fitting}
 use Rattle.form_rules.specs.Agree.{enough}
 use Rattle.sender_rules.specs.Calls.{packetFault}
-use Rattle.sender_rules.specs.Fragments.{headerFor, fragmentFor}
-use Rattle.sender_rules.proofs.Proved.{received}
-use Rattle.link.specs.Run.{Call, heard, numberIn, indexIn}
-use Rattle.link.specs.Demand.{Takes, count, keyFor, Own}
-use Rattle.link.specs.Examples.{here, house, packet, number, other, settingsOf, packetUnder, Arrival, Fragment, Other, ownAt, datagramAt}
+use Rattle.link.specs.Demand.{Takes, count, keyFor}
+use Rattle.link.specs.Examples.{house, packet, number, other, settingsOf, packetUnder}
 use Rattle.link.proofs.Enough.{suffices}
-use Rattle.link.proofs.Heard.{Brings, brings, brings-number}
-use Rattle.link.proofs.Runs.{bytes-fragment}
 
 -- ---- the two packets
 

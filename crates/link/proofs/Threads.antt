@@ -1,6 +1,6 @@
 -- One number in a run by its lines: since when it is held, and that T2 speaks of it since then. Assumes nothing.
-use mathlib.Core.Path.{_≡_, refl, sym, ap, _∙_, subst}
-use mathlib.Core.Bool.{Bool, true, false, cond}
+use mathlib.Core.Path.{_≡_, refl, sym, _∙_, subst}
+use mathlib.Core.Bool.{true, false, cond}
 use mathlib.Core.List.{List, [], _∷_}
 use Prim.Native.Nat.{ℕ, zero, suc, _<_}
 use native.Mathlib.Omega.{arith}
@@ -8,10 +8,10 @@ use lib.ListN.{length, take, drop}
 use Rattle.base_rules.specs.Tests.{among}
 use Rattle.base_rules.proofs.Logic.{either, clash}
 use Rattle.receiver_rules.specs.Promise.{State, all-places}
-use Rattle.link.specs.Run.{Call, after, Made, Run, start, next, freshWith, Reached, Holds, All}
+use Rattle.link.specs.Run.{Call, Run, start, next, freshWith, Holds, All}
 use Rattle.link.specs.Demand.{keyFor, Scene, HeldAfter}
 use Rattle.link.specs.Steps.{Promised}
-use Rattle.link.specs.Examples.{settingsOf, packetUnder, Line, Beside, none, one-more}
+use Rattle.link.specs.Examples.{settingsOf, packetUnder, Line, none, one-more}
 use Rattle.link.proofs.Until.{until-displaced}
 use Rattle.link.proofs.Turns.{lately, Stands, stands-held, stands-only, turn, turnsOf, stands}
 use Rattle.link.proofs.Packets.{sent-takes, its-key}

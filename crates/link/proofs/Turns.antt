@@ -2,15 +2,14 @@
 use mathlib.Core.Path.{_≡_, refl, sym, ap, _∙_, subst}
 use mathlib.Core.Bool.{Bool, true, false, not, cond, _||_, _&&_}
 use mathlib.Core.List.{List, [], _∷_}
-use Prim.Native.Nat.{ℕ, zero, suc, _+_, _-_, _%_, _≤_, _<_}
+use Prim.Native.Nat.{ℕ, zero, suc, _-_, _%_, _≤_, _<_}
 use native.Mathlib.Omega.{arith}
 use borrow.Author.Tests.{eqb-true, eq-eqb, ne-eqb}
 use lib.Dec.{eqb}
 use lib.ListN.{length, getD, take}
 use Rattle.base_rules.specs.Tests.{among}
-use Rattle.base_rules.proofs.Logic.{either, clash}
+use Rattle.base_rules.proofs.Logic.{either, clash, hit, pass}
 use Rattle.header_rules.specs.Read.{fieldsOf}
-use Rattle.places_rules.specs.declared.Place.{Place}
 use Rattle.places_rules.specs.Places.{four, placeAt, keyIn, keyOf, holds, heldAt, openAt, turned}
 use Rattle.places_rules.specs.Claims.{Opened}
 use Rattle.places_rules.proofs.Proved.{fresh-is-opened, opens-in-turn}
@@ -24,16 +23,13 @@ use Rattle.link.proofs.Ring.{ring-kept, ring-opened}
 
 -- ---- one of the last of a list of numbers
 
-or-true : (b : Bool) → (b || true) ≡ true
-or-true true = refl
-or-true false = refl
-
 among-at : (k j : ℕ) (ns : List ℕ) → j < k → j < length ns → among (getD ns j 0) (take k ns) ≡ true
 unfolding among
 among-at zero j ns h l = absurd (omega arith)
 among-at (suc k) j [] h l = absurd (omega arith)
 among-at (suc k) zero (x ∷ ns) h l = simp (eq-eqb x x refl)
-among-at (suc k) (suc j) (x ∷ ns) h l = rw (among-at k j ns (omega arith) (omega arith)) (or-true (eqb x (getD ns j 0)))
+among-at (suc k) (suc j) (x ∷ ns) h l =
+    either (eqb x (getD ns j 0)) (λ e. sym (hit _ e)) (λ e. sym (pass e (sym (among-at k j ns (omega arith) (omega arith)))))
 
 at-among : (k n : ℕ) (ns : List ℕ) → among n (take k ns) ≡ true → (j : ℕ) × (j < k) × (j < length ns) × (getD ns j 0 ≡ n)
 unfolding among
