@@ -35,11 +35,11 @@ use Rattle.link.proofs.Threads.{turns, since, some-since, stand, free-n
 -- ---- the answer that the lines tell
 
 -- the lines since which the number n is held
-abbrev pub thread : ℕ → List Line → List Line
+abbrev thread : ℕ → List Line → List Line
 thread n ls = take (since n ls) ls
 
 -- the number that is displaced by the next one that opens a place, if all four are taken
-abbrev pub oldest : List Line → ℕ
+abbrev oldest : List Line → ℕ
 oldest ls = getD (turns ls) 3 0
 
 -- what is named as displaced where n opens a place: none if one was free, and none if the oldest was handed out

@@ -12,23 +12,16 @@ use Rattle.base_rules.specs.Tests.{among}
 use Rattle.base_rules.proofs.Logic.{either, clash, and-left, and-right}
 use Rattle.cut_rules.specs.Missing.{losses}
 use Rattle.link.specs.Run.{Call, freshWith, heard, numberIn, indexIn, come, lost, All, Each, Input, inputOf, Lawful}
-use Rattle.link.specs.Demand.{count, keyFor, Own, Among, Begins, enoughAfter, BeforeDone}
+use Rattle.link.specs.Demand.{count, keyFor, Among, Begins, enoughAfter, BeforeDone}
 use Rattle.link.specs.Examples.{settingsOf, packetUnder, ownAt, datagramAt, Arrival, Line, Comes, Beside, none, one-more, Playable}
 use Rattle.link.proofs.Enough.{suffices, enough-is}
 use Rattle.link.proofs.Runs.{some-run}
 use Rattle.link.proofs.Packets.{countUnder, bearable, sent-takes, sent-count, sent-bears, its-key}
-use Rattle.link.proofs.Brings.{possible, hears, numberAt, indexAt}
-use Rattle.link.proofs.Brings.{bytes-arrival, Kind, fault-is, number-is, index-is, own-is}
+use Rattle.link.proofs.Brings.{possible, hears, numberAt, indexAt, bytes-arrival, Kind, fault-is, number-is, index-is}
 
 -- ---- lines beside calls
 
 module _ {P : Line → Call → Type 0} where
-  -- what holds of each line and its call holds of each call
-  pub beside-all : {Q : Call → Type 0} {ls : List Line} {es : List Call} → ((l : Line) (e : Call) → P l e → Q e) → Beside P ls es → All Q es
-  unfolding All
-  beside-all f none = tt
-  beside-all f (one-more p b) = (f _ _ p, beside-all f b)
-
   -- the last ones of both lists
   pub beside-take : {ls : List Line} {es : List Call} (k : ℕ) → Beside P ls es → Beside P (take k ls) (take k es)
   beside-take zero b = none
@@ -107,7 +100,7 @@ one-came n i {a} {e} k =
     (λ h. simp (heard-is k ∙ h, h))
 
 -- the fragments that came in the calls are those among the lines
-pub come-is : (n : ℕ) {ls : List Line} {es : List Call} → Kinds ls es → come n es ≡ came n ls
+come-is : (n : ℕ) {ls : List Line} {es : List Call} → Kinds ls es → come n es ≡ came n ls
 unfolding come came
 come-is n none = fun-ext (λ i. refl)
 come-is n (one-more k b) = fun-ext (λ i. ap₂ _||_ (one-came n i k) (ap (λ (c : ℕ → Bool). c i) (come-is n b)))
@@ -139,10 +132,6 @@ module _ (n : ℕ) {ls : List Line} {es : List Call} (k : Kinds ls es) where
 
 -- ---- what demand 3 supposes
 
--- whatever comes under a number is one of the fragments of what is sent under it
-pub all-own : (n : ℕ) {ls : List Line} {es : List Call} → Kinds ls es → All (Own (settingsOf n) n (packetUnder n)) es
-all-own n k = beside-all (λ l e. own-is n) k
-
 -- the oldest line is heard, with the number n
 unfoldable pub begins-with : ℕ → List Line → Bool
 begins-with n [] = true
@@ -159,7 +148,7 @@ begins n (one-more {l = l} k none) t =
 begins n (one-more k (one-more j b)) t = begins n (one-more j b) t
 
 -- before it is enough, what is heard has the number n or one of the others
-abbrev pub allowed : ℕ → List ℕ → Arrival → List Line → Bool
+abbrev allowed : ℕ → List ℕ → Arrival → List Line → Bool
 allowed n others a ls = not (hears a) || (eqb (numberAt a) n || (enoughIn n ls || among (numberAt a) others))
 
 -- of each line

@@ -45,7 +45,7 @@ module _ (g : Settings) (n : ℕ) (packet : List ℕ) (takes : Takes g n packet)
     all-shown es (s .1) (held .1) (either (enoughAfter g n packet es) (λ yet. clash (stays-enough g n packet e es takes yet) f) (λ z. z)),
   )
 
--- of lines from the first fragment of n on, the last one first: so says a test of each
+-- what is tested of the lines from the first fragment of n on, the last one first
 record Suits (n : ℕ) (others : List ℕ) (later : ℕ) (ls : List Line) : Type 0 where
   pub starts : begins-with n ls ≡ true
   pub limits : limited n others ls ≡ true
@@ -145,12 +145,14 @@ module _ {lines : List Line} (plays : Plays (reverse lines)) (r : Played lines) 
   answers-of : Beside Answers (reverse lines) (r .es)
   answers-of = answers-run (r .all) (r .run) kinds-of (plays .in-turn) (plays .answered)
 
+-- the lines of both runs
 abbrev three-lines : List Line
 three-lines = reverse (opening ++ three-others)
 
 abbrev four-lines : List Line
 four-lines = reverse (opening ++ four-others)
 
+-- what is tested of both
 record Tests : Type 0 where
   pub three : Plays three-lines
   pub new-5 : lately 5 (turns (drop 23 three-lines)) ≡ false

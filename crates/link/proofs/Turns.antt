@@ -77,7 +77,7 @@ module _ {ns : List ℕ} {s : State} (r : Stands ns s) (n : ℕ) where
       (λ l. absurd (holds-some _ n e (r .ring .left i h (λ (k : i < length ns). omega arith))))
 
 -- a fresh table is one after no opening
-pub stands-fresh : (b : List ℕ) → Stands [] (freshWith b)
+stands-fresh : (b : List ℕ) → Stands [] (freshWith b)
 stands-fresh b = record { ring = fresh-is-opened; number = λ j (h : j < 0) l. absurd (omega arith) }
 
 -- ---- one call

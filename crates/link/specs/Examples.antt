@@ -1,5 +1,5 @@
--- Demand 3 is not empty: two closed runs, line by line. There are such runs, and in every one of them each call answers as its line says, and
--- demand 3 is what it says. The proofs are cited in proofs/Proved.antt.
+-- Demand 3 is not empty: two closed runs, `three-others` and `four-others`, line by line. There are such runs; in every one of them each call
+-- answers what its line says, and demand 3's suppositions hold, so that its promise does. The proofs are cited in proofs/Proved.antt.
 use mathlib.Core.Path.{_≡_}
 use mathlib.Core.Bool.{true, false, cond}
 use mathlib.Core.List.{List, [], _∷_, _++_, reverse}
@@ -134,32 +134,36 @@ Playable lines =
     (lent out : List ℕ) → length lent ≡ all-places → most-l ≤ length out
     → (r : Played lines) × (r .lent ≡ lent) × All (λ e. e .lent ≡ out) (r .es)
 
--- demand 3 of one packet over the calls es, from its first fragment on: what it supposes and what it promises. The packet is done with one of
--- the calls, which `later` calls follow
+-- `Demand3` of one packet over the calls es, from its first fragment on. It is done with one of them, which `later` calls follow
 pub record Done (g : Settings) (n : ℕ) (packet : List ℕ) (others : List ℕ) (later : ℕ) (first : State) (es : List Call) (now : State) : Type 0 where
+  -- what is supposed,
   pub scene : Scene g n packet first es now
   pub begins : Begins (keyFor g n) es
   pub limit : BeforeDone g n packet (Among (keyFor g n) others) es
+  -- and what is promised;
   pub demanded : Each (Demanded g n packet) es
+  -- the call with which it is enough, and those before it:
   pub call : Call
   pub earlier : List Call
   pub split : drop later es ≡ call ∷ earlier
   pub before : enoughAfter g n packet earlier ≡ false
   pub enough-now : enoughAfter g n packet (call ∷ earlier) ≡ true
-  -- so its number shows as open after each call before that one, and that one hands it out
+  -- so its number shows as open until then, and that call hands it out
   pub shown : All (λ e. ShownOpen (after e) (keyFor g n)) earlier
   pub handed : Handed g n packet earlier call
 
--- the same of a packet that the last call displaces
+-- `Lifted` of one packet over the calls es, from its first fragment on. The last of them displaces it while it is open
 pub record Gone (g : Settings) (n : ℕ) (packet : List ℕ) (first : State) (es : List Call) (now : State) : Type 0 where
+  -- what is supposed;
   pub scene : Scene g n packet first es now
+  -- the last call, and those before it:
   pub last : Call
   pub earlier : List Call
   pub split : es ≡ last ∷ earlier
   pub held : HeldAfter g n earlier
   pub before : enoughAfter g n packet earlier ≡ false
   pub gone : Holds now (keyFor g n) → ⊥
-  -- so its number shows as open after each call before that one, and the answer of that one names it
+  -- so its number shows as open until then, and the answer of that call names it
   pub shown : All (λ e. ShownOpen (after e) (keyFor g n)) earlier
   pub said : Said g n packet earlier last
   pub named : Names (Number (keyFor g n)) (last .left .answer)
@@ -194,12 +198,12 @@ three-others =
     ∷ (Missed 3, Refused 6)
     -- the third other number
     ∷ (Of 3 0, Kept (Number 104))
-    -- the first one's last fragment missing: that packet is handed out; and not again
+    -- number 1's last fragment missing: that packet is handed out; and not again
     ∷ (Of 1 0, Delivered 1387 0 None)
     ∷ (Of 1 1, Refused 11)
-    -- fragments 5 is lost, and 7
+    -- fragment 5 is lost
     ∷ (Its 6, Kept None)
-    -- with a byte too many it has not come either
+    -- fragment 7 has a byte too many: it has not come by this either
     ∷ (Longer number 7, Refused 5)
     ∷ (Its 8, Kept None)
     ∷ (Its 9, Kept None)
@@ -216,14 +220,15 @@ three-others =
 -- what such a run shows
 pub record HandedOutOnce (es : List Call) (now : State) : Type 0 where
   pub answers : Beside Answers (reverse (opening ++ three-others)) es
-  -- demand 3 of the packet, which is done with the third call from the end: the last 23 calls follow the opening
+  -- when its first fragment comes, the old packets are held
   pub first : State
   pub olds : Holds first 101 × Holds first 102 × Holds first 103 × Holds first 104
+  -- the 23 calls behind the opening: the packet is done with the third from the end
   pub its : Done house number packet (1 ∷ 2 ∷ 3 ∷ []) 2 first (take 23 es) now
   -- its number is held after the late fragment too, until the last call displaces it
   pub held : HeldAfter house number (take 22 (drop 1 es))
   pub gone : Holds now (keyFor house number) → ⊥
-  -- demand 3 of the packet of number 1, from its first fragment on
+  -- and the packet of number 1, from its first fragment on
   pub then : State
   pub one : Done plain 1 other (number ∷ 2 ∷ 3 ∷ []) 9 then (take 21 es) now
 
@@ -245,7 +250,7 @@ four-others =
     ∷ (Of 4 0, Kept (Number 5))
     ∷ []
 
--- what such a run shows: the last of the five calls displaces the packet, and its answer names the number
+-- what such a run shows: the last of the five calls behind the opening displaces the packet
 pub record DisplacedLast (es : List Call) (now : State) : Type 0 where
   pub answers : Beside Answers (reverse (opening ++ four-others)) es
   pub first : State
