@@ -7,7 +7,7 @@ use lib.Dec.{lit<, lit≤}
 use lib.ListN.{length, take, drop}
 use Rattle.base_rules.specs.Bytes.{numberAt}
 use Rattle.base_rules.specs.Tests.{among, first}
-use Rattle.base_rules.proofs.Logic.{either, clash}
+use Rattle.base_rules.proofs.Logic.{clash}
 use Rattle.cut_rules.specs.declared.Settings.{Settings}
 use Rattle.cut_rules.specs.Missing as missing
 use Rattle.cut_rules.specs.Sizes as cut
@@ -17,7 +17,7 @@ use Rattle.link.specs.Run.{Call, after, Run, start, next, freshWith, Hol
 use Rattle.link.specs.Demand.{Takes, keyFor, Scene, enoughAfter, HeldAfter, Said, Demanded}
 use Rattle.link.specs.Examples.{settingsOf, packetUnder, number, packet, house, Line, Answers, Beside, none, one-more, Played, Done, Gone}
 use Rattle.link.specs.Examples.{opening, three-others, HandedOutOnce, ThreeOthers, four-others, DisplacedLast, FourOthers}
-use Rattle.link.proofs.Whole.{demand-3, lifted, stays-enough}
+use Rattle.link.proofs.Whole.{demand-3, lifted, not-before}
 use Rattle.link.proofs.Turns.{lately, turn, stands-held}
 use Rattle.link.proofs.Packets as packets
 use Rattle.link.proofs.Brings as brings
@@ -42,7 +42,7 @@ module _ (g : Settings) (n : ℕ) (packet : List ℕ) (takes : Takes g n packet)
   all-shown [] s held f = tt
   all-shown (e ∷ es) s held f = (
     s .0 (held .1) .shown (held .0) f,
-    all-shown es (s .1) (held .1) (either (enoughAfter g n packet es) (λ yet. clash (stays-enough g n packet e es takes yet) f) (λ z. z)),
+    all-shown es (s .1) (held .1) (not-before g n packet takes e es f),
   )
 
 -- what is tested of the lines from the first fragment of n on, the last one first

@@ -106,16 +106,8 @@ module _ (g : Settings) (packet : List ℕ) (passed : packetFault g packet ≡ 0
   before-last j k a b n e f =
       let one : k + 1 ≡ count g packet = last-one k b f in
       let all : (k + 1) * sizeOf g packet ≡ count g packet * sizeOf g packet = ap (λ (y : ℕ). y * sizeOf g packet) one in
-      omega (
-        arith,
-        offset-not j e,
-        offset-last k f,
-        full-size j e,
-        size-most g packet passed k,
-        rows j k (below n one),
-        sure g packet passed .placed,
-        all,
-      )
+      let fits = sure g packet passed .placed in
+      omega (arith, offset-not j e, offset-last k f, full-size j e, size-most g packet passed k, rows j k (below n one), fits, all)
     where
       below : (j ≡ k → ⊥) → k + 1 ≡ count g packet → j < k
       below n one = omega arith
@@ -159,15 +151,9 @@ module _ (g : Settings) (packet : List ℕ) (passed : packetFault g packet ≡ 0
 
     opened-mine : Mine g n packet (openedBy h)
     unfolding openedBy headerFor
-    opened-mine = record {
-      number = key-opened h ∙ key-sent g n packet i;
-      count = refl;
-      fec = refl;
-      rsk = refl;
-      rsz = refl;
-      size = (false, refl);
-      last = omega arith;
-    }
+    opened-mine =
+        let its = key-opened h ∙ key-sent g n packet i in
+        record { number = its; count = refl; fec = refl; rsk = refl; rsz = refl; size = (false, refl); last = omega arith }
 
     -- a place that its fragment opens has the figures of the packet, and no fragment yet
     pub opened-full : (at : ℕ) (b : List ℕ) → Full g n packet (λ j. false) at (openedBy h) b

@@ -64,7 +64,7 @@ stays-enough g n packet e es takes yet =
 
 module _ (g : Settings) (n : ℕ) (packet : List ℕ) (takes : Takes g n packet) where
   -- what is not enough with a call was not before it
-  not-before : (e : Call) (es : List Call) → enoughAfter g n packet (e ∷ es) ≡ false → enoughAfter g n packet es ≡ false
+  pub not-before : (e : Call) (es : List Call) → enoughAfter g n packet (e ∷ es) ≡ false → enoughAfter g n packet es ≡ false
   not-before e es f = either (enoughAfter g n packet es) (λ yet. clash (stays-enough g n packet e es takes yet) f) (λ z. z)
 
   all-before : (P : Call → Type 0) (es : List Call) → BeforeDone g n packet P es → enoughAfter g n packet es ≡ false → All P es

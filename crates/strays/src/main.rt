@@ -206,9 +206,8 @@ const FIRST: [u8; 26] =
 const LAST: [u8; 26] =
     *b"\x50\x46\x00\x07\x00\x00\x01\x00\x00\x02\x00\x0c\x7f\xd0\x41\x46\x00\x00\x00\x00\x00\x01\x10\x54\x00\x00";
 
-// Fragment 0 of two with FEC, k 12 and z 0, of number 7: 30 zeros.
-const CODED: [u8; 46] =
-    *b"\x50\x46\x00\x07\x00\x00\x00\x00\x00\x02\x80\x1e\x0c\x00\xc3\x6f\x00\x00\x00\x00\x00\x00\x00\x00\x00\x00\x00\x00\x00\x00\x00\x00\x00\x00\x00\x00\x00\x00\x00\x00\x00\x00\x00\x00\x00\x00";
+// The header of fragment 0 of two with FEC, k 12 and z 0, of number 7: 30 bytes are to follow.
+const CODED: [u8; 16] = *b"\x50\x46\x00\x07\x00\x00\x00\x00\x00\x02\x80\x1e\x0c\x00\xc3\x6f";
 
 // An open place of number 7 that waits for two fragments without FEC.
 fn of_two() -> Place {
@@ -262,7 +261,9 @@ fn overdue() {
     p.size = 30;
     p.kept[0] = true;
     p.kept[1] = true;
-    stray(b"open", p, &CODED);
+    let mut datagram = [0u8; 46];
+    base::put(&mut datagram, 0, &CODED);
+    stray(b"open", p, &datagram);
 }
 
 fn main() {
