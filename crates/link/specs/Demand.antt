@@ -83,9 +83,13 @@ BeforeDone g n packet P es = Each (λ earlier e. enoughAfter g n packet earlier 
 
 -- ---- what is promised
 
--- the call hands a packet out: its answer tells a length, a count of fragments not held, and a displaced number or none
+-- document 01: the answer that hands a packet out tells its length, the count of fragments not held, and a displaced number or none
+abbrev pub handing : ℕ → ℕ → Displaced → ℕ × List ℕ
+handing length missing d = numberOf (Delivered length missing d)
+
+-- the call hands a packet out
 abbrev pub HandsOut : Call → ℕ → ℕ → Displaced → Type 0
-HandsOut e length missing d = e .left .answer ≡ numberOf (Delivered length missing d)
+HandsOut e length missing d = e .left .answer ≡ handing length missing d
 
 -- "handed out byte for byte": with its length and the count of its fragments that have not come, and in the buffer at its front
 pub record Handed (g : Settings) (n : ℕ) (packet : List ℕ) (earlier : List Call) (e : Call) : Type 0 where
@@ -96,7 +100,7 @@ pub record Handed (g : Settings) (n : ℕ) (packet : List ℕ) (earlier : List C
 -- the answer names the displaced number, or that there was none; a delivering and a DAMAGED one too
 pub data Names (d : Displaced) : ℕ × List ℕ → Type 0 where
   by-kept : Names d (numberOf (Kept d))
-  by-delivered : (length missing : ℕ) → Names d (numberOf (Delivered length missing d))
+  by-delivered : (length missing : ℕ) → Names d (handing length missing d)
   by-damaged : Names d (numberOf (Damaged d))
 
 -- what is said of the call e after the calls `earlier`, each of which left its number held

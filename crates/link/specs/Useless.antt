@@ -14,11 +14,11 @@ use Rattle.places_rules.specs.Places.{placeAt}
 use Rattle.form_rules.specs.Agree.{missingIn}
 use Rattle.sender_rules.specs.Calls.{fragmentCall, fragmentsCall}
 use Rattle.sender_rules.specs.Fragments.{fragmentFor, fragmentsFor}
-use Rattle.receiver_rules.specs.declared.Received.the-variants.{Delivered, Refused}
+use Rattle.receiver_rules.specs.declared.Received.the-variants.{Refused}
 use Rattle.receiver_rules.specs.Promise.{numberOf, Outcome, State, Step, all-places}
 use Rattle.receiver_rules.specs.Claims.{keptBy}
 use Rattle.link.specs.Run.{Call, after, freshWith, Holds, numberIn, All}
-use Rattle.link.specs.Demand.{Takes, count, keyFor, Own, enoughAfter, HandsOut, Handed, HeldAfter}
+use Rattle.link.specs.Demand.{Takes, count, keyFor, Own, enoughAfter, handing, HandsOut, Handed, HeldAfter}
 
 -- ---- receivers, and what they do from a fresh table on
 
@@ -130,7 +130,7 @@ pub record FalseCount (R : Receiver) : Type 0 where
   pub l : ℕ
   pub m : ℕ
   pub displaced : Displaced
-  pub told : R own state datagram out .answer ≡ numberOf (Delivered l m displaced)
+  pub told : R own state datagram out .answer ≡ handing l m displaced
   pub false-count : m ≡ missingIn (placeAt (R own state datagram out .table) (keptBy state datagram .at)) → ⊥
 
 -- ---- senders
