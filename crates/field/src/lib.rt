@@ -4,7 +4,7 @@ use tables::LOG;
 ghost use mathlib.Core.Path.{_≡_};
 ghost use Prim.Native.Nat.{_<_};
 ghost use Rattle.field_rules.specs.Field.{_⊕_, _⊗_, alpha, logOf};
-ghost use Rattle.field_rules.specs.inner.Tables.{Logs, Logged};
+ghost use Rattle.field_rules.specs.inner.Tables.{Exps, Logs, Logged};
 ghost use Rattle.field_rules.specs.Calls.{numberOf, quotientOf, logarithmOf};
 
 mod tables;
@@ -22,12 +22,27 @@ fn wide(x: u8) -> usize
     x as usize
 }
 
+// The table of the powers. It is named here alone, so that its rule is tested once.
+fn powers() -> [u8; 255]
+    ensures { λ t. ⌜ Exps t ⌝ }
+{
+    EXP
+}
+
+// The table of the logarithms, named here alone too.
+fn logarithms() -> [u8; 256]
+    ensures { λ t. ⌜ Logs t ⌝ }
+{
+    LOG
+}
+
 // The power alpha^e, from the table.
 fn raised(e: usize) -> u8
     requires { ⌜ e < 255 ⌝ }
     ensures { λ r. ⌜ r ≡ alpha e ⌝ }
 {
-    EXP[e]
+    let t = powers();
+    t[e]
 }
 
 // The logarithm of an element but 0, from the lent table.
@@ -43,18 +58,10 @@ fn logs(a: u8, b: u8) -> Pair
     requires { ⌜ (0 < a) × (0 < b) ⌝ }
     ensures { λ r. ⌜ Logged a (r .a) × Logged b (r .b) ⌝ }
 {
-    // Named once for both, and lent: each naming lays all of it out anew.
-    let t = LOG;
-    both(&t, a, b)
-}
-
-// The same from the lent table.
-fn both(t: &[u8; 256], a: u8, b: u8) -> Pair
-    requires { ⌜ (0 < a) × (0 < b) × Logs (now t) ⌝ }
-    ensures { λ r. ⌜ Logged a (r .a) × Logged b (r .b) ⌝ }
-{
-    let i = wide(entry(t, a));
-    let j = wide(entry(t, b));
+    // Asked for once for both, and lent: each call lays all of it out anew.
+    let t = logarithms();
+    let i = wide(entry(&t, a));
+    let j = wide(entry(&t, b));
     Pair { a: i, b: j }
 }
 
@@ -107,6 +114,6 @@ pub fn logarithm(x: u8) -> Element
     if x == 0 {
         return Element::Refused(ZERO);
     }
-    let t = LOG;
+    let t = logarithms();
     Element::Value(entry(&t, x))
 }

@@ -3,3 +3,4 @@ pub mod Products
 pub mod Powers
 pub mod Rules
 pub mod Answers
+pub mod Proved

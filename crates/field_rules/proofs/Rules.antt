@@ -4,19 +4,35 @@ use mathlib.Core.Bool.{Bool, true, _&&_}
 use mathlib.Core.List.{List, [], _∷_}
 use Prim.Native.Nat.{ℕ, zero, suc, _+_, _<_}
 use native.Mathlib.Nat.{zero-add, add-zero, not-suc-le-zero, le-of-suc-le-suc}
+use native.Mathlib.Numerals.{add-one}
 use native.Mathlib.Omega.{arith}
 use borrow.Author.Tests.{eqb-true}
 use lib.Dec.{eqb}
 use lib.ListN.{getD}
 use Rattle.base_rules.proofs.Logic.{and-left, and-right}
-use Rattle.field_rules.specs.Field.{alpha, logOf}
-use Rattle.field_rules.specs.inner.Tables.{Logs, Logged}
+use Rattle.field_rules.specs.Field.{times2, alpha, logOf}
+use Rattle.field_rules.specs.inner.Tables.{Exps, Logs, Logged}
 use Rattle.field_rules.proofs.Powers.{powers, powers-at, log-lt, alpha-log}
 
 -- the powers: the test is that the table is the walk of 255 from 1
-pub exps-at : (t : List ℕ) (i : ℕ) → t ≡ powers 255 1 → i < 255 → getD t i 0 ≡ alpha i
+pub exps : (t : List ℕ) → t ≡ powers 255 1 → Exps t
+unfolding alpha powers
+exps t e =
+    record {
+      start = ap (λ l. getD l 0 0) e;
+      next = λ i h.
+          walked (i + 1) h ∙ ap alpha (add-one i) ∙ ap times2 (sym (walked i (omega arith)));
+    }
+  where
+    walked : (i : ℕ) → i < 255 → getD t i 0 ≡ alpha i
+    walked i h = ap (λ l. getD l i 0) e ∙ powers-at 255 0 i h ∙ ap alpha (zero-add i)
+
+-- so the entry at i is α^i
+pub exps-at : (t : List ℕ) → Exps t → (i : ℕ) → i < 255 → getD t i 0 ≡ alpha i
 unfolding alpha
-exps-at t i e h = ap (λ l. getD l i 0) e ∙ powers-at 255 0 i h ∙ ap alpha (zero-add i)
+exps-at t r zero h = r .start
+exps-at t r (suc i) h =
+    ap (λ k. getD t k 0) (sym (add-one i)) ∙ r .next i (omega arith) ∙ ap times2 (exps-at t r i (omega arith))
 
 -- the logarithms: the entries at the elements of a list are l, l + 1, ..
 unfoldable pub numbered : ℕ → List ℕ → List ℕ → Bool

@@ -1,3 +1,4 @@
 pub mod Field
 pub mod Calls
 pub mod inner
+pub mod Claims
