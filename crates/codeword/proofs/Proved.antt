@@ -2,15 +2,27 @@
 use mathlib.Core.Path.{refl, sym, ap, _∙_}
 use Prim.Native.Nat.{_+_}
 use native.Mathlib.Nat.{zero-add}
+use lib.ListN.{length}
 use Rattle.base_rules.specs.Bounds.{parity}
-use Rattle.codeword.specs.Claims.{Places, Roots, R1, R2, R3, Systematic}
+use Rattle.field_rules.specs.Field.{_⊕_}
+use Rattle.codeword.specs.Claims.{Evaluated, Places, Roots, R1, R2, R3, Systematic}
+use Rattle.codeword.specs.Code.{value}
 use Rattle.codeword.specs.Erasure.{maskOf}
 use Rattle.codeword.proofs.Chunk.{length-full, one-chunk}
 use Rattle.codeword.proofs.Encoder.{product-root, encode-codeword, length-encode, length-parity, bytes-encode, bytes-parity}
 use Rattle.codeword.proofs.Places.{full-data, full-gap, full-parity}
+use Rattle.codeword.proofs.Poly.{value-nil, value-cons, raise-pow}
 use Rattle.codeword.proofs.Positions.{length-maskOf, erase-same}
 use Rattle.codeword.proofs.Systematic.{is-encoded}
 use Rattle.codeword.proofs.Vandermonde.{vanish}
+
+-- the value of a word is the sum of its bytes, each times a power of x
+pub evaluated : Evaluated
+evaluated =
+    record {
+      none = value-nil;
+      first = λ x c w h. value-cons x c w ∙ ap (λ y. y ⊕ value x w) (raise-pow x (length w) c h);
+    }
 
 pub places : Places
 places k w short size =

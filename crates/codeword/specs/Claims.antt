@@ -1,16 +1,22 @@
--- The theorems of the code, R1 to R3 and what follows, as they can be held against clause 7.3.1 and document 01. Each is proved in
+-- The theorems of the code, R1 to R3 and what goes with them, as they can be held against clause 7.3.1 and document 01. Each is proved in
 -- proofs/Proved.antt.
 use mathlib.Core.Path.{_≡_}
 use mathlib.Core.Bool.{Bool, true}
-use mathlib.Core.List.{List}
+use mathlib.Core.List.{List, [], _∷_}
 use Prim.Native.Nat.{ℕ, suc, _+_, _≤_, _<_}
 use lib.ListN.{length, getD, take, replicate}
 use Rattle.base_rules.specs.Bounds.{most-k, parity}
 use Rattle.base_rules.specs.Bytes.{Bytes}
-use Rattle.field_rules.specs.Field.{alpha}
+use Rattle.field_rules.specs.Field.{_⊕_, _⊗_, pow, alpha}
 use Rattle.codeword.specs.Code.{value, full, Coded, product, parityOf, encode}
 use Rattle.codeword.specs.Erasure.{erase, count, maskOf}
 use Rattle.codeword.specs.Locators.{Distinct, Positive, sumAt}
+
+-- clause 7.3.1, "in order of decreasing power of x": at every x, a byte c before w adds c x^n, n the length of w, so that `value` evaluates the
+-- polynomial
+pub record Evaluated : Type 0 where
+  pub none : (x : ℕ) → value x [] ≡ 0
+  pub first : (x c : ℕ) (w : List ℕ) → c < 256 → value x (c ∷ w) ≡ c ⊗ pow x (length w) ⊕ value x w
 
 -- document 01: "Data bytes are coefficients x^254 downward to x^(255-k), parity x^47 to x^0, and zeros stand between"; place i has x^(254-i)
 pub record Laid (k : ℕ) (w : List ℕ) : Type 0 where

@@ -8,6 +8,7 @@ use native.Mathlib.Omega.{arith}
 use lib.ListN.{length}
 use Rattle.base_rules.specs.Bounds.{parity}
 use Rattle.base_rules.specs.Round.{ceil}
+use Rattle.cut_rules.specs.Cells.{partOf}
 use Rattle.cut_rules.specs.Claims.{Taken, C2, C3, C4, C5, C6, C6m, AssuresM, AnyThree, NoFour, Parted}
 use Rattle.cut_rules.specs.Edge.{Row, rows, fec}
 use Rattle.cut_rules.specs.Missing.{losses, missing, worst}
@@ -84,7 +85,7 @@ c6m g l taken with-fec lost few = c6 g l taken with-fec lost (omega (arith, few,
 
 -- the definitions give the sizes in all the starred rows of document 01's edge
 pub edge-rows : map (λ (r : Row). r .gives) rows ≡ map (λ (r : Row). r .says) rows
-unfolding rows ceil size.c size.k size.z size.n size.addressBytes size.h size.divisor size.S size.L size.f size.s
+unfolding rows partOf ceil size.c size.k size.z size.n size.addressBytes size.h size.divisor size.S size.L size.f size.s
 edge-rows = refl
 
 -- at l 415 and m 2 there are chunks of 187 bytes in 12 fragments

@@ -2,6 +2,8 @@
 use mathlib.Core.Bool.{true, false}
 use mathlib.Core.List.{List, [], _∷_}
 use Prim.Native.Nat.{ℕ, _-_, _*_}
+use lib.ListN.{length, replicate}
+use Rattle.cut_rules.specs.Cells.{partOf}
 use Rattle.cut_rules.specs.Plan.{houseOf}
 use Rattle.cut_rules.specs.Sizes as size
 use Rattle.cut_rules.specs.declared.Address.the-variants.{None}
@@ -24,6 +26,10 @@ fec m = record { fec = true; m = m; mtu = 1400; address = None }
 abbrev pub plain : Settings
 plain = record { fec = false; m = 0; mtu = 1400; address = None }
 
+-- document 01, "last": how many bytes the last fragment has, of a packet of l bytes that is cut without FEC
+abbrev pub lastOf : Settings → ℕ → ℕ
+lastOf g l = length (partOf (replicate l 0) (size.s g l) (size.f g l - 1))
+
 -- document 01, "On each side of the edge": the starred rows of sizes
 unfoldable pub rows : List Row
 rows =
@@ -42,5 +48,5 @@ rows =
     ∷ row (size.c 8192 ∷ size.k 8192 ∷ size.z 8192 ∷ size.f houseOf 8192 ∷ size.s houseOf 8192 ∷ []) (40 ∷ 205 ∷ 8 ∷ 16 ∷ 633 ∷ [])
     -- no FEC, MTU 1,400: l 1,386 gives f 1; 1,387 gives f 2, s 694, last 693
     ∷ row (size.f plain 1386 ∷ []) (1 ∷ [])
-    ∷ row (size.f plain 1387 ∷ size.s plain 1387 ∷ (1387 - (size.f plain 1387 - 1) * size.s plain 1387) ∷ []) (2 ∷ 694 ∷ 693 ∷ [])
+    ∷ row (size.f plain 1387 ∷ size.s plain 1387 ∷ lastOf plain 1387 ∷ []) (2 ∷ 694 ∷ 693 ∷ [])
     ∷ []

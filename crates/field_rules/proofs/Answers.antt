@@ -32,20 +32,20 @@ module _ (a b : ℕ) where
   -- a division by 0 is refused as 44 ZERO
   pub quotient-refused : b ≡ 0 → numberOf (Refused 44) ≡ quotientOf a b
   unfolding numberOf quotientOf
-  quotient-refused e = at-zero b (a ⊗ inv b) e
+  quotient-refused e = at-zero b _ e
 
   -- a division by anything but 0 gives the product with the inverse
   pub quotient-given : (r : ℕ) → (b ≡ 0 → ⊥) → r ≡ a ⊗ inv b → numberOf (Value r) ≡ quotientOf a b
   unfolding numberOf quotientOf
-  quotient-given r p e = elsewhere b (a ⊗ inv b) r p e
+  quotient-given r p e = elsewhere b _ r p e
 
 module _ (a : ℕ) where
   -- the logarithm of 0 is refused as 44 ZERO
   pub logarithm-refused : a ≡ 0 → numberOf (Refused 44) ≡ logarithmOf a
   unfolding numberOf logarithmOf
-  logarithm-refused e = at-zero a (logOf a) e
+  logarithm-refused e = at-zero a _ e
 
   -- of anything but 0 the logarithm is given
   pub logarithm-given : (r : ℕ) → (a ≡ 0 → ⊥) → r ≡ logOf a → numberOf (Value r) ≡ logarithmOf a
   unfolding numberOf logarithmOf
-  logarithm-given r p e = elsewhere a (logOf a) r p e
+  logarithm-given r p e = elsewhere a _ r p e
