@@ -12,8 +12,7 @@ use Rattle.codeword.specs.Code.{value, full, Coded, product, parityOf, e
 use Rattle.codeword.specs.Erasure.{erase, count, maskOf}
 use Rattle.codeword.specs.Locators.{Distinct, Positive, sumAt}
 
--- clause 7.3.1, "in order of decreasing power of x": at every x, a byte c before w adds c x^n, n the length of w, so that `value` evaluates the
--- polynomial
+-- clause 7.3.1, "in order of decreasing power of x": at every x a byte c before n others adds c x^n, so that `value` evaluates the polynomial
 pub record Evaluated : Type 0 where
   pub none : (x : ℕ) → value x [] ≡ 0
   pub first : (x c : ℕ) (w : List ℕ) → c < 256 → value x (c ∷ w) ≡ c ⊗ pow x (length w) ⊕ value x w

@@ -37,7 +37,7 @@ module _ (a b : ℕ) where
   -- a division by anything but 0 gives the product with the inverse
   pub quotient-given : (r : ℕ) → (b ≡ 0 → ⊥) → r ≡ a ⊗ inv b → numberOf (Value r) ≡ quotientOf a b
   unfolding numberOf quotientOf
-  quotient-given r p e = elsewhere b _ r p e
+  quotient-given r p e = elsewhere b (a ⊗ inv b) r p e
 
 module _ (a : ℕ) where
   -- the logarithm of 0 is refused as 44 ZERO
@@ -48,4 +48,4 @@ module _ (a : ℕ) where
   -- of anything but 0 the logarithm is given
   pub logarithm-given : (r : ℕ) → (a ≡ 0 → ⊥) → r ≡ logOf a → numberOf (Value r) ≡ logarithmOf a
   unfolding numberOf logarithmOf
-  logarithm-given r p e = elsewhere a _ r p e
+  logarithm-given r p e = elsewhere a (logOf a) r p e

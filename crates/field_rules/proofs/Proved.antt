@@ -17,16 +17,18 @@ use Rattle.field_rules.proofs.Products as products
 use Rattle.field_rules.proofs.Rules.{exps-at, logs-at}
 use Rattle.field_rules.proofs.Sums as sums
 
+-- the laws of the sum
 pub sum : Sum
 sum =
     record {
       element = λ a b h k. sums.add-lt h k;
       assoc = sums.add-assoc;
       comm = sums.add-comm;
-      none = sums.add-0-r;
+      zero = sums.add-0-r;
       inverse = sums.add-self;
     }
 
+-- the laws of the product
 pub product : Product
 product =
     record {
@@ -36,7 +38,7 @@ product =
       one = products.mul-1-r;
       spread = products.mul-add-r;
       inverse = λ a p h. (powers.inv-lt a, powers.mul-inv a p h);
-      some = λ a b pa ha pb hb. powers.mul-pos a b ha pa pb hb;
+      not-zero = λ a b pa ha pb hb. powers.mul-pos a b ha pa pb hb;
     }
 
 -- the first 8 powers of α are the powers of two
@@ -49,6 +51,7 @@ root : alpha 8 ⊕ alpha 4 ⊕ alpha 3 ⊕ alpha 2 ⊕ 1 ≡ 0
 unfolding alpha times2 _⊕_
 root = refl
 
+-- the product by α = 2, reduced by 11D hex
 pub reduction : Reduction
 reduction =
     record {
@@ -64,6 +67,7 @@ given : (a b : ℕ) → 0 < b → granted (a ⊗ inv b ∷ []) ≡ quotientOf a 
 unfolding numberOf
 given a b p = quotient-given a b (a ⊗ inv b) (λ e. omega arith) refl
 
+-- b times the quotient of a and b is a, and no other element is the quotient
 pub quotient : Quotient
 unfolding numberOf
 quotient =
@@ -77,9 +81,11 @@ quotient =
       by-zero = λ a. sym (quotient-refused a 0 refl);
     }
 
+-- no two of the first 255 powers of α are the same
 pub powers-of-alpha : Powers
 powers-of-alpha = record { power = powers.alpha-pow; apart = powers.alpha-inj; round = powers.alpha-255 }
 
+-- the logarithm of an element but 0 is the one exponent below 255 that gives it
 pub logarithm : Logarithm
 logarithm =
     record {
@@ -87,6 +93,7 @@ logarithm =
       only = λ a l h e. sym (powers.log-alpha l h) ∙ ap logOf e;
     }
 
+-- tables that keep the rules hold the powers and the logarithms, and each is the inverse of the other
 pub ruled : Ruled
 ruled e l re rl =
     record {

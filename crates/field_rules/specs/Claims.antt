@@ -14,7 +14,7 @@ pub record Sum : Type 0 where
   pub element : (a b : ℕ) → a < 256 → b < 256 → a ⊕ b < 256
   pub assoc : (a b c : ℕ) → (a ⊕ b) ⊕ c ≡ a ⊕ (b ⊕ c)
   pub comm : (a b : ℕ) → a ⊕ b ≡ b ⊕ a
-  pub none : (a : ℕ) → a ⊕ 0 ≡ a
+  pub zero : (a : ℕ) → a ⊕ 0 ≡ a
   pub inverse : (a : ℕ) → a ⊕ a ≡ 0
 
 -- clause 7.3.1: the laws of the product; each element but 0 has an inverse, so that no product of two elements but 0 is 0
@@ -25,10 +25,9 @@ pub record Product : Type 0 where
   pub one : (a : ℕ) → a < 256 → a ⊗ 1 ≡ a
   pub spread : (a b c : ℕ) → a ⊗ (b ⊕ c) ≡ a ⊗ b ⊕ a ⊗ c
   pub inverse : (a : ℕ) → 0 < a → a < 256 → (inv a < 256) × (a ⊗ inv a ≡ 1)
-  pub some : (a b : ℕ) → 0 < a → a < 256 → 0 < b → b < 256 → 0 < a ⊗ b
+  pub not-zero : (a b : ℕ) → 0 < a → a < 256 → 0 < b → b < 256 → 0 < a ⊗ b
 
--- document 01, "over x^8 + x^4 + x^3 + x^2 + 1, α = 2": bit i of an element is the coefficient of α^i, and a product by α that leaves
--- the byte is reduced by 11D hex
+-- document 01, "over x^8 + x^4 + x^3 + x^2 + 1, α = 2": bit i is the coefficient of α^i, and 2 times x is reduced by 11D hex where it leaves the byte
 pub record Reduction : Type 0 where
   pub hex : 2 ^ 8 + 2 ^ 4 + 2 ^ 3 + 2 ^ 2 + 1 ≡ 0x11D
   pub root : alpha 8 ⊕ alpha 4 ⊕ alpha 3 ⊕ alpha 2 ⊕ 1 ≡ 0
@@ -53,8 +52,7 @@ pub record Logarithm : Type 0 where
   pub power : (a : ℕ) → 0 < a → a < 256 → (logOf a < 255) × (alpha (logOf a) ≡ a)
   pub only : (a l : ℕ) → l < 255 → alpha l ≡ a → l ≡ logOf a
 
--- document 01: "The tables of powers and logarithms of α have their rule proved over the whole table"; what a table by its rule holds at
--- every entry,
+-- document 01, "The tables of powers and logarithms of α have their rule proved over the whole table": what they hold at every entry,
 pub record Tables (e l : List ℕ) : Type 0 where
   pub powers : (i : ℕ) → i < 255 → getD e i 0 ≡ alpha i
   pub logarithms : (x : ℕ) → 0 < x → x < 256 → getD l x 0 ≡ logOf x
@@ -62,6 +60,6 @@ pub record Tables (e l : List ℕ) : Type 0 where
   pub log-of-power : (i : ℕ) → i < 255 → getD l (getD e i 0) 0 ≡ i
   pub power-of-log : (x : ℕ) → 0 < x → x < 256 → getD e (getD l x 0) 0 ≡ x
 
--- it is so of every two tables that keep the rules
+-- of every two that keep the rules
 abbrev pub Ruled : Type 0
 Ruled = (e l : List ℕ) → Exps e → Logs l → Tables e l
