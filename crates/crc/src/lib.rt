@@ -3,7 +3,8 @@ ghost use mathlib.Core.Path.{_≡_};
 ghost use Prim.Native.Nat.{_-_, _*_, _/_, _<_};
 ghost use lib.Dec.{eqb};
 ghost use lib.ListN.{length};
-ghost use Rattle.crc_rules.specs.Crc.{ones, residue, shift, feed, registerOf, wordOf};
+ghost use Rattle.crc_rules.specs.Crc.{ones, residue, feed, registerOf, wordOf};
+ghost use Rattle.crc_rules.specs.inner.Shifts.{shift};
 ghost use Rattle.crc_rules.specs.inner.Halves.{rounds, Halves};
 
 mod table;
@@ -17,7 +18,7 @@ const RESIDUE: u16 = 7439;
 // Data below this length go byte by byte: there is no step of eight to take.
 const SHORT: usize = 8;
 
-// One shift of the register.
+// One shift of the register without data.
 fn shifted(r: u16) -> u16
     ensures { λ q. ⌜ q ≡ shift r ⌝ }
 {
@@ -28,7 +29,7 @@ fn shifted(r: u16) -> u16
     }
 }
 
-// One byte more. The eight shifts are a loop, since the compiler makes a table look-up of that.
+// One byte more, added to the high half at once. The eight shifts are a loop, since the compiler makes a table look-up of that.
 fn fed(r: u16, b: u8) -> u16
     ensures { λ q. ⌜ q ≡ feed r b ⌝ }
 {

@@ -1,4 +1,5 @@
 pub mod Linear
+pub mod AtOnce
 pub mod Over
 pub mod Residue
 pub mod Halves

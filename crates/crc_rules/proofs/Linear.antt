@@ -8,7 +8,8 @@ use lib.Bits.{bitXor, xor-zero-r, xor-self, xor-lt, xor-mod, xor-shr}
 use lib.Dec.{ltb}
 use Rattle.base_rules.proofs.Logic.{either}
 use Rattle.base_rules.proofs.Xor.{bit-ind, xor-swap, xor-double, eq-of-xor-zero}
-use Rattle.crc_rules.specs.Crc.{polynomial, shift, shift8}
+use Rattle.crc_rules.specs.Crc.{polynomial}
+use Rattle.crc_rules.specs.inner.Shifts.{shift, shift8}
 use Rattle.crc_rules.specs.inner.Halves.{rounds}
 
 -- f keeps sums and the width, and takes only 0 to 0
@@ -54,7 +55,7 @@ cases x h p q =
     (λ e. let l : 32768 ≤ x = ltb-false x 32768 e in q l (omega arith) (omega arith))
 
 -- a shift as a sum: the low bits doubled, and the polynomial where the high bit is set
-parts : (x : ℕ) → x < 65536 → shift x ≡ bitXor (x % 32768 * 2) (x / 32768 * polynomial)
+pub parts : (x : ℕ) → x < 65536 → shift x ≡ bitXor (x % 32768 * 2) (x / 32768 * polynomial)
 parts x h = cases x h (λ l u v. shift-low x l ∙ simp (u, v, xor-zero-r)) (λ l u v. shift-high x l ∙ simp (u, v))
 
 -- the polynomial is added where one of two high bits is set, and not where both are

@@ -13,9 +13,11 @@ use Rattle.base_rules.specs.Bytes.{Bytes}
 use Rattle.base_rules.proofs.ByteLaws.{bytes-at, bytes-drop}
 use Rattle.base_rules.proofs.Every.{at}
 use Rattle.base_rules.proofs.Xor.{xor-assoc, xor-swap, xor-scaled}
-use Rattle.crc_rules.specs.Crc.{shift, shift8, feed, registerOf, wordOf}
+use Rattle.crc_rules.specs.Crc.{feed, registerOf, wordOf}
+use Rattle.crc_rules.specs.inner.Shifts.{shift, shift8, feedAtOnce}
 use Rattle.crc_rules.specs.inner.Halves.{rounds}
 use Rattle.crc_rules.proofs.Linear.{shift8-linear}
+use Rattle.crc_rules.proofs.AtOnce.{at-once}
 
 -- one list after another
 pub register-append : (s t : List ℕ) (r : ℕ) → registerOf r (s ++ t) ≡ registerOf (registerOf r s) t
@@ -25,8 +27,8 @@ register-append (b ∷ s) t r = register-append s t (feed r b)
 
 -- the register keeps its width,
 pub feed-lt : (r b : ℕ) → r < 65536 → b < 256 → feed r b < 65536
-unfolding feed
-feed-lt r b hr hb = shift8-linear .stays (bitXor r (b * 256)) (xor-lt 16 r (b * 256) hr (omega arith))
+unfolding feedAtOnce
+feed-lt r b hr hb = rw (at-once r b hr hb) (shift8-linear .stays (bitXor r (b * 256)) (xor-lt 16 r (b * 256) hr (omega arith)))
 
 -- over any bytes,
 pub register-lt : (s : List ℕ) (r : ℕ) → Bytes s → r < 65536 → registerOf r s < 65536
@@ -47,16 +49,18 @@ shift8-byte b h = eqb→eq (shift8 b) (b * 256) (at 256 (λ x. eqb (shift8 x) (x
 -- sums of registers and of bytes are kept
 pub feed-sum : (r q a b : ℕ) → r < 65536 → q < 65536 → a < 256 → b < 256
     → feed (bitXor r q) (bitXor a b) ≡ bitXor (feed r a) (feed q b)
-unfolding feed
+unfolding feedAtOnce
 feed-sum r q a b hr hq ha hb =
-    ap (λ z. shift8 (bitXor (bitXor r q) z)) (xor-scaled 8 a b) ∙ ap shift8 (xor-swap r q (a * 256) (b * 256))
+    at-once (bitXor r q) (bitXor a b) (xor-lt 16 r q hr hq) (xor-lt 8 a b ha hb)
+    ∙ ap (λ z. shift8 (bitXor (bitXor r q) z)) (xor-scaled 8 a b) ∙ ap shift8 (xor-swap r q (a * 256) (b * 256))
     ∙ shift8-linear .sum (bitXor r (a * 256)) (bitXor q (b * 256)) (xor-lt 16 r (a * 256) hr (omega arith))
     (xor-lt 16 q (b * 256) hq (omega arith))
+    ∙ sym (ap₂ bitXor (at-once r a hr ha) (at-once q b hq hb))
 
 -- a byte of zeros only shifts
-feed-zero : (r : ℕ) → feed r 0 ≡ shift8 r
-unfolding feed
-feed-zero r = ap shift8 (xor-zero-r r)
+feed-zero : (r : ℕ) → r < 65536 → feed r 0 ≡ shift8 r
+unfolding feedAtOnce
+feed-zero r h = at-once r 0 h (lit< tt) ∙ ap shift8 (xor-zero-r r)
 
 -- what is added to the register is added to the end, shifted
 pub register-sum : (s : List ℕ) (x y : ℕ) → Bytes s → x < 65536 → y < 65536
@@ -64,12 +68,12 @@ pub register-sum : (s : List ℕ) (x y : ℕ) → Bytes s → x < 65536 → y < 
 unfolding registerOf rounds
 register-sum [] x y h hx hy = refl
 register-sum (b ∷ s) x y h hx hy =
-    ap (λ z. registerOf z s) (feed-sum x y 0 b hx hy (lit< tt) (h .0) ∙ ap (λ z. bitXor z (feed y b)) (feed-zero x))
+    ap (λ z. registerOf z s) (feed-sum x y 0 b hx hy (lit< tt) (h .0) ∙ ap (λ z. bitXor z (feed y b)) (feed-zero x hx))
     ∙ register-sum s (shift8 x) (feed y b) (h .1) (shift8-linear .stays x hx) (feed-lt y b hy (h .0))
 
 -- the high byte of the register meets the next byte, and the low byte moves up
 feed-parts : (r b : ℕ) → r < 65536 → b < 256 → feed r b ≡ bitXor (shift8 (bitXor (r / 256) b * 256)) (r % 256 * 256)
-unfolding feed
+unfolding feedAtOnce
 feed-parts r b hr hb =
     let x : ℕ = bitXor (r / 256) b in
     let hx : x < 256 = xor-lt 8 (r / 256) b (omega arith) hb in
@@ -77,7 +81,7 @@ feed-parts r b hr hb =
     let e : bitXor r (b * 256) ≡ bitXor (x * 256) (r % 256) =
     ap₂ bitXor (sym (div-add-mod' r 256)) (sym (add-zero (b * 256))) ∙ xor-block 8 (r / 256) b (r % 256) 0 hl (lit< tt)
     ∙ ap (λ z. x * 256 + z) (xor-zero-r (r % 256)) ∙ sym (xor-shifted x 8 (r % 256) hl) in
-    ap shift8 e ∙ shift8-linear .sum (x * 256) (r % 256) (omega arith) (omega arith)
+    at-once r b hr hb ∙ ap shift8 e ∙ shift8-linear .sum (x * 256) (r % 256) (omega arith) (omega arith)
     ∙ ap (bitXor (shift8 (x * 256))) (shift8-byte (r % 256) hl)
 
 -- the rest of a list from i on is the element at i and the rest after it

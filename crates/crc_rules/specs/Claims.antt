@@ -1,7 +1,10 @@
--- What Annex A says of the CRC, as a claim: the proof is in proofs/Residue.antt.
+-- What Annex A says of the CRC, as claims: the proofs are in proofs/Residue.antt.
 use mathlib.Core.Path.{_≡_}
+use mathlib.Core.Bool.{false}
 use mathlib.Core.List.{List, [], _∷_, _++_}
 use Prim.Native.Nat.{ℕ, _+_, _*_, _<_}
+use lib.Dec.{eqb}
+use lib.ListN.{length}
 use Rattle.base_rules.specs.Bytes.{Bytes}
 use Rattle.crc_rules.specs.Crc.{ones, residue, registerOf, wordOf}
 
@@ -11,3 +14,7 @@ ResidueLaw =
     (s : List ℕ) (a b : ℕ) → Bytes s → a < 256 → b < 256
     → (registerOf ones (s ++ (a ∷ b ∷ [])) ≡ residue → a * 256 + b ≡ wordOf s)
     × (a * 256 + b ≡ wordOf s → registerOf ones (s ++ (a ∷ b ∷ [])) ≡ residue)
+
+-- Annex A: what is too short to end in a CRC never leaves 1D0F, so it is not taken for intact
+abbrev pub NoneUnderTwo : Type 0
+NoneUnderTwo = (s : List ℕ) → Bytes s → length s < 2 → eqb (registerOf ones s) residue ≡ false

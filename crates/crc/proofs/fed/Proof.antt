@@ -1,9 +1,11 @@
--- `fed` is `feed`. The loop keeps what the shifts that are left make of the register. Assumes nothing.
-use mathlib.Core.Path.{_≡_, refl, ap, _∙_}
+-- `fed` is `feed`, by the short cut. The loop keeps what the shifts that are left make of the register. Assumes nothing.
+use mathlib.Core.Path.{_≡_, sym, ap, _∙_}
 use Prim.Native.Nat.{ℕ, zero, suc, _+_, _-_, _<_, _≤_}
 use native.Mathlib.Omega.{arith}
 use borrow.Author.Needs.{needs}
-use Rattle.crc_rules.specs.Crc.{shift, shift8, feed}
+use Rattle.crc_rules.specs.Crc.{feed}
+use Rattle.crc_rules.specs.inner.Shifts.{shift, shift8, feedAtOnce}
+use Rattle.crc_rules.proofs.AtOnce.{at-once}
 use Rattle.crc.proofs.fed.Statement.{statement}
 use Rattle.crc.proofs.fed.Tie as tie
 
@@ -31,8 +33,8 @@ abbrev μ-loop : tie.MeasureT-loop
 μ-loop r b q₀ i₀ q i = 8 - i
 
 loop-holds : tie.Need-loop-holds Inv-loop μ-loop
-unfolding shifts feed shift8
-loop-holds c = (search needs, refl)
+unfolding shifts feedAtOnce shift8
+loop-holds c = (search needs, sym (at-once _ _ (search needs) (search needs)))
 
 loop-again : tie.Need-loop-again Inv-loop μ-loop
 loop-again c =

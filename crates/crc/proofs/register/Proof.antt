@@ -1,6 +1,6 @@
 -- `register` is `registerOf` either way: the table is right at every entry. Assumes nothing.
 use borrow.Author.Needs.{needs}
-use Rattle.crc_rules.specs.Crc.{shift, shift8}
+use Rattle.crc_rules.specs.inner.Shifts.{shift, shift8}
 use Rattle.crc_rules.specs.inner.Halves.{rounds}
 use Rattle.crc_rules.proofs.Halves.{halves}
 use Rattle.crc.proofs.register.Statement.{statement}

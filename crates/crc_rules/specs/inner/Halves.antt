@@ -3,7 +3,7 @@ use mathlib.Core.Path.{_≡_}
 use mathlib.Core.List.{List}
 use Prim.Native.Nat.{ℕ, zero, suc, _+_, _-_, _*_, _^_, _<_}
 use lib.ListN.{getD}
-use Rattle.crc_rules.specs.Crc.{shift8}
+use Rattle.crc_rules.specs.inner.Shifts.{shift8}
 
 -- n times eight shifts: what n bytes of zeros make of a register
 unfoldable pub rounds : ℕ → ℕ → ℕ
