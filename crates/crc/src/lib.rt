@@ -124,6 +124,7 @@ pub fn word(bytes: &[u8]) -> u16
 }
 
 // Whether the last two bytes are the CRC, as sent, of those before them: the register over all is 1D0F.
+// Of under two bytes it is false.
 pub fn intact(bytes: &[u8]) -> bool
     ensures { λ r. ⌜ r ≡ eqb (registerOf ones (now (bytes .entry))) residue ⌝ }
 {

@@ -1,10 +1,11 @@
 -- `added` meets its contract: a place a turn. Assumes nothing.
-use mathlib.Core.Path.{_≡_, sym, _∙_}
+use mathlib.Core.Path.{_≡_, sym, ap, _∙_}
 use mathlib.Core.List.{List}
 use Prim.Native.Nat.{ℕ, _-_, _≤_}
 use native.Mathlib.Omega.{arith}
 use borrow.Author.Needs.{needs}
-use lib.ListN.{length}
+use lib.ListN.{length, getD}
+use Rattle.field_rules.specs.Field.{_⊕_, _⊗_}
 use Rattle.codeword.proofs.Poly.{length-plus}
 use Rattle.codeword.specs.Code.{plus}
 use Rattle.codeword.proofs.Poly.{plus-at}
@@ -29,7 +30,9 @@ loop-again c =
     let A = c .before .before .before .before .args in
     let I = L .inv in
     let P = plus-at (A .x) (A .t3) (A .t1) (L .m) (I .1 ∙ sym (I .0)) in
-    (I .0, I .1, search needs, upto-more (plus (A .x) (A .t3) (A .t1)) (A .t1) (L .m) (L .n) (c .sum .result) (I .3) (omega arith) (cc P))
+    let y : c .before .product .result ≡ A .x ⊗ getD (A .t3) (L .m) 0 = c .before .product .ensures in
+    let v = c .sum .ensures ∙ ap (λ y. getD (A .t1) (L .m) 0 ⊕ y) y ∙ sym P in
+    (I .0, I .1, search needs, upto-more (plus (A .x) (A .t3) (A .t1)) (A .t1) (L .m) (L .n) (c .sum .result) (I .3) (omega arith) v)
 
 returns : tie.Need-returns Inv-loop μ-loop
 returns c =

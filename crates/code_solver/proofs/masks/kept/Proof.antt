@@ -6,11 +6,11 @@ use Rattle.code_solver.proofs.masks.kept.Tie as tie
 
 returns : tie.Need-returns
 returns c =
-    simp (eq-eqb _ _ (c .if1 .taken))
+    simp (eq-eqb (c .before .args .m) 0 (c .if1 .taken))
 
 returns-2 : tie.Need-returns-2
 returns-2 c =
-    simp (ne-eqb _ _ (c .if1 .left))
+    simp (ne-eqb (c .before .args .m) 0 (c .if1 .left))
 
 pub kept-spec : {M : Type 1} → statement M
 kept-spec = tie.close (tie.spec returns returns-2)
