@@ -67,6 +67,7 @@ one-byte : (b : ℕ) → b < 256 → eqb (feed ones b) residue ≡ false
 unfolding feed feedBits feedBit
 one-byte b h = failed (eqb (feed ones b) residue) (at 256 (λ x. not (eqb (feed ones x) residue)) tt b h)
 
+-- nor does no byte, so nothing too short for a CRC is taken for intact
 pub none-under-two : NoneUnderTwo
 unfolding registerOf
 none-under-two [] h l = refl

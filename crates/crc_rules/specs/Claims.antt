@@ -1,4 +1,4 @@
--- What Annex A says of the CRC, as claims: the proofs are in proofs/Residue.antt.
+-- Annex A's constant 1D0F, as claims: the proofs are in proofs/Residue.antt.
 use mathlib.Core.Path.{_≡_}
 use mathlib.Core.Bool.{false}
 use mathlib.Core.List.{List, [], _∷_, _++_}
@@ -15,6 +15,6 @@ ResidueLaw =
     → (registerOf ones (s ++ (a ∷ b ∷ [])) ≡ residue → a * 256 + b ≡ wordOf s)
     × (a * 256 + b ≡ wordOf s → registerOf ones (s ++ (a ∷ b ∷ [])) ≡ residue)
 
--- Annex A: what is too short to end in a CRC never leaves 1D0F, so it is not taken for intact
+-- Annex A, 1D0F: over no byte or one the register is never that, so what has no room for a CRC is not taken for intact
 abbrev pub NoneUnderTwo : Type 0
 NoneUnderTwo = (s : List ℕ) → Bytes s → length s < 2 → eqb (registerOf ones s) residue ≡ false
