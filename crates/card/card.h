@@ -91,8 +91,9 @@ size_t bailhammer_walk_open(const uint8_t *packet, size_t packet_len, const uint
 
 /* Hands out the next item of a walk over the same packet and names. Tells 22 bytes: 1 (1), the item's depth (1), its name (4), its bits
  * (4), where its value begins (8), the value's bytes (4); or, behind the last item, zeros and the bytes of padding in the last 4: so it
- * does then at each step. Gives 0; 1 where walker has not 56 bytes. Where walker is not as a call left it, a step may tell an item that is
- * none or the end, and gives 30 where what stands there would pass the end of its packet. */
+ * does then at each step. Gives 0; else the first that is due: 1 where walker has not 56 bytes; 43 for a list of names that opening
+ * refuses. Where walker is not as a call left it, a step may tell an item that is none or the end, and gives 30 where what stands there
+ * would pass the end of its packet. */
 size_t bailhammer_walk_step(const uint8_t *packet, size_t packet_len, const uint8_t *names, size_t names_len, uint8_t *walker,
                             size_t walker_len, uint8_t *told, size_t told_len);
 

@@ -4,12 +4,10 @@ use mathlib.Core.Bool.{Bool, true, false, cond}
 use mathlib.Core.List.{List}
 use Prim.Native.Nat.{ℕ, _+_, _^_, _<_, _≤_, min}
 use native.Mathlib.Omega.{arith}
-use borrow.Author.Tests.{eqb-true, eqb-false}
 use lib.Dec.{eqb, lit<}
 use lib.ListN.{length}
 use Rattle.base_rules.specs.Bytes.{Bytes}
 use Rattle.base_rules.proofs.Ceil as ceils
-use Rattle.base_rules.proofs.Logic.{either}
 use Rattle.base_rules.proofs.Numbers.{number-lt}
 use Rattle.item_rules.specs.declared.Found.{Found}
 use Rattle.item_rules.specs.declared.Found.the-variants as found
@@ -25,9 +23,8 @@ use Rattle.tag_rules.specs.Find.{wholeRun, checkOf, inPacket, inStanding, locat
 use Rattle.walk_rules.specs.declared.Walked.{Walked}
 use Rattle.walk_rules.specs.Names.{deepest, namesOf}
 use Rattle.walk_rules.specs.Step.{endOf, stepFrom}
-use Rattle.walk_rules.proofs.StepCases.{stays, steps-on}
+use Rattle.walk_rules.proofs.StepLaws.{by-steps, by-walker, end-within}
 use Rattle.card_rules.specs.Claims.{ItemWhole, LocatedWhole, FoundWhole, HandedWhole, StepWhole}
-use Rattle.card_rules.proofs.StepLaws.{by-steps, end-within}
 
 -- ---- an item that stands in a packet
 
@@ -84,9 +81,5 @@ handed-whole s cs ends bytes long =
 -- no figure of an item that a step hands out is cut off; its depth is at most 4, and padding under 8 bytes
 pub step-whole : StepWhole
 step-whole packet names w bytes long =
-    let P : Walked → Type 0 = λ (x : Walked). HandedWhole (x .handed) in
-    either (eqb (w .refusal) 0)
-    (λ e.
-    subst P (sym (steps-on packet names w (eqb-true (w .refusal) 0 e)))
-    (handed-whole packet (namesOf names) (w .ends) bytes long (min (w .depth) deepest) (w .at) (omega arith)))
-    (λ e. subst P (sym (stays packet names w (eqb-false (w .refusal) 0 e))) tt)
+    by-walker (λ (x : Walked). HandedWhole (x .handed)) packet names w
+    (handed-whole packet (namesOf names) (w .ends) bytes long (min (w .depth) deepest) (w .at) (omega arith)) (λ n. tt)

@@ -5,7 +5,6 @@ pub mod ReceiveLaws
 pub mod QueryLaws
 pub mod ItemLaws
 pub mod CountLaws
-pub mod StepLaws
 pub mod SendProved
 pub mod ReceiveProved
 pub mod FillProved

@@ -7,7 +7,6 @@ use Prim.Native.Nat.{ℕ, zero, suc, _+_, _^_, _<_, _≤_, min}
 use native.Mathlib.Omega.{arith}
 use lib.Dec.{ltb, lit<}
 use lib.ListN.{length, getD, set, replicate, length-set}
-use Rattle.base_rules.specs.Answer.{Answer}
 use Rattle.base_rules.specs.Bytes.{bytesOf}
 use Rattle.base_rules.specs.Tests.{among}
 use Rattle.base_rules.proofs.Numbers.{back-at}
@@ -16,14 +15,15 @@ use Rattle.item_rules.specs.Run.{nextOf}
 use Rattle.item_rules.proofs.Steps.{refused-is}
 use Rattle.walk_rules.specs.declared.Walked.{Walked}
 use Rattle.walk_rules.specs.declared.Walker.{Walker}
-use Rattle.walk_rules.specs.Names.{deepest, namesOf}
-use Rattle.walk_rules.specs.Step.{opens, goesOn, endOf, stepFrom, walkStep}
-use Rattle.walk_rules.proofs.StepCases.{steps-on}
+use Rattle.walk_rules.specs.Names.{deepest, namesOf, namesFault}
+use Rattle.walk_rules.specs.Step.{opens, goesOn, endOf, stepFrom}
+use Rattle.walk_rules.proofs.ContainerNames.{fault-is}
+use Rattle.walk_rules.proofs.StepCases.{list-stays, steps-on}
+use Rattle.walk_rules.proofs.StepLaws.{by-steps, by-walker, item-within, end-within}
 use Rattle.card_rules.specs.Told.{refusalIn, inWidths}
-use Rattle.card_rules.specs.Items.{walker-widths, walkerBytes, walkerFrom, steppedNumber, stepped}
+use Rattle.card_rules.specs.Items.{walker-widths, walker-bytes, walkerBytes, walkerFrom, steppedNumber, stepped, walkStepCall}
 use Rattle.card_rules.specs.Claims.{TypedWalk, OpensTyped, StepsTyped, ReadBack, StepNumbers}
 use Rattle.card_rules.proofs.ItemLaws.{five, walker-read, answers}
-use Rattle.card_rules.proofs.StepLaws.{by-steps, item-within, end-within}
 
 -- ---- reading back
 
@@ -119,9 +119,10 @@ module _ (s cs ends : List ℕ) (long : length s < 2 ^ 64) (sized : length ends 
 -- a step from such a walk leaves such a walk: not refused, five ends, numbers of 64 bits
 pub steps-typed : StepsTyped
 steps-typed packet names w long h =
-    subst (λ (x : Walked). TypedWalk (x .next)) (sym (steps-on packet names w (h .unrefused)))
+    by-walker (λ (x : Walked). TypedWalk (x .next)) packet names w
     (next-typed packet (namesOf names) (w .ends) long (h .five) (λ i. h .small (suc (suc i))) (min (w .depth) deepest) (w .at)
     (h .small 0, omega arith))
+    (λ n. h)
 
 -- ---- the numbers of a step
 
@@ -137,10 +138,29 @@ numbered s cs ends d at =
     by-steps s cs ends Numbered (λ (a b : ℕ). Unit {0}) (λ a b i q e. inl refl) (λ a p q e. inl refl)
     (λ a b n q e. inr (refused-is s a (endOf s ends b) n e)) (λ a b q. tt) d at tt
 
--- whatever the 56 bytes of a walk are, a step gives 0 or 30
+module _ (packet names walker : List ℕ) (long : length walker ≡ walker-bytes) where
+  -- the number of the call is that of the step, and the walk in the bytes is not refused
+  called : (x : Walked) → stepped packet names walker ≡ x → number x ≡ refusalIn (walkStepCall packet names walker)
+  called x e = ap refusalIn (answers packet names walker x long (sym e))
+
+  unrefused : walkerFrom walker .refusal ≡ 0
+  unfolding walkerFrom
+  unrefused = refl
+
+  names-number : (namesFault names ≡ 0 → ⊥) → refusalIn (walkStepCall packet names walker) ≡ namesFault names
+  unfolding refusalIn steppedNumber
+  names-number h = sym (called _ (list-stays packet names (walkerFrom walker) unrefused h))
+
+  items-number : namesFault names ≡ 0 → (refusalIn (walkStepCall packet names walker) ≡ 0) ⊎ (refusalIn (walkStepCall packet names walker) ≡ 30)
+  items-number z =
+      let w : Walker = walkerFrom walker in
+      subst (λ (n : ℕ). (n ≡ 0) ⊎ (n ≡ 30)) (called _ (steps-on packet names w unrefused z))
+      (numbered packet (namesOf names) (w .ends) (min (w .depth) deepest) (w .at))
+
+-- whatever the 56 bytes of a walk are, a step gives 43 with a list of names that opening refuses, and 0 or 30 with any other
 pub step-numbers : StepNumbers
-unfolding walkStep walkerFrom
 step-numbers packet names walker long =
-    let w : Walker = walkerFrom walker in
-    subst (λ (a : Answer). (refusalIn a ≡ 0) ⊎ (refusalIn a ≡ 30)) (answers packet names walker (stepped packet names walker) long refl)
-    (numbered packet (namesOf names) (w .ends) (min (w .depth) deepest) (w .at))
+    record {
+      by-names = λ h. names-number packet names walker long h ∙ fault-is names h;
+      by-items = items-number packet names walker long;
+    }

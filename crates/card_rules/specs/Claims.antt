@@ -24,7 +24,7 @@ use Rattle.tag_rules.specs.Find.{locateOf}
 use Rattle.walk_rules.specs.declared.Handed.{Handed}
 use Rattle.walk_rules.specs.declared.Handed.the-variants as handed
 use Rattle.walk_rules.specs.declared.Walker.{Walker}
-use Rattle.walk_rules.specs.Names.{deepest}
+use Rattle.walk_rules.specs.Names.{deepest, namesFault}
 use Rattle.walk_rules.specs.Step.{opens, walkStep}
 use Rattle.card_rules.specs.Told.{refusalIn, CardWritten}
 use Rattle.card_rules.specs.Receiving.{Held, CardReceived, clearFor}
@@ -110,10 +110,14 @@ StepsTyped = (packet names : List ℕ) (w : Walker) → length packet < 2 ^ 64 �
 abbrev pub ReadBack : Type 0
 ReadBack = (w : Walker) → TypedWalk w → walkerFrom (walkerBytes w) ≡ w
 
--- whatever the 56 bytes are, a step gives 0 or 30
+-- whatever the 56 bytes are, a step gives 43 with a list of names that opening refuses,
+pub record StepNumber (names : List ℕ) (n : ℕ) : Type 0 where
+  pub by-names : (namesFault names ≡ 0 → ⊥) → n ≡ 43
+  pub by-items : namesFault names ≡ 0 → (n ≡ 0) ⊎ (n ≡ 30)
+
+-- and with any other list 0 or 30
 abbrev pub StepNumbers : Type 0
-StepNumbers = (packet names walker : List ℕ) → length walker ≡ walker-bytes
-    → (refusalIn (walkStepCall packet names walker) ≡ 0) ⊎ (refusalIn (walkStepCall packet names walker) ≡ 30)
+StepNumbers = (packet names walker : List ℕ) → length walker ≡ walker-bytes → StepNumber names (refusalIn (walkStepCall packet names walker))
 
 -- ---- items: what is told of them
 

@@ -27,7 +27,7 @@ pub fn open_walk(packet: &[u8], names: &[u8]) -> Walker
     }
 }
 
-// A step of a walk.
+// A step of a walk: refused with the walk's own number, or where opening would refuse the list of names.
 pub fn walk_step(packet: &[u8], names: &[u8], w: Walker) -> Walked
     ensures { λ r. ⌜ r ≡ walkStep (now (packet .entry)) (now (names .entry)) w ⌝ }
 {
@@ -35,6 +35,13 @@ pub fn walk_step(packet: &[u8], names: &[u8], w: Walker) -> Walked
     if refusal != 0 {
         return Walked {
             handed: Handed::Refused(refusal),
+            next: w,
+        };
+    }
+    let n = names::fault(names);
+    if n != 0 {
+        return Walked {
+            handed: Handed::Refused(n),
             next: w,
         };
     }

@@ -1,15 +1,16 @@
 -- The list of container names: what is left of it from a name on, and when it is refused.
 use Prim.Native.Nat.{ℕ, suc, _+_, _-_, _*_, _/_, _%_, _≤_, _<_}
-use mathlib.Core.List.{List}
-use mathlib.Core.Path.{_≡_, sym, ap, _∙_}
-use mathlib.Core.Bool.{Bool, true, false}
+use mathlib.Core.List.{List, [], _∷_}
+use mathlib.Core.Path.{_≡_, refl, sym, ap, _∙_}
+use mathlib.Core.Bool.{Bool, true, false, not, _||_}
 use native.Mathlib.Omega.{arith}
 use native.Mathlib.Numerals.{add-one}
+use lib.Dec.{eqb, ltb}
 use lib.ListN.{length}
 use borrow.Author.Tests.{eq-eqb, ne-eqb, lt-ltb, le-ltb}
 use Rattle.base_rules.specs.Bytes.{numberAt}
 use Rattle.base_rules.specs.Table.{table}
-use Rattle.base_rules.specs.Tests.{among}
+use Rattle.base_rules.specs.Tests.{first, among}
 use Rattle.base_rules.proofs.Firsts.{due, skip, none-due}
 use Rattle.walk_rules.specs.Names.{most-names, name-bytes, namesOf, namesFault}
 
@@ -55,6 +56,15 @@ module _ (l : List ℕ) where
   pub cut-short : length l ≤ name-bytes * most-names → (length l % name-bytes ≡ 0 → ⊥) → 43 ≡ namesFault l
   unfolding namesFault
   cut-short h e = due _ _ (simp (le-ltb _ _ h, ne-eqb _ _ e))
+
+  -- a list that is refused is refused as 43 BITS
+  pub fault-is : (namesFault l ≡ 0 → ⊥) → namesFault l ≡ 43
+  unfolding namesFault first
+  fault-is h = go (ltb (name-bytes * most-names) (length l) || not (eqb (length l % name-bytes) 0)) h
+    where
+      go : (b : Bool) → (first ((b, 43) ∷ []) ≡ 0 → ⊥) → first ((b, 43) ∷ []) ≡ 43
+      go true h = refl
+      go false h = absurd (h refl)
 
   -- a list of at most 8 whole names is not refused
   pub well-formed : length l ≤ name-bytes * most-names → length l % name-bytes ≡ 0 → _≡_ {A = ℕ} 0 (namesFault l)

@@ -2,8 +2,12 @@
 pub mod ContainerNames
 pub mod Refusals
 pub mod StepCases
+pub mod StepLaws
 pub mod PlainWalks
 pub mod LeftOver
 pub mod Order
 pub mod HandedNumbers
+pub mod Inside
+pub mod NoContainers
+pub mod Values
 pub mod Proved

@@ -25,6 +25,7 @@ use Rattle.walk_rules.specs.Walk.{Tour, visit, ends, tourAt, refusal, wa
 use Rattle.walk_rules.specs.Step.{opens, goesOn, endOf, stepFrom}
 use Rattle.walk_rules.specs.Claims.{handsOut, told, due}
 use Rattle.walk_rules.proofs.StepCases.{step-item, step-end, step-up, into, behind, behind-deepest, stays, steps-on}
+use Rattle.walk_rules.proofs.Refusals.{list-refused}
 use Rattle.walk_rules.proofs.PlainWalks.{plainAt, plain, not-tested}
 use Rattle.walk_rules.proofs.LeftOver.{restOf, rest-into, rest-behind, rest-deepest, rest-end, rest-up, rest-refused}
 
@@ -151,15 +152,16 @@ module _ (s cs : List ℕ) where
       shows-inner d at es l h z (λ y. shows d (endOf s es (suc d)) es l (less-deep d h) y) (stepIn s at (endOf s es (suc d))) refl
 
 -- so many steps hand out the first so many of what is left
-hands-left : (s l : List ℕ) (n m : ℕ) (w : Walker) → n ≤ m → Stands s (namesOf l) w → handsOut n s l w ≡ take n (told m (leftOf s (namesOf l) w))
+hands-left : (s l : List ℕ) → namesFault l ≡ 0 → (n m : ℕ) (w : Walker) → n ≤ m → Stands s (namesOf l) w
+    → handsOut n s l w ≡ take n (told m (leftOf s (namesOf l) w))
 unfolding handsOut
-hands-left s l zero m w h v = refl
-hands-left s l (suc n) m w h v =
+hands-left s l f zero m w h v = refl
+hands-left s l f (suc n) m w h v =
     let x = shows s (namesOf l) (w .depth) (w .at) (w .ends) (v .sized) (v .deep) (v .sound) in
     let k : min (w .depth) deepest ≡ w .depth = omega (arith, v .deep) in
-    let is = steps-on s l w (v .open-still) ∙ ap (λ (d : ℕ). stepFrom s (namesOf l) (w .at) d (w .ends)) k ∙ x .is in
+    let is = steps-on s l w (v .open-still) f ∙ ap (λ (d : ℕ). stepFrom s (namesOf l) (w .at) d (w .ends)) k ∙ x .is in
     ap (λ (y : Walked). y .handed ∷ handsOut n s l (y .next)) is
-    ∙ ap (λ (y : List Handed). x .out ∷ y) (hands-left s l n m (x .next) (omega arith) (x .stands))
+    ∙ ap (λ (y : List Handed). x .out ∷ y) (hands-left s l f n m (x .next) (omega arith) (x .stands))
     ∙ sym (x .first n m h)
 
 -- a walk that was refused hands out its refusal
@@ -169,6 +171,12 @@ hands-refusal s l zero w h = refl
 hands-refusal s l (suc n) w h =
     ap (λ (y : Walked). y .handed ∷ handsOut n s l (y .next)) (stays s l w h)
     ∙ ap (λ (y : List Handed). handed.Refused (w .refusal) ∷ y) (hands-refusal s l n w h)
+
+-- where a whole walk is not refused, its list of names is not
+list-clear : (s l : List ℕ) → refusal (walkOf s l) ≡ 0 → namesFault l ≡ 0
+list-clear s l z =
+    either (eqb (namesFault l) 0) (eqb-true (namesFault l) 0)
+    (λ q. let h = eqb-false (namesFault l) 0 q in absurd (h (list-refused s l (namesFault l) refl h ∙ z)))
 
 -- the whole walk, where it is not refused, is what is left where it opens
 opens-whole : (s l : List ℕ) → refusal (walkOf s l) ≡ 0 → walkOf s l ≡ leftOf s (namesOf l) (opens s l)
@@ -190,7 +198,7 @@ ordered s l n =
     either (eqb (refusal (walkOf s l)) 0)
     (λ q.
     let z = eqb-true (refusal (walkOf s l)) 0 q in
-    hands-left s l n n (opens s l) (le-refl n) (opens-stands s l z)
+    hands-left s l (list-clear s l z) n n (opens s l) (le-refl n) (opens-stands s l z)
     ∙ ap (λ (t : Tour). take n (told n t)) (sym (opens-whole s l z))
     ∙ sym (simp q))
     (λ q. hands-refusal s l n (opens s l) (eqb-false (refusal (walkOf s l)) 0 q) ∙ sym (simp q))

@@ -53,15 +53,16 @@ module _ (s cs : List ℕ) where
   plain-refused zero d n = refl
   plain-refused (suc k) d n = refl
 
--- where neither of two numbers is due
-or-left : (a b : ℕ) → orElse a b ≡ 0 → a ≡ 0
+-- where neither of two numbers is due, the first is not,
+pub or-left : (a b : ℕ) → orElse a b ≡ 0 → a ≡ 0
 or-left a b q = go (eqb a 0) refl q
   where
     go : (x : Bool) → eqb a 0 ≡ x → cond x b a ≡ 0 → a ≡ 0
     go true e r = eqb-true a 0 e
     go false e r = r
 
-or-right : (a b : ℕ) → orElse a b ≡ 0 → b ≡ 0
+-- the second is not due either
+pub or-right : (a b : ℕ) → orElse a b ≡ 0 → b ≡ 0
 or-right a b q = ap (λ (x : Bool). cond x b a) (sym (eq-eqb a 0 (or-left a b q))) ∙ q
 
 -- a walk with a test before it that is not refused: the test has no number, and it is that walk
@@ -71,7 +72,7 @@ not-tested n t q =
     (simp (eq-eqb n 0 (or-left n (refusal t) h)), or-right n (refusal t) h)
 
 -- below the deepest level every item is at fault
-not-too-deep : (cs : List ℕ) (d : ℕ) (b : Bool) (i : Item) → walkFault cs d b i ≡ 0 → d ≤ deepest
+pub not-too-deep : (cs : List ℕ) (d : ℕ) (b : Bool) (i : Item) → walkFault cs d b i ≡ 0 → d ≤ deepest
 unfolding walkFault
 not-too-deep cs d b i q =
     let r = or-right (faultOf b i) _ q in

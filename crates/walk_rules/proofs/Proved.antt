@@ -1,7 +1,10 @@
 -- The claims of specs/Claims.antt, each by citation.
-use Rattle.walk_rules.specs.Claims.{InOrder, OneHanded}
+use Rattle.walk_rules.specs.Claims.{InOrder, OneHanded, WalkInside, StepInside, NoNames, ValueAsPacket}
 use Rattle.walk_rules.proofs.Order.{ordered}
 use Rattle.walk_rules.proofs.HandedNumbers.{number-tells}
+use Rattle.walk_rules.proofs.Inside as inside
+use Rattle.walk_rules.proofs.NoContainers as without
+use Rattle.walk_rules.proofs.Values as values
 
 -- the step walk hands out what the recursive walk does: its items in order and its end, or its refusal
 pub in-order : InOrder
@@ -9,3 +12,19 @@ in-order = ordered
 
 pub one-handed : OneHanded
 one-handed = number-tells
+
+-- each item that a walk comes to lies in the packet,
+pub walk-inside : WalkInside
+walk-inside = inside.walk-inside
+
+-- and each that a step hands out
+pub step-inside : StepInside
+step-inside = inside.step-inside
+
+-- with no container names a walk is the packet's run, and has the check's number
+pub no-names : NoNames
+no-names = without.no-names
+
+-- the items inside a container are those of its value read as a packet of its own, each with its place moved
+pub value-as-packet : ValueAsPacket
+value-as-packet = values.value-as-packet

@@ -15,8 +15,8 @@ use Rattle.item_rules.specs.Item.{stepIn}
 use Rattle.item_rules.specs.Run.{nextOf}
 use Rattle.walk_rules.specs.declared.Handed.the-variants as handed
 use Rattle.walk_rules.specs.declared.Walker.{Walker}
-use Rattle.walk_rules.specs.Names.{deepest, namesOf}
-use Rattle.walk_rules.specs.Step.{goesOn, endOf, stepFrom, walkStep}
+use Rattle.walk_rules.specs.Names.{deepest, namesOf, namesFault}
+use Rattle.walk_rules.specs.Step.{goesOn, endOf, stepFrom, stepFault, walkStep}
 
 suc-ne-zero : {d : ℕ} → suc d ≡ 0 → ⊥
 suc-ne-zero z = omega arith
@@ -68,14 +68,19 @@ module _ (cs : List ℕ) (d : ℕ) (ends : List ℕ) (i : Item) where
   unfolding goesOn
   behind-deepest h = sym (simp (le-ltb d deepest h))
 
--- a walk that was refused stays, one that was not steps on
+-- a walk that was refused stays, and so does one with a list that is refused; any other steps on
 module _ (s l : List ℕ) (w : Walker) where
   -- a walk that was refused answers its number at each step, and stays as it is
   pub stays : (w .refusal ≡ 0 → ⊥) → walkStep s l w ≡ record { handed = handed.Refused (w .refusal); next = w }
-  unfolding walkStep
+  unfolding walkStep stepFault
   stays h = simp (ne-eqb (w .refusal) 0 h)
 
-  -- a walk that was not refused steps from where it stands, a depth below the deepest taken as that
-  pub steps-on : w .refusal ≡ 0 → walkStep s l w ≡ stepFrom s (namesOf l) (w .at) (min (w .depth) deepest) (w .ends)
-  unfolding walkStep
-  steps-on h = simp (eq-eqb (w .refusal) 0 h)
+  -- a walk that was not refused answers the number of a list of names that opening refuses, and stays as it is
+  pub list-stays : w .refusal ≡ 0 → (namesFault l ≡ 0 → ⊥) → walkStep s l w ≡ record { handed = handed.Refused (namesFault l); next = w }
+  unfolding walkStep stepFault
+  list-stays z h = simp (eq-eqb (w .refusal) 0 z, ne-eqb (namesFault l) 0 h)
+
+  -- a walk that was not refused, with a list that is not, steps from where it stands, a depth below the deepest taken as that
+  pub steps-on : w .refusal ≡ 0 → namesFault l ≡ 0 → walkStep s l w ≡ stepFrom s (namesOf l) (w .at) (min (w .depth) deepest) (w .ends)
+  unfolding walkStep stepFault
+  steps-on z h = simp (eq-eqb (w .refusal) 0 z, eq-eqb (namesFault l) 0 h)

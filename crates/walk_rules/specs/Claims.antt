@@ -1,13 +1,19 @@
--- What document 01 says of the two walks together, and that an answer tells what was handed out, as claims: the proofs are in proofs/Proved.antt.
+-- What document 01 says of the two walks together and of the items that they come to, and that an answer tells what was handed out, as claims:
+-- the proofs are in proofs/Proved.antt.
 use mathlib.Core.Bool.{cond}
 use mathlib.Core.List.{List, [], _∷_}
 use mathlib.Core.Path.{_≡_}
-use Prim.Native.Nat.{ℕ, zero, suc}
+use Prim.Native.Nat.{ℕ, zero, suc, _+_, _≤_}
 use lib.Dec.{eqb}
-use lib.ListN.{take, replicate}
+use lib.ListN.{length, take, drop, replicate}
+use Rattle.item_rules.specs.declared.Item.{Item}
+use Rattle.item_rules.specs.Item.{itemAt}
+use Rattle.item_rules.specs.Run.{Run, item, padding, refused, nextOf, runOf, faultsOf}
+use Rattle.walk_rules.specs.declared.Visit.{Visit}
 use Rattle.walk_rules.specs.declared.Handed.{Handed}
 use Rattle.walk_rules.specs.declared.Handed.the-variants as handed
 use Rattle.walk_rules.specs.declared.Walker.{Walker}
+use Rattle.walk_rules.specs.Names.{deepest}
 use Rattle.walk_rules.specs.Walk.{Tour, visit, ends, stops, refusal, walkOf}
 use Rattle.walk_rules.specs.Step.{handedNumber, opens, walkStep}
 
@@ -33,3 +39,60 @@ InOrder = (s l : List ℕ) (n : ℕ) → handsOut n s l (opens s l) ≡ due n (w
 -- no second answer fits: document 01's number and values tell what was handed out
 abbrev pub OneHanded : Type 0
 OneHanded = (a b : Handed) → handedNumber a ≡ handedNumber b → a ≡ b
+
+-- ---- what is handed out lies in the packet
+
+-- an item of the packet s at depth d: the one that the bytes of s spell from `at` on, whose head and value are bytes of s
+pub record Within (s : List ℕ) (d : ℕ) (i : Item) : Type 0 where
+  pub at : ℕ
+  pub spelt : i ≡ itemAt s at
+  pub inside : nextOf i ≤ length s
+  pub shallow : d ≤ deepest
+
+-- each item of a walk is so
+pub data Visits (P : ℕ → Item → Type 0) : Tour → Type 0 where
+  more : {d : ℕ} {i : Item} {t : Tour} → P d i → Visits P t → Visits P (visit d i t)
+  end : {p : ℕ} → Visits P (ends p)
+  stop : {n : ℕ} → Visits P (stops n)
+
+-- document 01, "a value is shown as a part of the caller's bytes": each item that a walk comes to, refused later or not, lies in the packet,
+abbrev pub WalkInside : Type 0
+WalkInside = (s l : List ℕ) → Visits (Within s) (walkOf s l)
+
+-- and each that a step hands out, whatever the walker is
+abbrev pub StepInside : Type 0
+StepInside = (s l : List ℕ) (w : Walker) (v : Visit) → walkStep s l w .handed ≡ handed.Item v → Within s (v .depth) (v .item)
+
+-- ---- no names
+
+-- the items of a run at depth 0, one after another, and how it ends
+unfoldable pub outerOf : Run → Tour
+outerOf (item i r) = visit 0 i (outerOf r)
+outerOf (padding p) = ends p
+outerOf (refused n) = stops n
+
+-- document 01, "A packet is a run of items": with no container names a walk is refused as a reader's check is, and is else the packet's run
+pub record Plain (s : List ℕ) : Type 0 where
+  pub number : refusal (walkOf s []) ≡ faultsOf [] (runOf s 0 (length s))
+  pub items : faultsOf [] (runOf s 0 (length s)) ≡ 0 → walkOf s [] ≡ outerOf (runOf s 0 (length s))
+
+-- so it is of every packet
+abbrev pub NoNames : Type 0
+NoNames = (s : List ℕ) → Plain s
+
+-- ---- "a container's value is again a packet"
+
+-- an item whose place is k bytes further on
+abbrev pub movedItem : ℕ → Item → Item
+movedItem k i = record { name = i .name; bits = i .bits; from = k + i .from; len = i .len }
+
+-- a run with each item's place so
+unfoldable pub movedRun : ℕ → Run → Run
+movedRun k (item i r) = item (movedItem k i) (movedRun k r)
+movedRun k (padding p) = padding p
+movedRun k (refused n) = refused n
+
+-- document 01: the items inside a container are those of its value read as a packet of its own, each with its place moved by the value's
+abbrev pub ValueAsPacket : Type 0
+ValueAsPacket = (s : List ℕ) (i : Item) → nextOf i ≤ length s
+    → (let v = take (i .len .0) (drop (i .from) s) in runOf s (i .from) (nextOf i) ≡ movedRun (i .from) (runOf v 0 (length v)))

@@ -8,12 +8,12 @@ use Rattle.base_rules.specs.Answer.{Answer, granted, refused}
 use Rattle.base_rules.specs.Tests.{among}
 use Rattle.item_rules.specs.declared.Item.{Item}
 use Rattle.item_rules.specs.Item.{stepIn, valuesOf}
-use Rattle.item_rules.specs.Run.{nextOf, onStep}
+use Rattle.item_rules.specs.Run.{nextOf, onStep, orElse}
 use Rattle.walk_rules.specs.declared.Handed.{Handed}
 use Rattle.walk_rules.specs.declared.Handed.the-variants as handed
 use Rattle.walk_rules.specs.declared.Walker.{Walker}
 use Rattle.walk_rules.specs.declared.Walked.{Walked}
-use Rattle.walk_rules.specs.Names.{deepest, namesOf}
+use Rattle.walk_rules.specs.Names.{deepest, namesOf, namesFault}
 use Rattle.walk_rules.specs.Walk.{refusal, walkOf}
 
 -- document 01's number and values for each case: an item has its depth first
@@ -50,9 +50,13 @@ stepFrom s cs at (suc d) ends =
     (λ p. stepFrom s cs (endOf s ends (suc d)) d ends)
     (λ n. record { handed = handed.Refused n; next = record { refusal = 0; at = at; depth = suc d; ends = ends } })
 
--- a step: a walk that was refused answers its number and stays
+-- the number with which a step is refused wherever it stands: its walk's own; else, document 01, "Walks check the container list first"
+unfoldable pub stepFault : List ℕ → Walker → ℕ
+stepFault l w = orElse (w .refusal) (namesFault l)
+
+-- a step: where it is refused so, it answers the number and stays
 unfoldable pub walkStep : List ℕ → List ℕ → Walker → Walked
 walkStep s l w =
-    cond (eqb (w .refusal) 0)
+    cond (eqb (stepFault l w) 0)
     (stepFrom s (namesOf l) (w .at) (min (w .depth) deepest) (w .ends))
-    (record { handed = handed.Refused (w .refusal); next = w })
+    (record { handed = handed.Refused (stepFault l w); next = w })

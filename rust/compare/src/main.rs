@@ -100,7 +100,7 @@ fn timed(kind: &str, work: impl FnOnce()) {
 fn walks(seed: u64) -> [Tally; 2] {
     let mut rng = Rng::new(seed, WALK);
     let mut opened = Tally::new(WALK, &[0, 1, 30, 31, 32, 33, 35, 43]);
-    let mut stepped = Tally::new("walk_step", &[0, 1, 30]);
+    let mut stepped = Tally::new("walk_step", &[0, 1, 30, 43]);
     timed(WALK, || (0..CALLS).for_each(|_| walk::walk(&mut rng, &mut opened, &mut stepped)));
     [opened, stepped]
 }

@@ -115,7 +115,7 @@ fn one_step(
     let (before, mut walker, mut expected_walker) = (rng.room(22), stands.bytes(), stands);
     let mut after = before.clone();
     let number = raw::walk_step(packet, list, &mut walker, &mut after);
-    let expected = expected_walker.step(packet, &names_of(list));
+    let expected = expected_walker.step(packet, list);
 
     let mut judge = Judge::default();
     judge.same("number", number, number_of(&expected));

@@ -2,7 +2,9 @@
 //! depths end, eight bytes each. A walker that no call left has its depth taken as 4 at most and
 //! its ends cut at the packet's end; at the end of an inner packet a walk goes on behind it.
 
-use reference::tag::{bytes_of, Name};
+use std::collections::HashSet;
+
+use reference::tag::{bytes_of, containers, Name};
 use reference::{big_endian, number, Answer};
 
 use crate::rng::Rng;
@@ -44,14 +46,16 @@ impl Walker {
         figures.flat_map(|figure| (figure as u64).to_be_bytes()).collect()
     }
 
-    /// A step: what it tells, 22 bytes, and where the walk stands then; 30 leaves it.
-    pub fn step(&mut self, packet: &[u8], containers: &[Name]) -> Answer<Vec<u8>> {
+    /// A step: what it tells, 22 bytes, and where the walk stands then. A list of names that
+    /// opening refuses is 43; 43 and 30 leave the walk.
+    pub fn step(&mut self, packet: &[u8], list: &[u8]) -> Answer<Vec<u8>> {
+        let containers = containers(list)?;
         let (mut at, mut depth) = (self.at, self.depth.min(LEVELS - 1));
         loop {
             let end = self.ends[depth].min(packet.len());
             let left = end.saturating_sub(at);
             if left >= HEAD {
-                return self.item(&packet[at..end], at, depth, containers);
+                return self.item(&packet[at..end], at, depth, &containers);
             }
             if depth == 0 {
                 (self.at, self.depth) = (at, depth);
@@ -67,7 +71,7 @@ impl Walker {
         left: &[u8],
         at: usize,
         depth: usize,
-        containers: &[Name],
+        containers: &HashSet<Name>,
     ) -> Answer<Vec<u8>> {
         let (from, length) = (at + HEAD, bytes_of(big_endian(&left[4..HEAD])));
         if length > left.len() - HEAD {

@@ -90,7 +90,7 @@ pub fn find<'a>(name: Name, packet: &'a [u8], standing: &'a [u8]) -> Answer<Foun
 }
 
 /// The names in a list of containers, four bytes a name; over 8 of them or bytes left over are 43.
-fn containers(list: &[u8]) -> Answer<HashSet<Name>> {
+pub fn containers(list: &[u8]) -> Answer<HashSet<Name>> {
     let names = list.chunks_exact(4);
     let left_over = !names.remainder().is_empty();
     refuse(left_over || names.len() > MOST_CONTAINERS, number::BITS)?;

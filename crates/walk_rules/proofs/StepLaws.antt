@@ -1,8 +1,10 @@
 -- A step of a walk, by what stands where it comes to: once for all that is said of steps. Assumes nothing.
 use mathlib.Core.Path.{_≡_, refl, sym, subst}
 use mathlib.Core.List.{List}
-use Prim.Native.Nat.{ℕ, zero, suc, _≤_}
+use mathlib.Core.Bool.{Bool, true, false, cond}
+use Prim.Native.Nat.{ℕ, zero, suc, _≤_, min}
 use native.Mathlib.Omega.{arith}
+use lib.Dec.{eqb}
 use lib.ListN.{length}
 use Rattle.item_rules.specs.declared.Bytes.{Bytes}
 use Rattle.item_rules.specs.declared.Item.{Item}
@@ -12,10 +14,12 @@ use Rattle.item_rules.specs.Item.{stepIn}
 use Rattle.item_rules.specs.Run.{nextOf}
 use Rattle.item_rules.proofs.Steps.{item-fits}
 use Rattle.item_rules.proofs.Runs.{item-begins}
 use Rattle.walk_rules.specs.declared.Handed.the-variants as handed
 use Rattle.walk_rules.specs.declared.Walked.{Walked}
-use Rattle.walk_rules.specs.Step.{goesOn, endOf, stepFrom}
+use Rattle.walk_rules.specs.declared.Walker.{Walker}
+use Rattle.walk_rules.specs.Names.{deepest, namesOf}
+use Rattle.walk_rules.specs.Step.{goesOn, endOf, stepFrom, stepFault, walkStep}
 use Rattle.walk_rules.proofs.StepCases.{step-item, step-end, step-refused}
 
 -- the end of a packet is within the whole one, and so is an item
 module _ (s ends : List ℕ) where
@@ -58,3 +62,15 @@ module _ (s cs ends : List ℕ) (P : Walked → Type 0) (Q : ℕ → ℕ → Typ
   pub by-steps : (d at : ℕ) → Q at d → P (stepFrom s cs at d ends)
   by-steps zero at q = outer at q (stepIn s at (endOf s ends 0)) refl
   by-steps (suc d) at q = inner at d q (stepIn s at (endOf s ends (suc d))) refl (by-steps d (endOf s ends (suc d)) (above at d q))
+
+-- what holds of the step from where a walker stands, and of a refusal that leaves the walker, holds of the walker's step
+pub by-walker : (P : Walked → Type 0) (s l : List ℕ) (w : Walker) → P (stepFrom s (namesOf l) (w .at) (min (w .depth) deepest) (w .ends))
+    → ((n : ℕ) → P (record { handed = handed.Refused n; next = w }))
+    → P (walkStep s l w)
+unfolding walkStep
+by-walker P s l w on stay = go (eqb (stepFault l w) 0)
+  where
+    go : (b : Bool) → P (cond b (stepFrom s (namesOf l) (w .at) (min (w .depth) deepest) (w .ends))
+        (record { handed = handed.Refused (stepFault l w); next = w }))
+    go true = on
+    go false = stay (stepFault l w)
