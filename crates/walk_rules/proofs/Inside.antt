@@ -40,7 +40,7 @@ module _ (s : List ℕ) where
 
   -- each item of a run stands in s
   pub data Items : Run → Type 0 where
-    more-items : {i : Item} {r : Run} → ((d : ℕ) → d ≤ deepest → Within s d i) → Items r → Items (item i r)
+    more-items : {i : Item} {r : Run} → Within s 0 i → Items r → Items (item i r)
     no-items : {p : ℕ} → Items (padding p)
     bad-item : {n : ℕ} → Items (refused n)
 
@@ -51,11 +51,12 @@ module _ (s : List ℕ) where
     where
       go : ((j : ℕ) → Items (runIn n s j b)) → (t : Step) → stepIn s at b ≡ t
           → Items (onStep t (λ i. item i (runIn n s (nextOf i) b)) padding refused)
-      go behind (step.Item i) e = more-items (λ d k. stands at b d i h k e) (behind (nextOf i))
+      go behind (step.Item i) e = more-items (stands at b 0 i h (omega arith) e) (behind (nextOf i))
       go behind (step.End p) e = no-items
       go behind (step.Refused m) e = bad-item
 
-  run-items : (at b : ℕ) → b ≤ length s → Items (runOf s at b)
+  -- each item of a run that ends within s is one of s
+  pub run-items : (at b : ℕ) → b ≤ length s → Items (runOf s at b)
   unfolding runOf
   run-items at b h = items-in _ at b h
 
@@ -82,8 +83,8 @@ module _ (s : List ℕ) where
     unfolding tourBy
     visits-by seen (item i r) (more-items p v) =
         visits-unless (walkFault cs d (among (i .name) seen) i) _ (λ z.
-        let w = p d (not-too-deep cs d (among (i .name) seen) i z) in
-        more w (visits-then _ _ (contents (among (i .name) cs) i (w .inside)) (visits-by (i .name ∷ seen) r v)))
+        let shallow = not-too-deep cs d (among (i .name) seen) i z in
+        more (record { at = p .at; spelt = p .spelt; inside = p .inside; shallow = shallow }) (visits-then _ _ (contents (among (i .name) cs) i (p .inside)) (visits-by (i .name ∷ seen) r v)))
     visits-by seen (padding p) v = end
     visits-by seen (refused n) v = stop
 

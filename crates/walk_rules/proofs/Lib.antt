@@ -10,4 +10,5 @@ pub mod HandedNumbers
 pub mod Inside
 pub mod NoContainers
 pub mod Values
+pub mod ValueWalks
 pub mod Proved

@@ -1,5 +1,5 @@
 -- With no container names a walk is the packet's run, and is refused as the packet's check is. Assumes nothing.
-use Prim.Native.Nat.{ℕ, zero, suc, _+_}
+use Prim.Native.Nat.{ℕ}
 use mathlib.Core.List.{List, [], _∷_}
 use mathlib.Core.Path.{_≡_, refl, sym, ap, _∙_}
 use mathlib.Core.Bool.{Bool, true, false, cond}
@@ -11,8 +11,8 @@ use Rattle.base_rules.specs.Tests.{first, among}
 use Rattle.item_rules.specs.declared.Item.{Item}
 use Rattle.item_rules.specs.Run.{Run, item, padding, refused, nextOf, runOf, faultOf, orElse, faultsOf}
 use Rattle.walk_rules.specs.Names.{deepest, namesOf, namesFault}
-use Rattle.walk_rules.specs.Walk.{Tour, visit, ends, stops, unless, andThen, walkFault, tourBy, tourAt, refusal, walkOf}
-use Rattle.walk_rules.specs.Claims.{outerOf, Plain, NoNames}
+use Rattle.walk_rules.specs.Walk.{Tour, visit, andThen, walkFault, tourBy, tourAt, refusal, walkOf}
+use Rattle.walk_rules.specs.Claims.{outerOf, NoNames}
 use Rattle.walk_rules.proofs.Refusals.{unless-refusal}
 use Rattle.walk_rules.proofs.PlainWalks.{or-left, or-right}
 

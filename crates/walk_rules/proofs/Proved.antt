@@ -1,10 +1,11 @@
 -- The claims of specs/Claims.antt, each by citation.
-use Rattle.walk_rules.specs.Claims.{InOrder, OneHanded, WalkInside, StepInside, NoNames, ValueAsPacket}
+use Rattle.walk_rules.specs.Claims.{InOrder, OneHanded, WalkInside, StepInside, NoNames, ValueAsPacket, ValueWalked}
 use Rattle.walk_rules.proofs.Order.{ordered}
 use Rattle.walk_rules.proofs.HandedNumbers.{number-tells}
 use Rattle.walk_rules.proofs.Inside as inside
 use Rattle.walk_rules.proofs.NoContainers as without
 use Rattle.walk_rules.proofs.Values as values
+use Rattle.walk_rules.proofs.ValueWalks as walks
 
 -- the step walk hands out what the recursive walk does: its items in order and its end, or its refusal
 pub in-order : InOrder
@@ -25,6 +26,10 @@ step-inside = inside.step-inside
 pub no-names : NoNames
 no-names = without.no-names
 
--- the items inside a container are those of its value read as a packet of its own, each with its place moved
+-- the items inside a container are those of its value read as a packet of its own, each with its place moved,
 pub value-as-packet : ValueAsPacket
 value-as-packet = values.value-as-packet
+
+-- and so it is of all that the containers among them hold
+pub value-walked : ValueWalked
+value-walked = walks.value-walked

@@ -1,5 +1,5 @@
 -- A part of the bytes read as a packet of its own: the same steps and the same run, with each place moved. Assumes nothing.
-use Prim.Native.Nat.{ℕ, zero, suc, _+_, _-_, _≤_, _<_}
+use Prim.Native.Nat.{ℕ, zero, suc, _+_, _-_, _≤_}
 use mathlib.Core.List.{List}
 use mathlib.Core.Path.{_≡_, refl, sym, ap, _∙_}
 use mathlib.Core.Bool.{Bool, true, false, cond}
@@ -15,7 +15,7 @@ use Rattle.item_rules.specs.declared.Item.{Item}
 use Rattle.item_rules.specs.declared.Step.{Step}
 use Rattle.item_rules.specs.declared.Step.the-variants as step
 use Rattle.item_rules.specs.Item.{head, bytesFor, itemAt, stepIn}
-use Rattle.item_rules.specs.Run.{Run, item, padding, refused, nextOf, onStep, runIn, runOf}
+use Rattle.item_rules.specs.Run.{item, padding, refused, nextOf, onStep, runIn, runOf}
 use Rattle.walk_rules.specs.Claims.{movedItem, movedRun, ValueAsPacket}
 
 -- a step by what it reads: the bytes left, the name, the bits, and where the value begins
@@ -58,7 +58,7 @@ step-from k left name bits from = go (ltb left head) (leb (head + bytesFor bits)
 
 -- the n bytes of s from k on
 module _ (s : List ℕ) (k n : ℕ) where
-  abbrev part : List ℕ
+  abbrev pub part : List ℕ
   part = take n (drop k s)
 
   -- a number in the part is the one that stands k bytes further on in s

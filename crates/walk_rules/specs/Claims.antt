@@ -14,7 +14,7 @@ use Rattle.walk_rules.specs.declared.Handed.{Handed}
 use Rattle.walk_rules.specs.declared.Handed.the-variants as handed
 use Rattle.walk_rules.specs.declared.Walker.{Walker}
 use Rattle.walk_rules.specs.Names.{deepest}
-use Rattle.walk_rules.specs.Walk.{Tour, visit, ends, stops, refusal, walkOf}
+use Rattle.walk_rules.specs.Walk.{Tour, visit, ends, stops, tourAt, refusal, walkOf}
 use Rattle.walk_rules.specs.Step.{handedNumber, opens, walkStep}
 
 -- what n steps from w hand out
@@ -92,7 +92,19 @@ movedRun k (item i r) = item (movedItem k i) (movedRun k r)
 movedRun k (padding p) = padding p
 movedRun k (refused n) = refused n
 
--- document 01: the items inside a container are those of its value read as a packet of its own, each with its place moved by the value's
+-- and a walk so
+unfoldable pub movedTour : ℕ → Tour → Tour
+movedTour k (visit d i t) = visit d (movedItem k i) (movedTour k t)
+movedTour k (ends p) = ends p
+movedTour k (stops n) = stops n
+
+-- document 01: the items inside a container are those of its value read as a packet of its own, each with its place moved by the value's,
 abbrev pub ValueAsPacket : Type 0
 ValueAsPacket = (s : List ℕ) (i : Item) → nextOf i ≤ length s
     → (let v = take (i .len .0) (drop (i .from) s) in runOf s (i .from) (nextOf i) ≡ movedRun (i .from) (runOf v 0 (length v)))
+
+-- and so it is of all that the containers among them hold: the walk inside is the value's own
+abbrev pub ValueWalked : Type 0
+ValueWalked = (s cs : List ℕ) (levels d : ℕ) (i : Item) → nextOf i ≤ length s
+    → (let v = take (i .len .0) (drop (i .from) s) in
+    tourAt levels s cs d [] (runOf s (i .from) (nextOf i)) ≡ movedTour (i .from) (tourAt levels v cs d [] (runOf v 0 (length v))))
