@@ -8,7 +8,8 @@ use base::LEAST_L;
 pub use checking::check;
 pub use wrapping::wrap;
 ghost use mathlib.Core.Path.{_≡_};
-ghost use Rattle.af_rules.specs.Packet.{payloadOf, crcFor};
+ghost use denote.Ref.{ptr};
+ghost use Rattle.af_rules.specs.Packet.{payloadOf, payloadPlace, crcFor};
 
 // The bytes before the payload, and those of the CRC behind it.
 const HEADER: usize = 10;
@@ -31,7 +32,7 @@ fn crc_for(cf: bool, covered: &[u8]) -> u16
 
 // The bytes of the packet between header and CRC, checked or not; none where it is shorter than both.
 pub fn payload(packet: &[u8]) -> &[u8]
-    ensures { λ r. ⌜ now r ≡ payloadOf (now (packet .entry)) ⌝ }
+    ensures { λ r. ⌜ (now r ≡ payloadOf (now (packet .entry))) × (ptr r ≡ payloadPlace (packet .entry)) ⌝ }
 {
     if packet.len() < LEAST_L {
         return &packet[..0];

@@ -2,8 +2,9 @@
 use mathlib.Core.Bool.{Bool, cond}
 use mathlib.Core.List.{List, _++_}
 use Prim.Native.Nat.{ℕ, _+_, _-_, _*_, _/_, _%_}
-use lib.Dec.{eqb}
+use lib.Dec.{eqb, ltb}
 use lib.ListN.{length, take, drop}
+use denote.Ref.{RefT, ptr, now}
 use Rattle.base_rules.specs.Bounds.{least-l, most-l}
 use Rattle.base_rules.specs.Bytes.{numberAt, bytesOf}
 use Rattle.base_rules.specs.Tests.{bit}
@@ -74,6 +75,10 @@ minorOf s = arOf s % 16
 -- clause 6.1: between header and CRC; nothing where the packet is shorter than both
 unfoldable pub payloadOf : List ℕ → List ℕ
 payloadOf s = take (length s - least-l) (drop headerBytes s)
+
+-- clause 6.1: where the payload begins in the lent packet p, in its block behind the header; the empty part of a shorter packet, at its start
+unfoldable pub payloadPlace : RefT (List ℕ) → ℕ × ℕ
+payloadPlace p = cond (ltb (length (now p)) least-l) (ptr p) (ptr p .0, headerBytes + ptr p .1)
 
 -- clause 6.1: header and payload, which the CRC covers
 unfoldable pub coveredOf : List ℕ → List ℕ

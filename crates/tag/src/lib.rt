@@ -7,8 +7,9 @@ pub use tag_rules::Opened;
 pub use tag_rules::Sought;
 ghost use mathlib.Core.Path.{_≡_};
 ghost use mathlib.Core.List.{[], _∷_};
+ghost use denote.Ref.{ptr};
 ghost use Rattle.base_rules.specs.Answer.{granted};
-ghost use Rattle.tag_rules.specs.Find.{checkOf, locateOf, valueOf, shownBy};
+ghost use Rattle.tag_rules.specs.Find.{checkOf, locateOf, valueOf, shownBy, valuePlace, placeBy};
 ghost use Rattle.tag_rules.specs.Calls.{openedNumber, openCall, readOf, afterOf, soughtNumber, searchCall};
 
 // The number of the leftmost item at fault of a whole packet, or 0. A name whose slot has no mark has not stood before, so that few names are
@@ -102,10 +103,10 @@ pub fn locate(packet: &[u8], standing: &[u8], name: u32) -> Located
 
 // The value of an item, as a part of the packet that it stands in. What passes the end of the packet is left out.
 pub fn value(packet: &[u8], i: Item) -> &[u8]
-    ensures { λ r. ⌜ now r ≡ valueOf (now (packet .entry)) i ⌝ }
+    ensures { λ r. ⌜ (now r ≡ valueOf (now (packet .entry)) i) × (ptr r ≡ valuePlace (packet .entry) i) ⌝ }
 {
     let from = i.from;
-    if packet.len() <= from {
+    if packet.len() < from {
         return &packet[..0];
     }
     if packet.len() - from < i.len.0 {
@@ -137,7 +138,8 @@ pub fn search(packet: &[u8], standing: &[u8], name: u32) -> Sought
 
 // The value of the item that `search` finds, as a part of the packet or of the standing packet; empty where the search is refused.
 pub fn find<'a>(packet: &'a [u8], standing: &'a [u8], name: u32) -> &'a [u8]
-    ensures { λ r. ⌜ now r ≡ shownBy (now (packet .entry)) (now (standing .entry)) (locateOf (now (packet .entry)) (now (standing .entry)) name) ⌝ }
+    ensures { λ r. ⌜ (now r ≡ shownBy (now (packet .entry)) (now (standing .entry)) (locateOf (now (packet .entry)) (now (standing .entry)) name))
+        × (ptr r ≡ placeBy (packet .entry) (standing .entry) (locateOf (now (packet .entry)) (now (standing .entry)) name)) ⌝ }
 {
     let l = locate(packet, standing, name);
     match l {

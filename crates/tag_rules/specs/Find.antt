@@ -1,9 +1,10 @@
 -- A packet checked whole, and finding by name in a packet and in a standing packet beside it (document 01, "TAG layer").
 use mathlib.Core.Bool.{cond}
 use mathlib.Core.List.{List, []}
-use Prim.Native.Nat.{ℕ}
-use lib.Dec.{eqb}
+use Prim.Native.Nat.{ℕ, _+_}
+use lib.Dec.{eqb, ltb}
 use lib.ListN.{length, take, drop}
+use denote.Ref.{RefT, ptr, now}
 use Rattle.item_rules.specs.declared.Item.{Item}
 use Rattle.item_rules.specs.declared.Found.{Found}
 use Rattle.item_rules.specs.declared.Found.the-variants as found
@@ -45,3 +46,17 @@ abbrev pub shownBy : List ℕ → List ℕ → Located → List ℕ
 shownBy s t (located.Packet i) = valueOf s i
 shownBy s t (located.Standing i) = valueOf t i
 shownBy s t (located.Refused n) = []
+
+-- document 01: "as a part of the caller's bytes, never a copy": where the value begins in the lent packet p, in its block behind what stands before
+abbrev pub beginsIn : RefT (List ℕ) → Item → ℕ × ℕ
+beginsIn p i = (ptr p .0, i .from + ptr p .1)
+
+-- where the value of any item is shown: of one that would begin past the end, an empty part at the packet's start
+unfoldable pub valuePlace : RefT (List ℕ) → Item → ℕ × ℕ
+valuePlace p i = cond (ltb (length (now p)) (i .from)) (ptr p) (beginsIn p i)
+
+-- document 01: "the part shown belongs to the first that holds the name": where it begins; the empty part of a refused search, at the packet's start
+abbrev pub placeBy : RefT (List ℕ) → RefT (List ℕ) → Located → ℕ × ℕ
+placeBy p t (located.Packet i) = beginsIn p i
+placeBy p t (located.Standing i) = beginsIn t i
+placeBy p t (located.Refused n) = ptr p

@@ -14,7 +14,7 @@ returns-2 : tie.Need-returns-2
 returns-2 c =
     let known = c .before .before .before .before .before .before in
     let text = packet-passes _ _ (known .before .before .check .ensures) _ _ (known .checked2 .given .1)
-    (c .before .before .before .before .payload .ensures) in
+    (c .before .before .before .before .payload .ensures .0) in
     lays-same _ _ text (c .before .before .list-payload .ensures)
 
 check-requires : tie.Need-check-requires

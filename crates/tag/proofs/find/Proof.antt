@@ -1,7 +1,10 @@
 -- `tag::find` meets its contract.
 use borrow.Author.Needs.{needs}
 use mathlib.Core.Path.{sym, ap, _∙_}
-use Rattle.tag_rules.specs.Find.{shownBy}
+use native.Mathlib.Omega.{arith}
+use Rattle.tag_rules.specs.Find.{shownBy, placeBy}
+use Rattle.tag_rules.proofs.Inside.{found-in}
+use Rattle.tag_rules.proofs.Values.{place-inside}
 use Rattle.tag.proofs.find.Statement.{statement}
 use Rattle.tag.proofs.find.Tie as tie
 use Rattle.tag.proofs.find.Reads as reads
@@ -15,15 +18,21 @@ enum-told c = search needs
 returns : tie.Need-returns
 returns c =
     let k = c .before .before in
-    c .value .ensures ∙ sym (ap (shownBy _ _) (sym (k .before .before .locate .ensures) ∙ k .l .given .1))
+    let e = sym (k .l .given .1) ∙ k .before .before .locate .ensures in
+    let inside = found-in _ _ _ _ .0 (sym e) .inside in
+    (c .value .ensures .0 ∙ ap (shownBy _ _) e, c .value .ensures .1 ∙ sym (place-inside _ _ (omega arith)) ∙ ap (placeBy _ _) e)
 
 returns-2 : tie.Need-returns-2
 returns-2 c =
     let k = c .before .before in
-    c .value2 .ensures ∙ sym (ap (shownBy _ _) (sym (k .before .before .locate .ensures) ∙ k .l2 .given .1))
+    let e = sym (k .l2 .given .1) ∙ k .before .before .locate .ensures in
+    let inside = found-in _ _ _ _ .1 (sym e) .inside in
+    (c .value2 .ensures .0 ∙ ap (shownBy _ _) e, c .value2 .ensures .1 ∙ sym (place-inside _ _ (omega arith)) ∙ ap (placeBy _ _) e)
 
 returns-3 : tie.Need-returns-3
-returns-3 c = sym (ap (shownBy _ _) (sym (c .before .before .before .locate .ensures) ∙ c .before .enum-told .given .1))
+returns-3 c =
+    let e = sym (c .before .enum-told .given .1) ∙ c .before .before .before .locate .ensures in
+    (ap (shownBy _ _) e, ap (placeBy _ _) e)
 
 locate-requires : tie.Need-locate-requires
 locate-requires c κs = search needs

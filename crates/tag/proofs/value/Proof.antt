@@ -1,19 +1,20 @@
 -- `tag::value` meets its contract.
 use borrow.Author.Needs.{needs}
-use Rattle.tag_rules.proofs.Values.{value-none, value-cut, value-whole}
+use native.Mathlib.Omega.{arith}
+use Rattle.tag_rules.proofs.Values.{value-none, value-cut, value-whole, place-none, place-inside}
 use Rattle.tag.proofs.value.Statement.{statement}
 use Rattle.tag.proofs.value.Tie as tie
 use Rattle.tag.proofs.value.Reads as reads
 use Rattle.tag.proofs.value.Lts as lts
 
 returns : tie.Need-returns
-returns c = value-none _ _ (c .before .if1 .taken)
+returns c = (value-none _ _ (omega (arith, c .before .if1 .taken)), place-none _ _ (c .before .if1 .taken))
 
 returns-2 : tie.Need-returns-2
-returns-2 c = value-cut _ _ (c .before .if2 .taken)
+returns-2 c = (value-cut _ _ (c .before .if2 .taken), place-inside _ _ (omega arith))
 
 returns-3 : tie.Need-returns-3
-returns-3 c = value-whole _ _
+returns-3 c = (value-whole _ _, place-inside _ _ (omega arith))
 
 slice-aggregate-result : tie.Need-slice-aggregate-result
 slice-aggregate-result c = search needs
