@@ -116,11 +116,11 @@ fn make_and_write(
 fn write_items(out: &mut [u8], packet: &[u8]) -> usize
     ensures { λ r. ⌜ Wrote (now (out .entry)) 0 r (now (out .exit)) ⌝ }
 {
-    let opened = tag::open_reader(packet);
-    match opened {
-        tag::Opened::At(from) => write_from(out, packet, from),
-        tag::Opened::Refused(by) => replies::refused(out, by),
-    }
+    let first = reader::first(packet);
+    let item::Step::Refused(by) = first else {
+        return write_steps(out, packet);
+    };
+    replies::refused(out, by)
 }
 
 // The items of a walk, or the refusal.
@@ -141,20 +141,20 @@ fn turns(packet: &[u8]) -> usize {
     packet.len() / item::HEAD + 1
 }
 
-// The items of a packet from a place on, and its padding.
-fn write_from(out: &mut [u8], packet: &[u8], from: usize) -> usize
+// The items of a packet that is not refused, as a reader steps over it, and its padding.
+fn write_steps(out: &mut [u8], packet: &[u8]) -> usize
     ensures { λ r. ⌜ Wrote (now (out .entry)) 0 r (now (out .exit)) ⌝ }
 {
     let mut to = replies::word(out, b"items");
-    let mut at = from;
+    let mut at = 0;
     let mut left = turns(packet);
     while left > 0 {
-        let step = tag::read_at(packet, at, 0);
+        let step = reader::step_at(packet, at, 0);
         let item::Step::Item(i) = step else {
             return write_end(out, to, step);
         };
         to = write_item(out, to, packet, i);
-        at = tag::read_after(packet, at, 0);
+        at = reader::place_after(packet, at, 0);
         left -= 1;
     }
     to

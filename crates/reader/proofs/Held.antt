@@ -10,7 +10,7 @@ use base.Fml.{Lft, Share, Fml, ftrue, flft}
 use prog.Wp.{Heap}
 use ghost.Atoms.{Atoms, sem}
 use contract.Lifetimes.{Lfts}
-use types.Kit.{Given, ‵, _⊛_, given, ⋆, _$_, _∵_, !, qed, move, drop, use1, split, join, learn, fsplit, frame, done}
+use types.Kit.{Given, ‵, _⊛_, given, ⋆, _$_, _∵_, !, qed, move, drop, use1, split, join, learn, fsplit, fjoin, frame, done}
 use denote.RattleType.{RattleType, owns}
 use denote.Builtin.{u8, usize}
 use denote.Signature.{namedLft}
@@ -18,7 +18,7 @@ use denote.Slice.{sliceVal, ShrSlice}
 use denote.Steps.{nothing}
 use denote.Struct.Declared.{Declared}
 use denote.Struct.Laws as LL
-use denote.Struct.Rest.{all-own, own-open}
+use denote.Struct.Rest.{all-own, own-open, own-shut}
 use denote.Struct.Values.{Values}
 use Rattle.reader.specs.declared.Reader.{Reader}
 use Rattle.reader.proofs.Reader as T
@@ -69,3 +69,23 @@ module _ {M : Type 1} (𝓤 : URA M) (H : Heap 𝓤) (A : Atoms 𝓤) (W : Given
       (own-open 𝓤 H A W (shape (κ, tt)) (laws (κ, tt)) (fields κ d) (T′.lowered d)) $
       -- [what the fields own; what the reader owns; the token]
       learn ! (λ _. move ! (2 ∷ 0 ∷ []) $ join ! $ nothing ! $ move ! (1 ∷ 0 ∷ []) $ join ! $ frame ! $ done !)
+
+  -- what the three fields own
+  abbrev pub OwnFields : Fml
+  OwnFields = owns (ShrSlice (named 0) κ u8 ∷ usize ∷ u8 ∷ []) (fields κ d) (spelt d)
+
+  -- a function that is passed the three fields makes a reader of them, calls one that is passed a reader and asks nothing else, and still has it
+  pub together : ent 𝓤 WithFields (sep 𝓤 (sep 𝓤 With (emp 𝓤)) (sem 𝓤 H A (Own κ d)))
+  together =
+      qed W ((‵ (flft κ q) ⊛ ‵ ftrue) ∷ ‵ OwnFields ∷ []) ∵
+      move ! (1 ∷ []) $ use1 W (‵ (Own κ d)) (own-shut 𝓤 H A W (shape (κ, tt)) (laws (κ, tt)) (fields κ d)) $
+      use1 W (‵ (Own κ d) ⊛ ‵ (Own κ d)) twice $ split ! $ nothing ! $ move ! (1 ∷ 0 ∷ []) $ fjoin ! $
+      -- [the reader passed on; the reader; the token]
+      move ! (2 ∷ 0 ∷ []) $ join ! $ nothing ! $ move ! (1 ∷ 0 ∷ []) $ join ! $ frame ! $ done !
+
+  -- what it has at its end is what it was passed
+  pub fields-back : ent 𝓤 (sem 𝓤 H A (Own κ d)) (sem 𝓤 H A OwnFields)
+  fields-back =
+      qed W (‵ (Own κ d) ∷ []) ∵
+      use1 W (given (T′.lowered d ∷ [] ≡ T′.lowered d ∷ []) (‵ (all-own (shape (κ, tt) .parts) (laws (κ, tt)) (fields κ d))))
+      (own-open 𝓤 H A W (shape (κ, tt)) (laws (κ, tt)) (fields κ d) (T′.lowered d)) $ learn ! (λ _. done !)

@@ -1,10 +1,10 @@
 // A reader over one TAG packet, as a struct. The borrow checker covers no function over a struct that holds a slice, so each of these is thin: the
-// work is done by calls on the slice and the numbers, and `first` is for callers that hold no such struct.
+// work is done by calls on the slice and the numbers, and `first`, `step_at` and `place_after` are for callers that hold no such struct.
 use item::Step;
 use tag::Opened;
 ghost use mathlib.Core.Path.{_≡_};
 ghost use Rattle.tag_rules.specs.Find.{checkOf};
-ghost use Rattle.tag_rules.specs.Calls.{readOf};
+ghost use Rattle.tag_rules.specs.Calls.{readOf, afterOf};
 ghost use Rattle.reader.specs.Steps.{openedOn, stepOf, movedOf};
 
 // The packet, where the reader stands in it, and the number with which opening refused it, 0 for none.
@@ -59,4 +59,27 @@ pub fn first(packet: &[u8]) -> Step
     ensures { λ s. ⌜ s ≡ readOf (now (packet .entry)) 0 (checkOf (now (packet .entry))) ⌝ }
 {
     step(open(packet))
+}
+
+// What a reader that stands at `at` hands out, for callers that hold no reader.
+pub fn step_at(packet: &[u8], at: usize, refusal: u8) -> Step
+    ensures { λ s. ⌜ s ≡ readOf (now (packet .entry)) at refusal ⌝ }
+{
+    step(Reader {
+        packet,
+        at,
+        refusal,
+    })
+}
+
+// Where that reader stands then.
+pub fn place_after(packet: &[u8], at: usize, refusal: u8) -> usize
+    ensures { λ n. ⌜ n ≡ afterOf (now (packet .entry)) at refusal ⌝ }
+{
+    let r = moved(Reader {
+        packet,
+        at,
+        refusal,
+    });
+    r.at
 }

@@ -1,15 +1,15 @@
--- `items::write_from` meets its contract: at each turn the items so far stand behind the word. Its turns fall. Assumes nothing.
+-- `items::write_steps` meets its contract: at each turn the items so far stand behind the word. Its turns fall. Assumes nothing.
 use borrow.Author.Needs.{needs}
 use Rattle.text_rules.specs.Wrote.{Wrote}
 use Rattle.text_rules.proofs.Writing.{chain}
-use Rattle.console.proofs.items.write_from.Statement.{statement}
-use Rattle.console.proofs.items.write_from.Tie as tie
+use Rattle.console.proofs.items.write_steps.Statement.{statement}
+use Rattle.console.proofs.items.write_steps.Tie as tie
 
 abbrev Inv-loop : tie.InvT-loop
-Inv-loop out₀ packet from to₀ at₀ left₀ out to at left = Wrote out₀ to₀ to out
+Inv-loop out₀ packet to₀ at₀ left₀ out to at left = Wrote out₀ to₀ to out
 
 abbrev μ-loop : tie.MeasureT-loop
-μ-loop out₀ packet from to₀ at₀ left₀ out to at left = left
+μ-loop out₀ packet to₀ at₀ left₀ out to at left = left
 
 returns : tie.Need-returns Inv-loop μ-loop
 returns c =
@@ -37,8 +37,8 @@ turns-requires c κs = search needs
 loop-holds : tie.Need-loop-holds Inv-loop μ-loop
 loop-holds c = search needs
 
-read-at-requires : tie.Need-read-at-requires Inv-loop μ-loop
-read-at-requires c κs = search needs
+step-at-requires : tie.Need-step-at-requires Inv-loop μ-loop
+step-at-requires c κs = search needs
 
 enum-known-step : tie.Need-enum-known-step Inv-loop μ-loop
 enum-known-step c = search needs
@@ -52,8 +52,8 @@ same-length c = search needs
 write-item-requires : tie.Need-write-item-requires Inv-loop μ-loop
 write-item-requires c κs = search needs
 
-read-after-requires : tie.Need-read-after-requires Inv-loop μ-loop
-read-after-requires c κs = search needs
+place-after-requires : tie.Need-place-after-requires Inv-loop μ-loop
+place-after-requires c κs = search needs
 
 sub-left : tie.Need-sub-left Inv-loop μ-loop
 sub-left c = search needs
@@ -64,8 +64,8 @@ loop-less c = search needs
 same-length-2 : tie.Need-same-length-2 Inv-loop μ-loop
 same-length-2 c = search needs
 
-pub write-from-spec : {M : Type 1} → statement M
-write-from-spec =
+pub write-steps-spec : {M : Type 1} → statement M
+write-steps-spec =
     tie.close
     (tie.spec
     Inv-loop
@@ -74,13 +74,13 @@ write-from-spec =
     word-requires
     turns-requires
     loop-holds
-    read-at-requires
+    step-at-requires
     enum-known-step
     write-end-requires
     same-length
     returns
     write-item-requires
-    read-after-requires
+    place-after-requires
     sub-left
     loop-less
     loop-again
