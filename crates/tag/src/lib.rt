@@ -9,7 +9,7 @@ ghost use mathlib.Core.Path.{_≡_};
 ghost use mathlib.Core.List.{[], _∷_};
 ghost use denote.Ref.{ptr};
 ghost use Rattle.base_rules.specs.Answer.{granted};
-ghost use Rattle.tag_rules.specs.Find.{checkOf, locateOf, valueOf, shownBy, valuePlace, placeBy};
+ghost use Rattle.tag_rules.specs.Find.{checkOf, locateOf, valueOf, valuePlace, PartShown};
 ghost use Rattle.tag_rules.specs.Calls.{openedNumber, openCall, readOf, afterOf, soughtNumber, searchCall};
 
 // The number of the leftmost item at fault of a whole packet, or 0. A name whose slot has no mark has not stood before, so that few names are
@@ -136,10 +136,9 @@ pub fn search(packet: &[u8], standing: &[u8], name: u32) -> Sought
     }
 }
 
-// The value of the item that `search` finds, as a part of the packet or of the standing packet; empty where the search is refused.
-pub fn find<'a>(packet: &'a [u8], standing: &'a [u8], name: u32) -> &'a [u8]
-    ensures { λ r. ⌜ (now r ≡ shownBy (now (packet .entry)) (now (standing .entry)) (locateOf (now (packet .entry)) (now (standing .entry)) name))
-        × (ptr r ≡ placeBy (packet .entry) (standing .entry) (locateOf (now (packet .entry)) (now (standing .entry)) name)) ⌝ }
+// What `find` shows, of two packets that are lent for one lifetime.
+fn shown<'a>(packet: &'a [u8], standing: &'a [u8], name: u32) -> &'a [u8]
+    ensures { λ r. ⌜ PartShown (packet .entry) (standing .entry) name r ⌝ }
 {
     let l = locate(packet, standing, name);
     match l {
@@ -147,4 +146,12 @@ pub fn find<'a>(packet: &'a [u8], standing: &'a [u8], name: u32) -> &'a [u8]
         Located::Standing(i) => value(standing, i),
         Located::Refused(_) => &packet[..0],
     }
+}
+
+// The value of the item that `search` finds, as a part of the packet or of the standing packet, each lent for a lifetime of its own; empty where the
+// search is refused. The borrow checker does not cover a part of either, so this is thin, and the work is done at the one lifetime of the part.
+pub fn find<'p: 'r, 's: 'r, 'r>(packet: &'p [u8], standing: &'s [u8], name: u32) -> &'r [u8]
+    ensures { λ r. ⌜ PartShown (packet .entry) (standing .entry) name r ⌝ }
+{
+    shown(packet, standing, name)
 }

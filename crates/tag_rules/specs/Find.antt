@@ -1,5 +1,6 @@
 -- A packet checked whole, and finding by name in a packet and in a standing packet beside it (document 01, "TAG layer").
 use mathlib.Core.Bool.{cond}
+use mathlib.Core.Path.{_≡_}
 use mathlib.Core.List.{List, []}
 use Prim.Native.Nat.{ℕ, _+_}
 use lib.Dec.{eqb, ltb}
@@ -60,3 +61,8 @@ abbrev pub placeBy : RefT (List ℕ) → RefT (List ℕ) → Located → ℕ × 
 placeBy p t (located.Packet i) = beginsIn p i
 placeBy p t (located.Standing i) = beginsIn t i
 placeBy p t (located.Refused n) = ptr p
+
+-- document 01: the part r that a search by name shows, its bytes and its place
+abbrev pub PartShown : RefT (List ℕ) → RefT (List ℕ) → ℕ → RefT (List ℕ) → Type 0
+PartShown p t name r =
+    (now r ≡ shownBy (now p) (now t) (locateOf (now p) (now t) name)) × (ptr r ≡ placeBy p t (locateOf (now p) (now t) name))

@@ -39,8 +39,8 @@ use Rattle.reader.specs.declared.Reader.{Reader}
 use Rattle.reader.specs.Steps.{openedOn, stepOf}
 use Rattle.reader.proofs.Reader as T
 use Rattle.reader.proofs.Reader.Laws as T′
-use Rattle.reader.proofs.Answers.{answers}
-use Rattle.reader.proofs.Lent.{lentVal, Own, With, again}
+use Rattle.tag.proofs.Answers.{answers}
+use Rattle.tag.proofs.Lent.{lentVal, Own, With, again}
 use Rattle.reader.proofs.Held.{Held}
 use Rattle.reader.proofs.open as opening
 use Rattle.reader.proofs.open.Symbol as open-def

@@ -40,7 +40,7 @@ use Rattle.tag.proofs.read_after.Symbol.{name as #tag·read-after}
 use Rattle.tag.proofs.read_after.Met as after-thm
 use Rattle.reader.specs.declared.Reader.{Reader}
 use Rattle.reader.proofs.Reader.Laws as T′
-use Rattle.reader.proofs.Answers.{answers}
+use Rattle.tag.proofs.Answers.{answers}
 use Rattle.reader.proofs.Held.{Held, shape, laws, Own, fields, spelt, With, apart, twice}
 use Rattle.reader.proofs.moved.Key.{name as #reader·moved}
 use Rattle.reader.proofs.moved as moved

@@ -39,8 +39,8 @@ use denote.Exit.{yes}
 use Rattle.tag_rules.specs.Find.{checkOf}
 use Rattle.reader.specs.declared.Reader.{Reader}
 use Rattle.reader.proofs.Reader.Laws as T′
-use Rattle.reader.proofs.Answers.{answers}
-use Rattle.reader.proofs.Lent.{lentVal, Own, With, again, twice}
+use Rattle.tag.proofs.Answers.{answers}
+use Rattle.tag.proofs.Lent.{lentVal, Own, With, again, twice}
 use Rattle.reader.proofs.Held.{shape, laws, fields}
 use Rattle.reader.proofs.refusal_of as refusal
 use Rattle.reader.proofs.refusal_of.Symbol as refusal-def

@@ -38,8 +38,8 @@ use Rattle.reader.specs.declared.Reader.{Reader}
 use Rattle.reader.specs.Steps.{movedOf}
 use Rattle.reader.proofs.Reader as T
 use Rattle.reader.proofs.Reader.Laws as T′
-use Rattle.reader.proofs.Answers.{answers}
-use Rattle.reader.proofs.Lent.{lentVal}
+use Rattle.tag.proofs.Answers.{answers}
+use Rattle.tag.proofs.Lent.{lentVal}
 use Rattle.reader.proofs.Held.{Held, shape, laws, Own, fields, spelt, OwnFields, WithFields, together, fields-back}
 use Rattle.reader.proofs.moved as moved
 use Rattle.reader.proofs.moved.Symbol as moved-def

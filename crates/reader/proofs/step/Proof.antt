@@ -38,7 +38,7 @@ use Rattle.tag.proofs.read_at.Met as read-thm
 use Rattle.reader.specs.declared.Reader.{Reader}
 use Rattle.reader.specs.Steps.{stepOf}
 use Rattle.reader.proofs.Reader.Laws as T′
-use Rattle.reader.proofs.Answers.{answers}
+use Rattle.tag.proofs.Answers.{answers}
 use Rattle.reader.proofs.Held.{Held, shape, laws, Own, fields, spelt, With, apart}
 use Rattle.reader.proofs.step.Key.{name as #reader·step}
 use Rattle.reader.proofs.step as step

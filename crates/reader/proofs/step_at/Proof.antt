@@ -36,8 +36,8 @@ use Rattle.item_rules.proofs.Step.Laws as S′
 use Rattle.reader.specs.declared.Reader.{Reader}
 use Rattle.reader.specs.Steps.{stepOf}
 use Rattle.reader.proofs.Reader.Laws as T′
-use Rattle.reader.proofs.Answers.{answers}
-use Rattle.reader.proofs.Lent.{lentVal}
+use Rattle.tag.proofs.Answers.{answers}
+use Rattle.tag.proofs.Lent.{lentVal}
 use Rattle.reader.proofs.Held.{Own, fields, spelt, OwnFields, WithFields, together, fields-back}
 use Rattle.reader.proofs.step as step
 use Rattle.reader.proofs.step.Symbol as step-def
