@@ -53,12 +53,16 @@ module _ {M : Type 1} (𝓤 : URA M) (H : Heap 𝓤) (A : Atoms 𝓤) (W : Given
   pub twice : ent 𝓤 (sem 𝓤 H A (Own κ d)) (sep 𝓤 (sem 𝓤 H A (Own κ d)) (sem 𝓤 H A (Own κ d)))
   twice = LL.copy (shape (κ, tt)) (T′.the-copy (namedLft 1 0 tt (κ, tt))) 𝓤 H A W .twice d (T′.lowered d ∷ [])
 
+  -- what the three fields own
+  abbrev pub OwnFields : Fml
+  OwnFields = owns (ShrSlice (named 0) κ u8 ∷ usize ∷ u8 ∷ []) (fields κ d) (spelt d)
+
   -- what a function has that is passed a reader, and one that is passed its three fields in their order
   abbrev pub With : SProp 𝓤
   With = ⋆ 𝓤 H A ((‵ (flft κ q) ⊛ ‵ ftrue) ∷ ‵ (owns (Held (κ, tt) ∷ []) (d, tt) (T′.lowered d ∷ [], tt)) ∷ [])
 
   abbrev pub WithFields : SProp 𝓤
-  WithFields = ⋆ 𝓤 H A ((‵ (flft κ q) ⊛ ‵ ftrue) ∷ ‵ (owns (ShrSlice (named 0) κ u8 ∷ usize ∷ u8 ∷ []) (fields κ d) (spelt d)) ∷ [])
+  WithFields = ⋆ 𝓤 H A ((‵ (flft κ q) ⊛ ‵ ftrue) ∷ ‵ OwnFields ∷ [])
 
   -- so the first calls the second, which asks nothing else, and still has the reader
   pub apart : ent 𝓤 With (sep 𝓤 (sep 𝓤 WithFields (emp 𝓤)) (sem 𝓤 H A (Own κ d)))
@@ -69,10 +73,6 @@ module _ {M : Type 1} (𝓤 : URA M) (H : Heap 𝓤) (A : Atoms 𝓤) (W : Given
       (own-open 𝓤 H A W (shape (κ, tt)) (laws (κ, tt)) (fields κ d) (T′.lowered d)) $
       -- [what the fields own; what the reader owns; the token]
       learn ! (λ _. move ! (2 ∷ 0 ∷ []) $ join ! $ nothing ! $ move ! (1 ∷ 0 ∷ []) $ join ! $ frame ! $ done !)
-
-  -- what the three fields own
-  abbrev pub OwnFields : Fml
-  OwnFields = owns (ShrSlice (named 0) κ u8 ∷ usize ∷ u8 ∷ []) (fields κ d) (spelt d)
 
   -- a function that is passed the three fields makes a reader of them, calls one that is passed a reader and asks nothing else, and still has it
   pub together : ent 𝓤 WithFields (sep 𝓤 (sep 𝓤 With (emp 𝓤)) (sem 𝓤 H A (Own κ d)))
