@@ -16,8 +16,13 @@ ghost use Rattle.card_rules.specs.Items.{found-widths, walker-bytes, walkerByte
 // The bytes of a walk: seven numbers of eight.
 const WALKER: usize = 56;
 
-// The widths of what finding tells, and of what a step tells; specs/Items.antt says of what.
+// The bytes that finding tells, and their widths; specs/Items.antt says of what.
+const TOLD_FIND: usize = 17;
+
 const FOUND_WIDTHS: [usize; 5] = [1, 0, 4, 8, 4];
+
+// Those of a step.
+const TOLD_STEP: usize = 22;
 
 const STEP_WIDTHS: [usize; 6] = [1, 1, 4, 4, 8, 4];
 
@@ -33,14 +38,8 @@ fn tell_found(l: Located, told: &mut [u8]) -> usize
     ensures { λ r. ⌜ CardTold found-widths (locatedNumber l) (now (told .entry)) (now (told .exit)) r ⌝ }
 {
     match l {
-        Located::Packet(i) => {
-            tell(told, 17, &FOUND_WIDTHS, &found_values(0, i));
-            0
-        }
-        Located::Standing(i) => {
-            tell(told, 17, &FOUND_WIDTHS, &found_values(1, i));
-            0
-        }
+        Located::Packet(i) => tell(told, TOLD_FIND, &FOUND_WIDTHS, &found_values(0, i)),
+        Located::Standing(i) => tell(told, TOLD_FIND, &FOUND_WIDTHS, &found_values(1, i)),
         Located::Refused(n) => n as usize,
     }
 }
@@ -133,13 +132,9 @@ fn tell_step(h: Handed, told: &mut [u8]) -> usize
                 i.from,
                 i.len.0,
             ];
-            tell(told, 22, &STEP_WIDTHS, &values);
-            0
+            tell(told, TOLD_STEP, &STEP_WIDTHS, &values)
         }
-        Handed::End(p) => {
-            tell(told, 22, &STEP_WIDTHS, &[0, 0, 0, 0, 0, p.0]);
-            0
-        }
+        Handed::End(p) => tell(told, TOLD_STEP, &STEP_WIDTHS, &[0, 0, 0, 0, 0, p.0]),
         Handed::Refused(n) => n as usize,
     }
 }
@@ -156,6 +151,9 @@ pub extern "C" fn bailhammer_walk_step(
         (now (told .exit)) r ⌝ }
 {
     if walker.len() != WALKER {
+        return 1;
+    }
+    if told.len() < TOLD_STEP {
         return 1;
     }
     let w = walker_from(walker);

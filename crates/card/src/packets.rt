@@ -21,6 +21,9 @@ pub extern "C" fn bailhammer_wrap(seq: u16, cf: usize, payload: &[u8], out: &mut
     written_number(w)
 }
 
+// The bytes that a check tells.
+const TOLD_CHECK: usize = 8;
+
 // CF as a number.
 fn cf_number(cf: bool) -> usize
     ensures { λ r. ⌜ r ≡ bit cf ⌝ }
@@ -38,8 +41,7 @@ pub extern "C" fn bailhammer_check(packet: &[u8], told: &mut [u8]) -> usize
         Checked::Packet(p) => {
             let cf = cf_number(p.cf);
             let figures = [p.seq as usize, cf, p.minor as usize, p.len as usize];
-            tell(told, 8, &[2, 1, 1, 4], &figures);
-            0
+            tell(told, TOLD_CHECK, &[2, 1, 1, 4], &figures)
         }
         Checked::Refused(n) => n as usize,
     }

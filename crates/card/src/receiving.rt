@@ -7,20 +7,27 @@ use places::Displaced;
 use places::FREE;
 use places::OPEN;
 use places::SPOILED;
+use places::Table;
 use receiver::Queried;
 use receiver::Received;
 use receiver::Seen;
 use receiver::Shown;
 ghost use mathlib.Core.Path.{_≡_};
+ghost use Prim.Native.Nat.{_≤_};
 ghost use lib.ListN.{length};
-ghost use Rattle.card_rules.specs.Told.{CardWritten, CardTold};
+ghost use Rattle.card_rules.specs.Told.{bytesFor, CardWritten, CardTold};
 ghost use Rattle.card_rules.specs.Calls.{addressOf};
-ghost use Rattle.card_rules.specs.Receiving.{places-widths, queryFor, clearFor, receiptTold, toldAfter, CardReceived};
+ghost use Rattle.card_rules.specs.Receiving.{places-widths, queryFor, clearFor, receiptTold, receipt-widths, toldAfter, shortFault, CardReceived};
 ghost use Rattle.card_rules.specs.inner.Queried.{seenTold, shownTold, queriedIn};
 ghost use Rattle.receiver_rules.specs.Promise.{numberOf};
 
-// The widths of what an answer tells; specs/Receiving.antt says of what.
+// The bytes that an answer tells, and their widths; specs/Receiving.antt says of what.
+const TOLD_RECEIVE: usize = 8;
+
 const RECEIPT_WIDTHS: [usize; 5] = [1, 2, 2, 1, 2];
+
+// The bytes that a query tells.
+const TOLD_QUERY: usize = 12;
 
 // What is told of an answer.
 fn receipt_values(handed: usize, length: usize, missing: usize, d: Displaced) -> [usize; 5]
@@ -32,13 +39,19 @@ fn receipt_values(handed: usize, length: usize, missing: usize, d: Displaced) ->
     }
 }
 
-// Tells an answer, where its bytes have place, and gives its number.
+// Tells an answer, and gives its number.
 fn tell_receipt(a: Received, told: &mut [u8]) -> usize
+    requires { ⌜ bytesFor receipt-widths ≤ length (now told) ⌝ }
     ensures { λ r. ⌜ (r ≡ numberOf a .0) × (now (told .exit) ≡ toldAfter a (now (told .entry))) ⌝ }
 {
     match a {
         Received::Kept(d) => {
-            tell(told, 8, &RECEIPT_WIDTHS, &receipt_values(0, 0, 0, d));
+            tell(
+                told,
+                TOLD_RECEIVE,
+                &RECEIPT_WIDTHS,
+                &receipt_values(0, 0, 0, d),
+            );
             0
         }
         Received::Delivered {
@@ -48,18 +61,30 @@ fn tell_receipt(a: Received, told: &mut [u8]) -> usize
         } => {
             tell(
                 told,
-                8,
+                TOLD_RECEIVE,
                 &RECEIPT_WIDTHS,
                 &receipt_values(1, length, missing, displaced),
             );
             0
         }
         Received::Damaged(d) => {
-            tell(told, 8, &RECEIPT_WIDTHS, &receipt_values(0, 0, 0, d));
+            tell(
+                told,
+                TOLD_RECEIVE,
+                &RECEIPT_WIDTHS,
+                &receipt_values(0, 0, 0, d),
+            );
             13
         }
         Received::Refused(n) => n as usize,
     }
+}
+
+// The number where too few bytes are lent to tell in.
+fn short_number(t: Table) -> usize
+    ensures { λ r. ⌜ r ≡ shortFault t ⌝ }
+{
+    if places::bad_table(t) { 14 } else { 1 }
 }
 
 // Receives a datagram with the record in its bytes, and gives the number of the answer.
@@ -83,6 +108,9 @@ pub extern "C" fn bailhammer_receive(
     match fault {
         Written::Refused(n) => n as usize,
         Written::Done => {
+            if told.len() < TOLD_RECEIVE {
+                return short_number(unpacked.table);
+            }
             let own = address_of(addressed, source, dest);
             let reply = receiver::receive(own, unpacked.table, lent, datagram, out);
             packed::pack(reply.table, table);
@@ -119,15 +147,17 @@ fn shown_values(p: Shown) -> [usize; 8]
     [a[0], a[1], b[0], b[1], c[0], c[1], d[0], d[1]]
 }
 
-// Tells what a query shows, where its bytes have place, and gives the number of its answer.
+// Tells what a query shows, and gives the number of its answer.
 fn tell_places(q: Queried, told: &mut [u8]) -> usize
     ensures { λ r. ⌜ CardTold places-widths (queriedIn q) (now (told .entry)) (now (told .exit)) r ⌝ }
 {
     match q {
-        Queried::Places(p) => {
-            tell(told, 12, &[1, 2, 1, 2, 1, 2, 1, 2], &shown_values(p));
-            0
-        }
+        Queried::Places(p) => tell(
+            told,
+            TOLD_QUERY,
+            &[1, 2, 1, 2, 1, 2, 1, 2],
+            &shown_values(p),
+        ),
         Queried::Refused(n) => n as usize,
     }
 }

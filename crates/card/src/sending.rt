@@ -11,6 +11,13 @@ ghost use Rattle.sender_rules.specs.Calls.{sentNumber, fragmentCall, allNumber,
 ghost use Rattle.card_rules.specs.Told.{CardTold, SentAs};
 ghost use Rattle.card_rules.specs.Sending.{settingsOf, twos};
 
+// The bytes that a plan, a fragment and all fragments tell.
+const TOLD_PLAN: usize = 20;
+
+const TOLD_FRAGMENT: usize = 2;
+
+const TOLD_FRAGMENTS: usize = 8;
+
 // The settings.
 fn settings_of(
     fec: usize,
@@ -48,8 +55,7 @@ fn tell_plan(a: Planned, told: &mut [u8]) -> usize
                 p.s,
                 p.assured,
             ];
-            tell(told, 20, &[2; 10], &figures);
-            0
+            tell(told, TOLD_PLAN, &[2; 10], &figures)
         }
         Planned::Refused(n) => n as usize,
     }
@@ -76,10 +82,7 @@ fn tell_length(a: Sent, told: &mut [u8]) -> usize
     ensures { λ r. ⌜ CardTold (twos 1) (sentNumber a) (now (told .entry)) (now (told .exit)) r ⌝ }
 {
     match a {
-        Sent::Fragment(n) => {
-            tell(told, 2, &[2], &[n]);
-            0
-        }
+        Sent::Fragment(n) => tell(told, TOLD_FRAGMENT, &[2], &[n]),
         Sent::Refused(n) => n as usize,
     }
 }
@@ -100,9 +103,13 @@ pub extern "C" fn bailhammer_fragment(
     out: &mut [u8],
 ) -> usize
     ensures { λ r. ⌜ SentAs (twos 1) (fragmentCall (settingsOf fec m mtu addressed source dest) number (now (packet .entry)) index
-        (now (out .entry))) (now (told .entry)) (now (told .exit)) (now (out .exit)) r ⌝ }
+        (now (out .entry))) (now (told .entry)) (now (told .exit)) (now (out .entry)) (now (out .exit)) r ⌝ }
 {
     let g = settings_of(fec, m, mtu, addressed, source, dest);
+    if told.len() < TOLD_FRAGMENT {
+        let none = sender::fragment(g, number, packet, index, &mut []);
+        return tell_length(none, told);
+    }
     let a = sender::fragment(g, number, packet, index, out);
     tell_length(a, told)
 }
@@ -112,10 +119,7 @@ fn tell_split(a: SentAll, told: &mut [u8]) -> usize
     ensures { λ r. ⌜ CardTold (twos 4) (allNumber a) (now (told .entry)) (now (told .exit)) r ⌝ }
 {
     match a {
-        SentAll::Fragments(p) => {
-            tell(told, 8, &[2; 4], &[p.f, p.h, p.s, p.last]);
-            0
-        }
+        SentAll::Fragments(p) => tell(told, TOLD_FRAGMENTS, &[2; 4], &[p.f, p.h, p.s, p.last]),
         SentAll::Refused(n) => n as usize,
     }
 }
@@ -135,9 +139,13 @@ pub extern "C" fn bailhammer_fragments(
     out: &mut [u8],
 ) -> usize
     ensures { λ r. ⌜ SentAs (twos 4) (fragmentsCall (settingsOf fec m mtu addressed source dest) number (now (packet .entry)) (now (out .entry)))
-        (now (told .entry)) (now (told .exit)) (now (out .exit)) r ⌝ }
+        (now (told .entry)) (now (told .exit)) (now (out .entry)) (now (out .exit)) r ⌝ }
 {
     let g = settings_of(fec, m, mtu, addressed, source, dest);
+    if told.len() < TOLD_FRAGMENTS {
+        let none = sender::fragments(g, number, packet, &mut []);
+        return tell_split(none, told);
+    }
     let a = sender::fragments(g, number, packet, out);
     tell_split(a, told)
 }

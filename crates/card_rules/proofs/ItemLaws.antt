@@ -1,26 +1,25 @@
 -- Numbers of eight bytes, and a walk as bytes. Assumes nothing.
 use mathlib.Core.Path.{_≡_, refl, sym, ap, _∙_}
-use mathlib.Core.Bool.{Bool, false, cond}
+use mathlib.Core.Bool.{true, false, not, or-true}
 use mathlib.Core.List.{List, [], _∷_}
-use Prim.Native.Nat.{ℕ, _+_, _*_}
+use Prim.Native.Nat.{ℕ, _+_, _*_, _<_, _≤_}
 use native.Mathlib.Nat.{pos-of-ne-zero}
 use native.Mathlib.Omega.{arith}
-use borrow.Author.Tests.{eq-eqb, ne-eqb}
+use borrow.Author.Tests.{eq-eqb, ne-eqb, lt-ltb, le-ltb}
 use lib.Dec.{eqb, lit<}
 use lib.ListN.{length, getD}
-use Rattle.base_rules.specs.Answer.{granted, refused, outcome}
+use Rattle.base_rules.specs.Answer.{Answer, granted, refused, outcome}
 use Rattle.base_rules.specs.Bytes.{numberAt, bytesOf}
 use Rattle.base_rules.proofs.Answers.{writes, leaves}
 use Rattle.base_rules.proofs.Firsts.{due, skip, none-due}
-use Rattle.base_rules.proofs.Logic.{same, other}
+use Rattle.base_rules.proofs.Logic.{hit, same, other}
 use Rattle.walk_rules.specs.declared.Walked.{Walked}
 use Rattle.walk_rules.specs.declared.Walker.{Walker}
 use Rattle.walk_rules.specs.Step.{opens}
-use Rattle.card_rules.specs.Told.{refusalIn, toldIn, inWidths, toldOf, CardTold}
+use Rattle.card_rules.specs.Told.{refusalIn, inWidths, bytesFor, roomFor, toldOf, CardTold}
 use Rattle.card_rules.specs.Items.{walker-widths, walker-bytes, walkerBytes, walkerFrom, walkOpenFault, walkOpenCall}
-use Rattle.card_rules.specs.Items.{step-widths, steppedNumber, stepped, walkStepCall, walkerAfter, CardStepped}
-use Rattle.card_rules.proofs.TellLaws.{told-whole}
-use Rattle.card_rules.proofs.ToldLaws.{told-as}
+use Rattle.card_rules.specs.Items.{step-widths, steppedNumber, stepped, stepRoom, walkStepCall, walkerAfter, CardStepped}
+use Rattle.card_rules.proofs.TellLaws.{fits-room, told-room, whole}
 
 -- ---- numbers
 
@@ -51,13 +50,13 @@ five (a ∷ b ∷ c ∷ d ∷ []) h = absurd (omega arith)
 five (a ∷ b ∷ c ∷ d ∷ e ∷ f ∷ l) h = absurd (omega arith)
 
 -- its numbers are all of the bytes
-pub walker-laid : (d : List ℕ) (w : Walker) {y : List ℕ} → length d ≡ walker-bytes → length (w .ends) ≡ 5
+pub walker-laid : (d : List ℕ) (w : Walker) {y : List ℕ} {r : ℕ} → length d ≡ walker-bytes → length (w .ends) ≡ 5
     → (let ends = w .ends in
-    y ≡ toldIn d (inWidths walker-widths (w .at ∷ w .depth ∷ getD ends 0 0 ∷ getD ends 1 0 ∷ getD ends 2 0 ∷ getD ends 3 0 ∷ getD ends 4 0 ∷ [])))
+    CardTold walker-widths (granted (w .at ∷ w .depth ∷ getD ends 0 0 ∷ getD ends 1 0 ∷ getD ends 2 0 ∷ getD ends 3 0 ∷ getD ends 4 0 ∷ [])) d y r)
     → y ≡ walkerBytes w
-unfolding walkerBytes inWidths bytesOf
-walker-laid d w long ends told =
-    told ∙ told-whole d _ (sym long) ∙ ap (λ (l : List ℕ). inWidths walker-widths (w .at ∷ w .depth ∷ l)) (sym (five (w .ends) ends))
+unfolding walkerBytes inWidths bytesOf bytesFor
+walker-laid d w long ends said =
+    said .told ∙ told-room walker-widths _ d (omega arith) ∙ whole d _ (sym long) ∙ ap (λ (l : List ℕ). inWidths walker-widths (w .at ∷ w .depth ∷ l)) (sym (five (w .ends) ends))
 
 -- ---- opening a walk
 
@@ -85,48 +84,72 @@ module _ (packet names walker : List ℕ) (w : Walker) (e : w ≡ opens packet n
 
 -- ---- a step
 
--- what is answered where there are the bytes of a walk
-pub answers : (packet names walker : List ℕ) (x : Walked) → length walker ≡ walker-bytes → x ≡ stepped packet names walker
-    → steppedNumber (x .handed) ≡ walkStepCall packet names walker
+module _ (walker told : List ℕ) where
+  -- 1 ROOM where the bytes are not those of a walk,
+  no-walk : (length walker ≡ walker-bytes → ⊥) → stepRoom walker told ≡ true
+  unfolding stepRoom
+  no-walk h = sym (hit _ (other h))
+
+  -- or too few to tell in,
+  no-place : length told < bytesFor step-widths → stepRoom walker told ≡ true
+  unfolding stepRoom
+  no-place short = rw (lt-ltb (length told) (bytesFor step-widths) short) (or-true (not (eqb (length walker) walker-bytes)))
+
+  -- and else not
+  room : length walker ≡ walker-bytes → bytesFor step-widths ≤ length told → stepRoom walker told ≡ false
+  unfolding stepRoom
+  room long fits = rw (same long, le-ltb (length told) (bytesFor step-widths) fits)
+
+-- what is answered where there is room
+pub answers : (packet names walker told : List ℕ) (x : Walked) → length walker ≡ walker-bytes → bytesFor step-widths ≤ length told
+    → x ≡ stepped packet names walker → steppedNumber (x .handed) ≡ walkStepCall packet names walker told
 unfolding walkStepCall
-answers packet names walker x long is-x =
-    ap (λ (y : Walked). steppedNumber (y .handed)) is-x
-    ∙ sym (ap (λ (b : Bool). cond b (steppedNumber (stepped packet names walker .handed)) (refused 1)) (eq-eqb (length walker) walker-bytes long))
+answers packet names walker told x long fits is-x = rw (room walker told long fits) (ap (λ (y : Walked). steppedNumber (y .handed)) is-x)
 
 module _ (packet names walker told : List ℕ) where
-  -- a step gives 1 where the bytes of the walk are not 56, tells nothing and leaves them
-  pub step-short : (length walker ≡ walker-bytes → ⊥) → CardStepped packet names walker walker told told 1
+  no-room : stepRoom walker told ≡ true → CardStepped packet names walker walker told told 1
   unfolding walkStepCall walkerAfter refusalIn toldOf
-  step-short h =
-      let no : eqb (length walker) walker-bytes ≡ false = ne-eqb (length walker) walker-bytes h in
-      record { number = rw no refl; tells = rw no refl; goes = rw no refl }
+  no-room e = record { number = rw e refl; tells = rw e refl; goes = rw e refl }
 
-  module _ (x : Walked) (long : length walker ≡ walker-bytes) (is-x : x ≡ stepped packet names walker) where
+  -- a step gives 1 where the bytes of the walk are not 56, tells nothing and leaves them,
+  pub step-short : (length walker ≡ walker-bytes → ⊥) → CardStepped packet names walker walker told told 1
+  step-short h = no-room (no-walk walker told h)
+
+  -- and where those to tell in are too few
+  pub step-untold : length told < bytesFor step-widths → CardStepped packet names walker walker told told 1
+  step-untold short = no-room (no-place walker told short)
+
+  module _ (x : Walked) (long : length walker ≡ walker-bytes) (fits : bytesFor step-widths ≤ length told) (is-x : x ≡ stepped packet names walker) where
     -- where a step goes on, and where it is refused
     module _ {r : ℕ} {told-after : List ℕ} (said : CardTold step-widths (steppedNumber (x .handed)) told told-after r) where
-      there : CardTold step-widths (walkStepCall packet names walker) told told-after r
-      there = told-as step-widths told (answers packet names walker x long is-x) said
+      answered-so : roomFor step-widths told (steppedNumber (x .handed)) ≡ walkStepCall packet names walker told
+      answered-so = fits-room step-widths told (steppedNumber (x .handed)) fits ∙ answers packet names walker told x long fits is-x
+
+      is-number : r ≡ refusalIn (walkStepCall packet names walker told)
+      is-number = said .number ∙ ap refusalIn answered-so
+
+      is-told : told-after ≡ toldOf step-widths (walkStepCall packet names walker told) told
+      is-told = said .told ∙ ap (λ (a : Answer). toldOf step-widths a told) answered-so
 
       -- after a step that is not refused, the bytes are those of the walk where it goes on
       pub step-on : {y : List ℕ} → r ≡ 0 → y ≡ walkerBytes (x .next) → CardStepped packet names walker y told told-after r
       unfolding walkerAfter
       step-on z is-y = record {
-        number = there .number;
-        tells = there .told;
+        number = is-number;
+        tells = is-told;
         goes =
-            is-y ∙ ap (λ (y : Walked). walkerBytes (y .next)) is-x
-            ∙ sym (ap (λ (b : Bool). cond b (walkerBytes (stepped packet names walker .next)) walker)
-            (eq-eqb (refusalIn (walkStepCall packet names walker)) 0 (sym (there .number) ∙ z)));
+            rw (eq-eqb (refusalIn (walkStepCall packet names walker told)) 0 (sym is-number ∙ z))
+            (is-y ∙ ap (λ (y : Walked). walkerBytes (y .next)) is-x);
       }
 
       -- a step that is refused leaves the bytes of the walk as they were
       pub step-not : (r ≡ 0 → ⊥) → CardStepped packet names walker walker told told-after r
       unfolding walkerAfter
       step-not h = record {
-        number = there .number;
-        tells = there .told;
+        number = is-number;
+        tells = is-told;
         goes =
-            sym (ap (λ (b : Bool). cond b (walkerBytes (stepped packet names walker .next)) walker)
-            (ne-eqb (refusalIn (walkStepCall packet names walker)) 0
-            (λ (z : refusalIn (walkStepCall packet names walker) ≡ 0). h (there .number ∙ z))));
+            rw (ne-eqb (refusalIn (walkStepCall packet names walker told)) 0
+            (λ (z : refusalIn (walkStepCall packet names walker told) ≡ 0). h (is-number ∙ z)))
+            refl;
       }

@@ -1,10 +1,12 @@
 pub mod ToldLaws
 pub mod TellLaws
+pub mod SendLaws
 pub mod FlagLaws
 pub mod ReceiveLaws
 pub mod QueryLaws
 pub mod ItemLaws
 pub mod CountLaws
+pub mod RefusalLaws
 pub mod SendProved
 pub mod ReceiveProved
 pub mod FillProved

@@ -1,6 +1,6 @@
 -- The claims of specs/Claims.antt, each by citation. Assumes nothing.
 use Rattle.card_rules.specs.Claims.{PlanWhole, LengthWhole, SplitWhole}
-use Rattle.card_rules.specs.Claims.{ZerosFresh, ClearedZeros, OneReceipt, RefusedUnchanged, ReceiptWhole}
+use Rattle.card_rules.specs.Claims.{ZerosFresh, ClearedZeros, OneReceipt, RefusedUnchanged, NoSilence, ReceiptWhole}
 use Rattle.card_rules.specs.Claims.{OneFilling}
 use Rattle.card_rules.specs.Claims.{OpensTyped, StepsTyped, ReadBack, StepNumbers, FoundWhole, StepWhole}
 use Rattle.card_rules.proofs.SendProved as sender
@@ -29,6 +29,9 @@ one-receipt = receiver.one-receipt
 
 pub refused-unchanged : RefusedUnchanged
 refused-unchanged = receiver.refused-unchanged
+
+pub no-silence : NoSilence
+no-silence = receiver.no-silence
 
 pub receipt-whole : ReceiptWhole
 receipt-whole = receiver.receipt-whole

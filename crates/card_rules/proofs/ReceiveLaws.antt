@@ -2,11 +2,11 @@
 use mathlib.Core.Path.{_≡_, refl, sym, ap, _∙_, subst}
 use mathlib.Core.Bool.{Bool, not, cond}
 use mathlib.Core.List.{List, [], _∷_, map}
-use Prim.Native.Nat.{ℕ, zero, suc, _<_}
+use Prim.Native.Nat.{ℕ, zero, suc, _<_, _≤_}
 use native.Mathlib.Nat.{le-of-suc-le-suc}
 use native.Mathlib.Omega.{arith}
 use base.Fml.{Fml}
-use borrow.Author.Tests.{eqb-true, eq-eqb, ne-eqb, le-ltb, not-false}
+use borrow.Author.Tests.{eqb-true, eq-eqb, ne-eqb, lt-ltb, le-ltb, not-false}
 use denote.Array.{each}
 use denote.Shadow.{shadow}
 use lib.Dec.{ltb, eqb}
@@ -31,7 +31,8 @@ use Rattle.places_rules.proofs.Records.{as-long}
 use Rattle.receiver_rules.specs.Promise as promise
 use Rattle.receiver_rules.specs.Promise.{Step}
 use Rattle.receiver_rules.specs.declared.Received.{Received}
-use Rattle.card_rules.specs.Receiving.{onRecord, toldAfter, Held, ReceivedWith, CardReceived}
+use Rattle.card_rules.specs.Told.{bytesFor}
+use Rattle.card_rules.specs.Receiving.{onRecord, receipt-widths, toldAfter, shortFault, Held, ReceivedWith, CardReceived}
 use Rattle.card_rules.proofs.ToldLaws.{chosen}
 use Rattle.card_rules.proofs.TellLaws.{whole}
 
@@ -124,13 +125,21 @@ module _ (own : Address) (datagram : List ℕ) (before after : Held) (r : ℕ) (
   unfolding CardReceived
   receive-refused is same = subst (λ (X : Type 0). X) (sym (refused-record (before .record-bytes) w x e _ _ r is)) (refl, same)
 
+  -- a receiving with a record and too few bytes to tell in gives 14 or 1 and changes nothing
+  pub receive-short : w ≡ Done → length (before .told) < bytesFor receipt-widths → r ≡ shortFault x → after ≡ before
+      → CardReceived own datagram before after r
+  unfolding CardReceived
+  receive-short is short number same =
+      rw (taken-record (before .record-bytes) w x e _ _ is, lt-ltb (length (before .told)) (bytesFor receipt-widths) short) (number, same)
+
   -- a receiving that fits the promise of `receive`, packed again and told, fits that of the call for C
   pub received-there : (o : Address) (v : Written) (t : Table) (a : Received) → w ≡ Done → o ≡ own
       → Step o (record { table = x; bytes = before .lent }) datagram (before .out) (promise.outcome a t (after .lent) (after .out))
       → TypedTable t → outcome (numberOf v) (after .record-bytes) ≡ packCall t (before .record-bytes)
+      → bytesFor receipt-widths ≤ length (before .told)
       → (r ≡ promise.numberOf a .0) × (after .told ≡ toldAfter a (before .told)) → CardReceived own datagram before after r
   unfolding CardReceived
-  received-there o v t a done is-own step typed packed said =
+  received-there o v t a done is-own step typed packed room said =
       let s : List ℕ = before .record-bytes in
       let y : promise.Outcome = promise.outcome a t (after .lent) (after .out) in
       let there : after .record-bytes ≡ packedOf t =
@@ -144,4 +153,4 @@ module _ (own : Address) (datagram : List ℕ) (before after : Held) (r : ℕ) (
         told = said .1;
         number = said .0;
       } in
-      subst (λ (X : Type 0). X) (sym (taken-record s w x e _ _ done)) with-record
+      rw (taken-record s w x e _ _ done, le-ltb (length (before .told)) (bytesFor receipt-widths) room) with-record

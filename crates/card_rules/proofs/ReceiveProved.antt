@@ -2,14 +2,15 @@
 use mathlib.Core.Path.{_≡_, refl, sym, ap, _∙_, subst}
 use mathlib.Core.Bool.{false}
 use mathlib.Core.List.{List, []}
-use Prim.Native.Nat.{ℕ, zero, suc}
+use mathlib.Core.Logic.{_⊎_, inl, inr}
+use Prim.Native.Nat.{ℕ, zero, suc, _<_, _≤_}
 use native.Mathlib.Omega.{arith}
-use borrow.Author.Tests.{eqb-true, eqb-false, eq-eqb, ne-eqb}
+use borrow.Author.Tests.{eqb-true, eqb-false, eq-eqb, ne-eqb, ltb-true, ltb-false, lt-ltb, le-ltb}
 use lib.Dec.{eqb, lit<}
-use lib.ListN.{length-replicate, getD-replicate}
+use lib.ListN.{length, length-replicate, getD-replicate}
 use Rattle.base_rules.specs.Answer.{refused, Outcome, outcome, settled, answerIn, bytesIn}
 use Rattle.base_rules.specs.Bounds.{most-f, most-l}
-use Rattle.base_rules.specs.Bytes.{Bytes}
+use Rattle.base_rules.specs.Bytes.{Bytes, splice}
 use Rattle.base_rules.proofs.Logic.{either}
 use Rattle.cut_rules.specs.declared.Address.{Address}
 use Rattle.packed_rules.specs.Packed.{packedOf, tableFrom, unpackFault, unpackCall}
@@ -22,13 +23,15 @@ use Rattle.receiver_rules.specs.Promise as promise
 use Rattle.receiver_rules.specs.Promise.{State, roomFault, Settled, waits, delivers, damaged}
 use Rattle.receiver_rules.specs.Claims.{dueFor}
 use Rattle.receiver_rules.specs.declared.Received.{Received}
-use Rattle.receiver_rules.specs.declared.Received.the-variants.{Delivered, Refused}
+use Rattle.receiver_rules.specs.declared.Received.the-variants.{Kept, Delivered, Damaged, Refused}
 use Rattle.receiver_rules.proofs.Proved.{one-outcome, one-received, delivery-writes, count-told}
 use Rattle.receiver_rules.proofs.Unique.{step-settled, step-refused}
-use Rattle.card_rules.specs.Told.{refusalIn}
-use Rattle.card_rules.specs.Receiving.{onRecord, toldAfter, Held, ReceivedWith, CardReceived, clearFor}
-use Rattle.card_rules.specs.Claims.{ZerosFresh, ClearedZeros, OneReceipt, RefusedUnchanged, ReceiptWhole}
+use Rattle.card_rules.specs.Told.{refusalIn, inWidths, bytesFor, tooShort}
+use Rattle.card_rules.specs.Receiving.{onRecord, receiptTold, receipt-widths, toldAfter, shortFault}
+use Rattle.card_rules.specs.Receiving.{Held, ReceivedWith, RefusedWith, CardReceived, clearFor}
+use Rattle.card_rules.specs.Claims.{ZerosFresh, ClearedZeros, OneReceipt, RefusedUnchanged, Shown, handed-out, only-kept, Said, NoSilence, ReceiptWhole}
 use Rattle.card_rules.proofs.CountLaws.{missing-few}
+use Rattle.card_rules.proofs.RefusalLaws.{Not13, receive-other, unpack-other, short-other}
 
 -- ---- a fresh record
 
@@ -82,12 +85,32 @@ cleared-zeros s after lent cleared = cleared .out ∙ cleared-by s lent (clearFo
 
 -- ---- a receiving
 
-module _ (own : Address) (datagram : List ℕ) (before after : Held) (r : ℕ) (promised : CardReceived own datagram before after r) where
-  pub with-record : unpackFault (before .record-bytes) ≡ 0 → ReceivedWith own datagram before after r (tableFrom (before .record-bytes))
-  unfolding CardReceived onRecord
-  with-record none = rw (eq-eqb (unpackFault (before .record-bytes)) 0 none) at promised
+-- whatever is lent: no record; one, and too few bytes to tell in; or a record and room
+cases {ℓ} : {P : Type ℓ} (before : Held) → ((unpackFault (before .record-bytes) ≡ 0 → ⊥) → P)
+    → (unpackFault (before .record-bytes) ≡ 0 → length (before .told) < bytesFor receipt-widths → P)
+    → (unpackFault (before .record-bytes) ≡ 0 → bytesFor receipt-widths ≤ length (before .told) → P) → P
+cases before none short full =
+    either (eqb (unpackFault (before .record-bytes)) 0)
+    (λ e.
+    let good = eqb-true (unpackFault (before .record-bytes)) 0 e in
+    either (tooShort receipt-widths (before .told)) (λ l. short good (ltb-true _ _ l)) (λ l. full good (ltb-false _ _ l)))
+    (λ e. none (eqb-false (unpackFault (before .record-bytes)) 0 e))
 
-  pub no-record : (unpackFault (before .record-bytes) ≡ 0 → ⊥) → (r ≡ unpackFault (before .record-bytes)) × (after ≡ before)
+module _ (own : Address) (datagram : List ℕ) (before after : Held) (r : ℕ) (promised : CardReceived own datagram before after r) where
+  -- a record and room: `receive` meets its promise
+  pub with-record : unpackFault (before .record-bytes) ≡ 0 → bytesFor receipt-widths ≤ length (before .told)
+      → ReceivedWith own datagram before after r (tableFrom (before .record-bytes))
+  unfolding CardReceived onRecord
+  with-record good room =
+      rw (eq-eqb (unpackFault (before .record-bytes)) 0 good, le-ltb (length (before .told)) (bytesFor receipt-widths) room) at promised
+
+  no-told : unpackFault (before .record-bytes) ≡ 0 → length (before .told) < bytesFor receipt-widths
+      → RefusedWith before after r (shortFault (tableFrom (before .record-bytes)))
+  unfolding CardReceived onRecord
+  no-told good short =
+      rw (eq-eqb (unpackFault (before .record-bytes)) 0 good, lt-ltb (length (before .told)) (bytesFor receipt-widths) short) at promised
+
+  no-record : (unpackFault (before .record-bytes) ≡ 0 → ⊥) → RefusedWith before after r (unpackFault (before .record-bytes))
   unfolding CardReceived onRecord
   no-record some = rw (ne-eqb (unpackFault (before .record-bytes)) 0 some) at promised
 
@@ -118,20 +141,18 @@ module _ (own : Address) (datagram : List ℕ) (before after after′ : Held) (r
         p .number ∙ ap (λ (a : Received). promise.numberOf a .0) answers ∙ sym (q .number),
       )
 
+same-refusal : {before after after′ : Held} {r r′ n : ℕ} → RefusedWith before after r n → RefusedWith before after′ r′ n → (after ≡ after′) × (r ≡ r′)
+same-refusal p q = (p .1 ∙ sym (q .1), p .0 ∙ sym (q .0))
+
 -- no second outcome fits a receiving's promise: its number and all that is lent are determined
 pub one-receipt : OneReceipt
 one-receipt own datagram before after after′ r r′ p q =
-    let s : List ℕ = before .record-bytes in
-    either (eqb (unpackFault s) 0)
-    (λ e.
-    let none : unpackFault s ≡ 0 = eqb-true (unpackFault s) 0 e in
-    one-with own datagram before after after′ r r′ (tableFrom s) (with-record own datagram before after r p none)
-    (with-record own datagram before after′ r′ q none))
-    (λ e.
-    let some = eqb-false (unpackFault s) 0 e in
-    let a = no-record own datagram before after r p some in
-    let b = no-record own datagram before after′ r′ q some in
-    (a .1 ∙ sym (b .1), a .0 ∙ sym (b .0)))
+    cases before
+    (λ some. same-refusal (no-record own datagram before after r p some) (no-record own datagram before after′ r′ q some))
+    (λ good short. same-refusal (no-told own datagram before after r p good short) (no-told own datagram before after′ r′ q good short))
+    (λ good room.
+    one-with own datagram before after after′ r r′ (tableFrom (before .record-bytes)) (with-record own datagram before after r p good room)
+    (with-record own datagram before after′ r′ q good room))
 
 -- what settles is answered with 0 or 13
 settles : {t : Table} {i : ℕ} {d : Displaced} {b out : List ℕ} {y : promise.Outcome} → Settled t i d b out y → (y .answer .0 ≡ 0 → ⊥)
@@ -174,12 +195,69 @@ module _ (own : Address) (datagram : List ℕ) (before after : Held) (r : ℕ) (
 -- a receiving answered with neither 0 nor 13 leaves every lent byte as it was, the record too
 pub refused-unchanged : RefusedUnchanged
 refused-unchanged own datagram before after r bytes p p0 p13 =
-    let s : List ℕ = before .record-bytes in
-    either (eqb (unpackFault s) 0)
-    (λ e.
-    let none : unpackFault s ≡ 0 = eqb-true (unpackFault s) 0 e in
-    unchanged own datagram before after r bytes none (with-record own datagram before after r p none) p0 p13)
-    (λ e. no-record own datagram before after r p (eqb-false (unpackFault s) 0 e) .1)
+    cases before
+    (λ some. no-record own datagram before after r p some .1)
+    (λ good short. no-told own datagram before after r p good short .1)
+    (λ good room. unchanged own datagram before after r bytes good (with-record own datagram before after r p good room) p0 p13)
+
+-- ---- what a receiving tells
+
+-- a number other than 0 and 13 is that of a refusal
+refusal : {P : Type 0} {r n : ℕ} → r ≡ n → (n ≡ 0 → ⊥) → Not13 n → (r ≡ 0) ⊎ (r ≡ 13) → P
+refusal is some other (inl z) = absurd (some (sym is ∙ z))
+refusal is some other (inr z) = absurd (other (sym is ∙ z))
+
+module _ (own : Address) (datagram : List ℕ) (before after : Held) (r : ℕ) (t : Table) (p : ReceivedWith own datagram before after r t)
+    (room : bytesFor receipt-widths ≤ length (before .told)) where
+  says : (handed l missing : ℕ) (d : Displaced) (a : Received) → p .answer ≡ a
+      → toldAfter a (before .told) ≡ splice (before .told) 0 (inWidths receipt-widths (receiptTold handed l missing d))
+      → Shown (before .out) (after .out) handed l → Said before after
+  says handed l missing d a is tells shown = record {
+    handed = handed;
+    l = l;
+    missing = missing;
+    displaced = d;
+    room = room;
+    told = p .told ∙ ap (λ (x : Received). toldAfter x (before .told)) is ∙ tells;
+    shown = shown;
+  }
+
+  settled-says : {t : Table} {i : ℕ} {d : Displaced} {b : List ℕ} {y : promise.Outcome} → Settled t i d b (before .out) y
+      → y ≡ promise.outcome (p .answer) (p .table) (after .lent) (after .out) → Said before after
+  unfolding promise.outcome toldAfter
+  settled-says {d = d} (waits e) is =
+      says 0 0 0 d (Kept d) (one-received (p .answer) (Kept d) (sym (ap (λ (o : promise.Outcome). o .answer) is))) refl
+      (only-kept (sym (ap (λ (o : promise.Outcome). o .out) is)))
+  settled-says {d = d} (delivers P e a) is =
+      says 1 (length P) _ d (Delivered (length P) _ d) (one-received (p .answer) (Delivered (length P) _ d) (sym (ap (λ (o : promise.Outcome). o .answer) is)))
+      refl
+      (handed-out P (sym (ap (λ (o : promise.Outcome). o .out) is)))
+  settled-says {d = d} (damaged e a) is =
+      says 0 0 0 d (Damaged d) (one-received (p .answer) (Damaged d) (sym (ap (λ (o : promise.Outcome). o .answer) is))) refl
+      (only-kept (sym (ap (λ (o : promise.Outcome). o .out) is)))
+
+  said : (r ≡ 0) ⊎ (r ≡ 13) → Said before after
+  unfolding promise.outcome promise.numberOf
+  said given =
+      let state : State = record { table = t; bytes = before .lent } in
+      let due : ℕ = dueFor own state datagram (before .out) in
+      either (eqb due 0)
+      (λ e. settled-says (step-settled own state datagram (before .out) (eqb-true due 0 e) (p .step)) refl)
+      (λ e.
+      let some = eqb-false due 0 e in
+      let is = ap (λ (o : promise.Outcome). o .answer .0) (step-refused own state datagram (before .out) some (p .step)) in
+      refusal (p .number ∙ is) some (receive-other own t (length (before .lent)) datagram (length (before .out))) given)
+
+-- a receiving that gives 0 or 13 had room to tell in and told what it did
+pub no-silence : NoSilence
+no-silence own datagram before after r p given =
+    cases before
+    (λ some. refusal (no-record own datagram before after r p some .0) some (unpack-other (before .record-bytes)) given)
+    (λ good short.
+    let n = short-other (tableFrom (before .record-bytes)) in
+    refusal (no-told own datagram before after r p good short .0) (n .0) (n .1) given)
+    (λ good room.
+    said own datagram before after r (tableFrom (before .record-bytes)) (with-record own datagram before after r p good room) room given)
 
 -- ---- what a delivery tells
 

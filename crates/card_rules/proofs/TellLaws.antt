@@ -1,32 +1,36 @@
 -- Numbers told one behind the other, byte by byte. Assumes nothing.
 use mathlib.Core.Path.{_≡_, refl, sym, ap, ap₂, _∙_}
-use mathlib.Core.Bool.{Bool, cond}
+use mathlib.Core.Bool.{true}
 use mathlib.Core.List.{List, [], _∷_, _++_, append-assoc, append-nil}
 use Prim.Native.Nat.{ℕ, suc, _+_, _-_, _/_, _%_, _<_, _≤_}
 use native.Mathlib.Omega.{arith}
 use borrow.Author.Tests.{le-ltb, lt-ltb}
 use lib.ListN.{length, getD, take, drop, set, length-append, drop-of-length-le}
 use lib.Seq.{length-take-le, take-set-le, drop-at, drop-cons, set-split}
+use Rattle.base_rules.specs.Answer.{Answer, granted, refused}
 use Rattle.base_rules.specs.Bytes.{splice, bytesOf}
 use Rattle.base_rules.proofs.Numbers.{length-bytes}
 use Rattle.base_rules.proofs.Splice.{splice-none, splice-then, splice-length}
-use Rattle.card_rules.specs.Told.{toldIn, inWidths}
+use Rattle.card_rules.specs.Told.{refusalIn, inWidths, bytesFor, tooShort, roomFor, toldOf, CardTold}
 
 -- ---- bytes that have place, and that are as many as all
 
--- bytes that have place are told at the front
-pub told-room : (before bytes : List ℕ) → length bytes ≤ length before → toldIn before bytes ≡ splice before 0 bytes
-unfolding toldIn
-told-room before bytes fits = ap (λ (b : Bool). cond b before (splice before 0 bytes)) (le-ltb (length before) (length bytes) fits)
+-- where what is lent has room, what is due is due as it is,
+pub fits-room : (widths told : List ℕ) (a : Answer) → bytesFor widths ≤ length told → roomFor widths told a ≡ a
+unfolding roomFor
+fits-room widths told (granted values) fits = rw (le-ltb (length told) (bytesFor widths) fits)
+fits-room widths told (refused n) fits = refl
+
+-- and the values of an answer that refuses nothing stand at its front
+pub told-room : (widths values before : List ℕ) → bytesFor widths ≤ length before
+    → toldOf widths (roomFor widths before (granted values)) before ≡ splice before 0 (inWidths widths values)
+unfolding toldOf
+told-room widths values before fits = ap (λ (a : Answer). toldOf widths a before) (fits-room widths before (granted values) fits)
 
 -- bytes as many as the buffer has, laid down from its front, replace all of it
 pub whole : (d s : List ℕ) → length s ≡ length d → splice d 0 s ≡ s
 unfolding splice
 whole d s e = ap (λ (l : List ℕ). s ++ l) (drop-of-length-le d {i = 0 + length s} (omega arith)) ∙ append-nil s
-
--- what is told in as many bytes as are lent is all that stands in them afterwards
-pub told-whole : (before bytes : List ℕ) → length bytes ≡ length before → toldIn before bytes ≡ bytes
-told-whole before bytes e = told-room before bytes (omega (arith, e)) ∙ whole before bytes e
 
 -- ---- one number, its lowest byte first
 
@@ -62,22 +66,14 @@ bytes-put d from left x none =
 
 -- ---- number by number
 
--- how many bytes they take goes by the widths alone
-same-bytes : (widths a b : List ℕ) → length a ≡ length b → length (inWidths widths a) ≡ length (inWidths widths b)
-unfolding inWidths
-same-bytes [] a b e = refl
-same-bytes (w ∷ widths) [] [] e = refl
-same-bytes (w ∷ widths) [] (y ∷ b) e = absurd (omega arith)
-same-bytes (w ∷ widths) (x ∷ a) [] e = absurd (omega arith)
-same-bytes (w ∷ widths) (x ∷ a) (y ∷ b) e =
-    length-append (bytesOf w x) (inWidths widths a)
-    ∙ ap₂ (λ (j k : ℕ). j + k) (length-bytes w x ∙ sym (length-bytes w y)) (same-bytes widths a b (omega arith))
-    ∙ sym (length-append (bytesOf w y) (inWidths widths b))
-
--- as many numbers as there are widths take as many bytes, whatever the numbers are
-pub as-wide : (widths values : List ℕ) → length values ≡ length widths
-    → (length values ≡ length widths) × (length (inWidths widths values) ≡ length (inWidths widths widths))
-as-wide widths values e = (e, same-bytes widths values widths e)
+-- as many numbers as there are widths take as many bytes as the widths say, whatever the numbers are
+pub length-in : (widths values : List ℕ) → length values ≡ length widths → length (inWidths widths values) ≡ bytesFor widths
+unfolding inWidths bytesFor
+length-in [] values e = refl
+length-in (w ∷ widths) [] e = absurd (omega arith)
+length-in (w ∷ widths) (x ∷ values) e =
+    length-append (bytesOf w x) (inWidths widths values)
+    ∙ ap₂ (λ (j k : ℕ). j + k) (length-bytes w x) (length-in widths values (omega arith))
 
 -- what is still to be told behind i numbers
 abbrev leftOf : List ℕ → List ℕ → ℕ → List ℕ
@@ -98,7 +94,10 @@ pub record Telling (widths values before : List ℕ) (n : ℕ) (told : List ℕ)
   -- with the rest told from there on, all the numbers stand from the front
   pub whole : splice told at (leftOf widths values i) ≡ splice before 0 (inWidths widths values)
 
-module _ (widths values before : List ℕ) (n : ℕ) (long : length (inWidths widths values) ≡ n) where
+module _ (widths values before : List ℕ) (n : ℕ) (alike : (length values ≡ length widths) × (bytesFor widths ≡ n)) where
+  long : length (inWidths widths values) ≡ n
+  long = length-in widths values (alike .0) ∙ alike .1
+
   -- at the start none is told and all are still to be
   pub tells-none : Telling widths values before n before 0 0
   tells-none = record { long = refl; room = omega (arith, long); whole = refl }
@@ -140,17 +139,22 @@ module _ (widths values before : List ℕ) (n : ℕ) (long : length (inWidths wi
         }
 
     -- behind the last width all the numbers are told, where there is room for them
-    pub tells-all : n ≤ length before → length widths ≤ i → told ≡ toldIn before (inWidths widths values)
-    unfolding inWidths
+    pub tells-all : n ≤ length before → length widths ≤ i → CardTold widths (granted values) before told 0
+    unfolding inWidths refusalIn
     tells-all fits end =
-        splice-none told at
-        ∙ ap (λ (l : List ℕ). splice told at (inWidths l (drop i values))) (sym (drop-of-length-le widths {i = i} end))
-        ∙ t .whole
-        ∙ sym (told-room before (inWidths widths values) (omega (arith, long)))
+        let room : bytesFor widths ≤ length before = omega (arith, alike .1) in
+        record {
+          number = sym (ap refusalIn (fits-room widths before (granted values) room));
+          told =
+              splice-none told at
+              ∙ ap (λ (l : List ℕ). splice told at (inWidths l (drop i values))) (sym (drop-of-length-le widths {i = i} end))
+              ∙ t .whole
+              ∙ sym (told-room widths values before room);
+        }
 
-  -- where the numbers have no room, the lent bytes stay as they were
-  pub tells-short : length before < n → before ≡ toldIn before (inWidths widths values)
-  unfolding toldIn
+  -- where the numbers have no room, that is 1 ROOM, and the lent bytes stay as they were
+  pub tells-short : length before < n → CardTold widths (granted values) before before 1
+  unfolding roomFor refusalIn toldOf
   tells-short short =
-      let bytes : List ℕ = inWidths widths values in
-      sym (ap (λ (b : Bool). cond b before (splice before 0 bytes)) (lt-ltb (length before) (length bytes) (omega (arith, long))))
+      let no : tooShort widths before ≡ true = lt-ltb (length before) (bytesFor widths) (omega (arith, alike .1)) in
+      record { number = rw no refl; told = rw no refl }

@@ -138,20 +138,21 @@ numbered s cs ends d at =
     by-steps s cs ends Numbered (λ (a b : ℕ). Unit {0}) (λ a b i q e. inl refl) (λ a p q e. inl refl)
     (λ a b n q e. inr (refused-is s a (endOf s ends b) n e)) (λ a b q. tt) d at tt
 
-module _ (packet names walker : List ℕ) (long : length walker ≡ walker-bytes) where
+module _ (packet names walker told : List ℕ) (long : length walker ≡ walker-bytes) (fits : bytesFor step-widths ≤ length told) where
   -- the number of the call is that of the step, and the walk in the bytes is not refused
-  called : (x : Walked) → stepped packet names walker ≡ x → number x ≡ refusalIn (walkStepCall packet names walker)
-  called x e = ap refusalIn (answers packet names walker x long (sym e))
+  called : (x : Walked) → stepped packet names walker ≡ x → number x ≡ refusalIn (walkStepCall packet names walker told)
+  called x e = ap refusalIn (answers packet names walker told x long fits (sym e))
 
   unrefused : walkerFrom walker .refusal ≡ 0
   unfolding walkerFrom
   unrefused = refl
 
-  names-number : (namesFault names ≡ 0 → ⊥) → refusalIn (walkStepCall packet names walker) ≡ namesFault names
+  names-number : (namesFault names ≡ 0 → ⊥) → refusalIn (walkStepCall packet names walker told) ≡ namesFault names
   unfolding refusalIn steppedNumber
   names-number h = sym (called _ (list-stays packet names (walkerFrom walker) unrefused h))
 
-  items-number : namesFault names ≡ 0 → (refusalIn (walkStepCall packet names walker) ≡ 0) ⊎ (refusalIn (walkStepCall packet names walker) ≡ 30)
+  items-number : namesFault names ≡ 0
+      → (refusalIn (walkStepCall packet names walker told) ≡ 0) ⊎ (refusalIn (walkStepCall packet names walker told) ≡ 30)
   items-number z =
       let w : Walker = walkerFrom walker in
       subst (λ (n : ℕ). (n ≡ 0) ⊎ (n ≡ 30)) (called _ (steps-on packet names w unrefused z))
@@ -159,8 +160,8 @@ module _ (packet names walker : List ℕ) (long : length walker ≡ walker-bytes
 
 -- whatever the 56 bytes of a walk are, a step gives 43 with a list of names that opening refuses, and 0 or 30 with any other
 pub step-numbers : StepNumbers
-step-numbers packet names walker long =
+step-numbers packet names walker told long fits =
     record {
-      by-names = λ h. names-number packet names walker long h ∙ fault-is names h;
-      by-items = items-number packet names walker long;
+      by-names = λ h. names-number packet names walker told long fits h ∙ fault-is names h;
+      by-items = items-number packet names walker told long fits;
     }

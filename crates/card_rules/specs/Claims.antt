@@ -6,7 +6,7 @@ use Prim.Native.Nat.{ℕ, _^_, _<_, _≤_}
 use lib.ListN.{length, getD, replicate}
 use Rattle.base_rules.specs.Answer.{granted, answerIn}
 use Rattle.base_rules.specs.Bounds.{most-f, most-l}
-use Rattle.base_rules.specs.Bytes.{Bytes}
+use Rattle.base_rules.specs.Bytes.{Bytes, splice}
 use Rattle.cut_rules.specs.Plan.{planFault, figuresOf}
 use Rattle.cut_rules.specs.declared.Address.{Address}
 use Rattle.cut_rules.specs.declared.Settings.{Settings}
@@ -26,9 +26,9 @@ use Rattle.walk_rules.specs.declared.Handed.the-variants as handed
 use Rattle.walk_rules.specs.declared.Walker.{Walker}
 use Rattle.walk_rules.specs.Names.{deepest, namesFault}
 use Rattle.walk_rules.specs.Step.{opens, walkStep}
-use Rattle.card_rules.specs.Told.{refusalIn, CardWritten}
-use Rattle.card_rules.specs.Receiving.{Held, CardReceived, clearFor}
-use Rattle.card_rules.specs.Items.{walker-bytes, walkerBytes, walkerFrom, walkStepCall}
+use Rattle.card_rules.specs.Told.{refusalIn, inWidths, bytesFor, CardWritten}
+use Rattle.card_rules.specs.Receiving.{receiptTold, receipt-widths, Held, CardReceived, clearFor}
+use Rattle.card_rules.specs.Items.{walker-bytes, walkerBytes, walkerFrom, step-widths, walkStepCall}
 use Rattle.card_rules.specs.Blocks.{CardFilled}
 
 -- ---- the sender: what it tells
@@ -75,6 +75,27 @@ RefusedUnchanged =
     (own : Address) (datagram : List ℕ) (before after : Held) (r : ℕ) → Bytes (before .record-bytes)
     → CardReceived own datagram before after r → (r ≡ 0 → ⊥) → (r ≡ 13 → ⊥) → after ≡ before
 
+-- what is told of a packet: with 1 its length, and it stands at the front of out; with 0 none was handed out, and out stays
+pub data Shown (out after : List ℕ) : ℕ → ℕ → Type 0 where
+  handed-out : (P : List ℕ) → after ≡ splice out 0 P → Shown out after 1 (length P)
+  only-kept : after ≡ out → Shown out after 0 0
+
+-- what a receiving that was not refused tells stands at the front of `told`, all 8 bytes of it
+pub record Said (before after : Held) : Type 0 where
+  pub handed : ℕ
+  pub l : ℕ
+  pub missing : ℕ
+  pub displaced : Displaced
+  pub room : bytesFor receipt-widths ≤ length (before .told)
+  pub told : after .told ≡ splice (before .told) 0 (inWidths receipt-widths (receiptTold handed l missing displaced))
+  pub shown : Shown (before .out) (after .out) handed l
+
+-- card.h, "Gives 0 ..; or 13": such a receiving has told what it did, so that no packet is handed out in silence
+abbrev pub NoSilence : Type 0
+NoSilence =
+    (own : Address) (datagram : List ℕ) (before after : Held) (r : ℕ) → CardReceived own datagram before after r
+    → (r ≡ 0) ⊎ (r ≡ 13) → Said before after
+
 -- card.h, "its length (2), how many of its fragments are not held (2)": at most 8,192 and 256, neither is cut off
 abbrev pub ReceiptWhole : Type 0
 ReceiptWhole =
@@ -110,14 +131,16 @@ StepsTyped = (packet names : List ℕ) (w : Walker) → length packet < 2 ^ 64 �
 abbrev pub ReadBack : Type 0
 ReadBack = (w : Walker) → TypedWalk w → walkerFrom (walkerBytes w) ≡ w
 
--- whatever the 56 bytes are, a step gives 43 with a list of names that opening refuses,
+-- whatever the 56 bytes are, a step with room for what it tells gives 43 with a list of names that opening refuses,
 pub record StepNumber (names : List ℕ) (n : ℕ) : Type 0 where
   pub by-names : (namesFault names ≡ 0 → ⊥) → n ≡ 43
   pub by-items : namesFault names ≡ 0 → (n ≡ 0) ⊎ (n ≡ 30)
 
 -- and with any other list 0 or 30
 abbrev pub StepNumbers : Type 0
-StepNumbers = (packet names walker : List ℕ) → length walker ≡ walker-bytes → StepNumber names (refusalIn (walkStepCall packet names walker))
+StepNumbers =
+    (packet names walker told : List ℕ) → length walker ≡ walker-bytes → bytesFor step-widths ≤ length told
+    → StepNumber names (refusalIn (walkStepCall packet names walker told))
 
 -- ---- items: what is told of them
 

@@ -1,6 +1,6 @@
 -- What the calls for C on a packet's items answer: finding by name, and a walk, which C holds as bytes (document 01, "TAG layer").
 use mathlib.Core.Path.{_≡_}
-use mathlib.Core.Bool.{not, cond}
+use mathlib.Core.Bool.{Bool, not, cond, _||_}
 use mathlib.Core.List.{List, [], _∷_}
 use Prim.Native.Nat.{ℕ}
 use lib.Dec.{eqb}
@@ -14,7 +14,7 @@ use Rattle.walk_rules.specs.declared.Handed.the-variants as handed
 use Rattle.walk_rules.specs.declared.Walker.{Walker}
 use Rattle.walk_rules.specs.declared.Walked.{Walked}
 use Rattle.walk_rules.specs.Step.{opens, walkStep}
-use Rattle.card_rules.specs.Told.{refusalIn, inWidths, toldOf}
+use Rattle.card_rules.specs.Told.{refusalIn, inWidths, tooShort, toldOf}
 
 -- the widths of what finding tells: which packet 1 byte; the name, which was given, none; the bits 4, the value's place 8 and its bytes 4
 abbrev pub found-widths : List ℕ
@@ -70,18 +70,21 @@ step-widths = 1 ∷ 1 ∷ 4 ∷ 4 ∷ 8 ∷ 4 ∷ []
 abbrev pub stepped : List ℕ → List ℕ → List ℕ → Walked
 stepped packet names walker = walkStep packet names (walkerFrom walker)
 
--- what is answered: 1 ROOM where there are not the bytes of a walk, else what the step hands out
-unfoldable pub walkStepCall : List ℕ → List ℕ → List ℕ → Answer
-walkStepCall packet names walker =
-    cond (eqb (length walker) walker-bytes) (steppedNumber (stepped packet names walker .handed)) (refused 1)
+-- 1 ROOM: not the bytes of a walk, or too few for what is told
+unfoldable pub stepRoom : List ℕ → List ℕ → Bool
+stepRoom walker told = not (eqb (length walker) walker-bytes) || tooShort step-widths told
+
+-- what is answered: 1 ROOM, else what the step hands out
+unfoldable pub walkStepCall : List ℕ → List ℕ → List ℕ → List ℕ → Answer
+walkStepCall packet names walker told = cond (stepRoom walker told) (refused 1) (steppedNumber (stepped packet names walker .handed))
 
 -- the bytes of the walk afterwards: where it goes on; a refusal leaves them
-unfoldable pub walkerAfter : List ℕ → List ℕ → List ℕ → List ℕ
-walkerAfter packet names walker =
-    cond (eqb (refusalIn (walkStepCall packet names walker)) 0) (walkerBytes (stepped packet names walker .next)) walker
+unfoldable pub walkerAfter : List ℕ → List ℕ → List ℕ → List ℕ → List ℕ
+walkerAfter packet names walker told =
+    cond (eqb (refusalIn (walkStepCall packet names walker told)) 0) (walkerBytes (stepped packet names walker .next)) walker
 
 -- a step for C: the number given back, what is told, and the bytes of the walk
 pub record CardStepped (packet names walker walker-after told told-after : List ℕ) (r : ℕ) : Type 0 where
-  pub number : r ≡ refusalIn (walkStepCall packet names walker)
-  pub tells : told-after ≡ toldOf step-widths (walkStepCall packet names walker) told
-  pub goes : walker-after ≡ walkerAfter packet names walker
+  pub number : r ≡ refusalIn (walkStepCall packet names walker told)
+  pub tells : told-after ≡ toldOf step-widths (walkStepCall packet names walker told) told
+  pub goes : walker-after ≡ walkerAfter packet names walker told

@@ -1,23 +1,26 @@
 -- What the receiver's calls for C answer: their answers as numbers, and what C holds for them as bytes (document 01, "The four places").
 use mathlib.Core.Path.{_≡_}
-use mathlib.Core.Bool.{cond}
+use mathlib.Core.Bool.{true, cond}
 use mathlib.Core.List.{List, [], _∷_, _++_}
 use Prim.Native.Nat.{ℕ}
 use lib.Dec.{eqb}
 use Rattle.base_rules.specs.Answer.{Answer, granted, refused, answered, Outcome, settled}
 use Rattle.base_rules.specs.Answer as answers
 use Rattle.base_rules.specs.Bounds.{most-l}
+use Rattle.base_rules.specs.Bytes.{splice}
+use Rattle.base_rules.specs.Tests.{first}
 use Rattle.cut_rules.specs.declared.Address.{Address}
 use Rattle.places_rules.specs.declared.Place.{Place}
 use Rattle.places_rules.specs.declared.Table.{Table}
 use Rattle.places_rules.specs.declared.Displaced.{Displaced}
 use Rattle.places_rules.specs.declared.Displaced.the-variants.{None, Number}
 use Rattle.places_rules.specs.Places.{free, freshTable, placeAt, keyIn}
+use Rattle.places_rules.specs.Faults.{badTable}
 use Rattle.packed_rules.specs.Packed.{packedOf, tableFrom, unpackFault, unpackCall}
 use Rattle.receiver_rules.specs.Promise.{numberOf, outcome, roomFault, Step}
 use Rattle.receiver_rules.specs.declared.Received.{Received}
 use Rattle.receiver_rules.specs.declared.Received.the-variants.{Kept, Delivered, Damaged, Refused}
-use Rattle.card_rules.specs.Told.{toldIn, inWidths}
+use Rattle.card_rules.specs.Told.{inWidths, tooShort}
 
 -- ---- the record in its bytes
 
@@ -65,12 +68,16 @@ receiptTold handed length missing d = handed ∷ length ∷ missing ∷ displace
 abbrev pub receipt-widths : List ℕ
 receipt-widths = 1 ∷ 2 ∷ 2 ∷ 1 ∷ 2 ∷ []
 
--- what stands afterwards in the bytes lent for what is told: that of the answer, where it has place; a refused datagram tells nothing
+-- what stands afterwards in the bytes lent for what is told: that of the answer, at the front; a refused datagram tells nothing
 unfoldable pub toldAfter : Received → List ℕ → List ℕ
-toldAfter (Kept d) before = toldIn before (inWidths receipt-widths (receiptTold 0 0 0 d))
-toldAfter (Delivered length missing d) before = toldIn before (inWidths receipt-widths (receiptTold 1 length missing d))
-toldAfter (Damaged d) before = toldIn before (inWidths receipt-widths (receiptTold 0 0 0 d))
+toldAfter (Kept d) before = splice before 0 (inWidths receipt-widths (receiptTold 0 0 0 d))
+toldAfter (Delivered length missing d) before = splice before 0 (inWidths receipt-widths (receiptTold 1 length missing d))
+toldAfter (Damaged d) before = splice before 0 (inWidths receipt-widths (receiptTold 0 0 0 d))
 toldAfter (Refused n) before = before
+
+-- "A fragment is checked in the order 14, then 1": the number where `told` is too short
+unfoldable pub shortFault : Table → ℕ
+shortFault t = first ((badTable t, 14) ∷ (true, 1) ∷ [])
 
 -- what C lends and gets back: the packed record, the lent bytes, the bytes told, the packet buffer
 pub record Held : Type 0 where
@@ -90,7 +97,12 @@ pub record ReceivedWith (own : Address) (datagram : List ℕ) (before after : He
   pub told : after .told ≡ toldAfter answer (before .told)
   pub number : r ≡ numberOf answer .0
 
--- the call was answered with the number r: what is no record is refused, and nothing is changed; else as above with the record in the bytes
+-- a refusal with the number n: it is given back, and nothing is changed
+abbrev pub RefusedWith : Held → Held → ℕ → ℕ → Type 0
+RefusedWith before after r n = (r ≡ n) × (after ≡ before)
+
+-- the call was answered with the number r: what is no record is refused, then a `told` that is too short; else as above with the record
 unfoldable pub CardReceived : Address → List ℕ → Held → Held → ℕ → Type 0
-CardReceived own datagram before after r = onRecord (before .record-bytes) (λ n. (r ≡ n) × (after ≡ before))
-    (ReceivedWith own datagram before after r)
+CardReceived own datagram before after r =
+    onRecord (before .record-bytes) (RefusedWith before after r)
+    (λ t. cond (tooShort receipt-widths (before .told)) (RefusedWith before after r (shortFault t)) (ReceivedWith own datagram before after r t))

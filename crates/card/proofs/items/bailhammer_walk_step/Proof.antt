@@ -1,7 +1,9 @@
 -- `bailhammer_walk_step` meets its contract: a refusal leaves the walk's bytes. Assumes nothing.
 use mathlib.Core.Path.{ap, _∙_}
+use native.Mathlib.Omega.{arith}
 use Rattle.walk_rules.specs.Step.{walkStep}
-use Rattle.card_rules.proofs.ItemLaws.{step-short, step-on, step-not}
+use Rattle.card_rules.specs.Told.{bytesFor}
+use Rattle.card_rules.proofs.ItemLaws.{step-short, step-untold, step-on, step-not}
 use borrow.Author.Needs.{needs}
 use Rattle.card.proofs.items.bailhammer_walk_step.Statement.{statement}
 use Rattle.card.proofs.items.bailhammer_walk_step.Tie as tie
@@ -12,31 +14,43 @@ returns c =
     step-short (a .packet .now) (a .names .now) (a .walker .now) (a .told .now) (c .if1 .taken)
 
 returns-2 : tie.Need-returns-2
+unfolding bytesFor
 returns-2 c =
+    let a = c .before .before .before .before .before .before .args in
+    step-untold (a .packet .now) (a .names .now) (a .walker .now) (a .told .now) (omega arith)
+
+returns-3 : tie.Need-returns-3
+unfolding bytesFor
+returns-3 c =
     let written = c .before .before in
     let tested = written .before .before .before in
     let told = tested .before .before .before in
     let stepped = told .before .before in
     let read = stepped .before in
-    let sized = read .before .before in
+    let fits = read .before .before in
+    let sized = fits .before in
     let a = sized .before .before .before .before .before .args in
     step-on (a .packet .now) (a .names .now) (a .walker .now) (a .told .now) (stepped .walk-step .result) (sized .if1 .left)
+    (omega (arith, fits .if2 .left))
     (stepped .walk-step .ensures ∙ ap (walkStep (a .packet .now) (a .names .now)) (read .walker-from .ensures))
     (told .tell-step .ensures)
-    (tested .if2 .taken)
+    (tested .if3 .taken)
     (written .write-walker .ensures)
 
-returns-3 : tie.Need-returns-3
-returns-3 c =
+returns-4 : tie.Need-returns-4
+unfolding bytesFor
+returns-4 c =
     let told = c .before .before .before in
     let stepped = told .before .before in
     let read = stepped .before in
-    let sized = read .before .before in
+    let fits = read .before .before in
+    let sized = fits .before in
     let a = sized .before .before .before .before .before .args in
     step-not (a .packet .now) (a .names .now) (a .walker .now) (a .told .now) (stepped .walk-step .result) (sized .if1 .left)
+    (omega (arith, fits .if2 .left))
     (stepped .walk-step .ensures ∙ ap (walkStep (a .packet .now) (a .names .now)) (read .walker-from .ensures))
     (told .tell-step .ensures)
-    (c .if2 .left)
+    (c .if3 .left)
 
 walker-from-requires : tie.Need-walker-from-requires
 walker-from-requires c κs = search needs
@@ -67,13 +81,14 @@ bailhammer-walk-step-spec =
     tie.close
     (tie.spec
     returns
+    returns-2
     walker-from-requires
     walk-step-requires
     tell-step-requires
     write-walker-requires
     same-length
     same-length-2
-    returns-2
+    returns-3
     same-length-3
     same-length-4
-    returns-3)
+    returns-4)

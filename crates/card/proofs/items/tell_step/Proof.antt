@@ -1,7 +1,6 @@
 -- `tell_step` meets its contract, case by case: a refusal tells nothing. Assumes nothing.
 use mathlib.Core.Path.{refl, ap}
-use Rattle.base_rules.specs.Bytes.{bytesOf}
-use Rattle.card_rules.specs.Told.{inWidths}
+use Rattle.card_rules.specs.Told.{bytesFor}
 use Rattle.card_rules.specs.Items.{step-widths, steppedNumber}
 use Rattle.card_rules.proofs.ToldLaws.{told-granted, told-refused}
 use borrow.Author.Needs.{needs}
@@ -9,11 +8,11 @@ use Rattle.card.proofs.items.tell_step.Statement.{statement}
 use Rattle.card.proofs.items.tell_step.Tie as tie
 
 tell-requires : tie.Need-tell-requires
-unfolding inWidths bytesOf
+unfolding bytesFor
 tell-requires c κs = (refl, refl)
 
 tell-requires-2 : tie.Need-tell-requires-2
-unfolding inWidths bytesOf
+unfolding bytesFor
 tell-requires-2 c κs = (refl, refl)
 
 returns : tie.Need-returns

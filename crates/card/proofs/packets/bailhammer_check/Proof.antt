@@ -3,8 +3,7 @@ use mathlib.Core.Path.{refl, sym, ap, _∙_}
 use mathlib.Core.List.{[], _∷_}
 use Prim.Native.Nat.{ℕ}
 use Rattle.af_rules.specs.Calls.{numberOf}
-use Rattle.base_rules.specs.Bytes.{bytesOf}
-use Rattle.card_rules.specs.Told.{inWidths}
+use Rattle.card_rules.specs.Told.{bytesFor}
 use Rattle.card_rules.specs.Packets.{check-widths}
 use Rattle.card_rules.proofs.ToldLaws.{told-granted, told-refused}
 use borrow.Author.Needs.{needs}
@@ -12,7 +11,7 @@ use Rattle.card.proofs.packets.bailhammer_check.Statement.{statement}
 use Rattle.card.proofs.packets.bailhammer_check.Tie as tie
 
 tell-requires : tie.Need-tell-requires
-unfolding inWidths bytesOf
+unfolding bytesFor
 tell-requires c κs = (refl, refl)
 
 returns : tie.Need-returns

@@ -8,7 +8,8 @@ use Rattle.packed_rules.specs.Claims.{TypedTable}
 use Rattle.places_rules.specs.Places.{four, placeAt}
 use Rattle.places_rules.proofs.Records.{as-long}
 use Rattle.card_rules.specs.Calls.{addressOf}
-use Rattle.card_rules.proofs.ReceiveLaws.{receive-refused, received-there, typed-place}
+use Rattle.card_rules.specs.Told.{bytesFor}
+use Rattle.card_rules.proofs.ReceiveLaws.{receive-refused, receive-short, received-there, typed-place}
 use borrow.Author.Needs.{needs}
 use Rattle.card.proofs.receiving.bailhammer_receive.Statement.{statement}
 use Rattle.card.proofs.receiving.bailhammer_receive.Tie as tie
@@ -17,23 +18,34 @@ enum-told : tie.Need-enum-told
 enum-told c = search needs
 
 returns : tie.Need-returns
+unfolding bytesFor
 returns c =
+    let short = c .before in
+    let opened = short .before .before .before in
+    let a = opened .before .before .before .before .before .before .before .args in
+    receive-short (addressOf (a .addressed) (a .source) (a .dest)) (a .datagram .now) _ _ _ (opened .unpack .result .answer)
+    (opened .unpack .result .table)
+    (opened .unpack .ensures) (short .before .enum-told .given .1) (omega (arith, short .if1 .taken)) (c .short-number .ensures) refl
+
+returns-2 : tie.Need-returns-2
+returns-2 c =
     let opened = c .before .before .before in
     let a = opened .before .before .before .before .before .before .before .args in
     receive-refused (addressOf (a .addressed) (a .source) (a .dest)) (a .datagram .now) _ _ _ (opened .unpack .result .answer)
     (opened .unpack .result .table)
     (opened .unpack .ensures) (c .before .fault .given .1) refl
 
-returns-2 : tie.Need-returns-2
-unfolding placeAt
-returns-2 c =
+returns-3 : tie.Need-returns-3
+unfolding placeAt bytesFor
+returns-3 c =
     let said = c .before .before in
     let packed = said .before .before .before .before in
     let got = packed .before .before .before .before .before .before in
     let addressed = got .before .before .before in
-    let told = addressed .before in
+    let fits = addressed .before in
+    let told = fits .before in
     let opened = told .before .before in
-    let start = told .before .before .before .before .before .before .before .before .before in
+    let start = opened .before .before .before .before .before .before .before in
     let a = start .args in
     let t = got .receive .result .table in
     let ok = got .receive .ok .1 .1 .0 .1 .1 in
@@ -47,7 +59,10 @@ returns-2 c =
     (opened .unpack .result .answer)
     (opened .unpack .result .table) (opened .unpack .ensures) (addressed .address-of .result) (packed .pack .result) t (got .receive .result .answer)
     (told .enum-told .given .1) (addressed .address-of .ensures) (got .receive .ensures) typed (packed .pack .ensures)
-    (said .tell-receipt .ensures)
+    (omega (arith, fits .if1 .left)) (said .tell-receipt .ensures)
+
+short-number-requires : tie.Need-short-number-requires
+short-number-requires c κs = search needs
 
 unpack-requires : tie.Need-unpack-requires
 unpack-requires c κs = search needs
@@ -68,6 +83,7 @@ pack-requires : tie.Need-pack-requires
 pack-requires c κs = search needs
 
 tell-receipt-requires : tie.Need-tell-receipt-requires
+unfolding bytesFor
 tell-receipt-requires c κs = search needs
 
 same-length : tie.Need-same-length
@@ -85,6 +101,9 @@ same-length-4 c = search needs
 same-length-5 : tie.Need-same-length-5
 same-length-5 c = search needs
 
+same-length-6 : tie.Need-same-length-6
+same-length-6 c = search needs
+
 pub bailhammer-receive-spec : {M : Type 1} → statement M
 bailhammer-receive-spec =
     tie.close
@@ -93,14 +112,17 @@ bailhammer-receive-spec =
     enum-known-fault
     cast-result
     enum-told
+    short-number-requires
+    same-length
+    returns
     address-of-requires
     receive-requires
     pack-requires
     tell-receipt-requires
-    same-length
-    returns
     same-length-2
+    returns-2
     same-length-3
     same-length-4
     same-length-5
-    returns-2)
+    same-length-6
+    returns-3)

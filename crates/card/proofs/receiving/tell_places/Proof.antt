@@ -1,18 +1,16 @@
 -- `tell_places` meets its contract: a refusal tells nothing. Assumes nothing.
-use mathlib.Core.Path.{ap}
-use Rattle.base_rules.specs.Bytes.{bytesOf}
-use Rattle.card_rules.specs.Told.{inWidths}
+use mathlib.Core.Path.{refl, ap}
+use Rattle.card_rules.specs.Told.{bytesFor}
 use Rattle.card_rules.specs.Receiving.{places-widths}
 use Rattle.card_rules.specs.inner.Queried.{queriedIn}
 use Rattle.card_rules.proofs.ToldLaws.{told-granted, told-refused}
-use Rattle.card_rules.proofs.TellLaws.{as-wide}
 use borrow.Author.Needs.{needs}
 use Rattle.card.proofs.receiving.tell_places.Statement.{statement}
 use Rattle.card.proofs.receiving.tell_places.Tie as tie
 
 tell-requires : tie.Need-tell-requires
-unfolding inWidths bytesOf
-tell-requires c κs = as-wide places-widths (c .before .shown-values .result) (search needs)
+unfolding bytesFor
+tell-requires c κs = (search needs, refl)
 
 returns : tie.Need-returns
 unfolding queriedIn

@@ -1,13 +1,15 @@
 -- `tell_receipt` meets its contract: a refusal tells nothing. Assumes nothing.
 use mathlib.Core.Path.{_≡_, refl, sym, ap, _∙_}
 use mathlib.Core.List.{List}
-use Prim.Native.Nat.{ℕ}
-use Rattle.base_rules.specs.Bytes.{bytesOf}
+use Prim.Native.Nat.{ℕ, _≤_}
+use lib.ListN.{length}
+use Rattle.base_rules.specs.Answer.{granted}
+use Rattle.base_rules.specs.Bytes.{splice}
 use Rattle.receiver_rules.specs.Promise.{numberOf}
 use Rattle.receiver_rules.specs.declared.Received.{Received}
-use Rattle.card_rules.specs.Told.{toldIn, inWidths}
+use Rattle.card_rules.specs.Told.{inWidths, bytesFor, CardTold}
 use Rattle.card_rules.specs.Receiving.{receipt-widths, toldAfter}
-use Rattle.card_rules.proofs.TellLaws.{as-wide}
+use Rattle.card_rules.proofs.TellLaws.{told-room}
 use borrow.Author.Needs.{needs}
 use Rattle.card.proofs.receiving.tell_receipt.Statement.{statement}
 use Rattle.card.proofs.receiving.tell_receipt.Tie as tie
@@ -16,43 +18,50 @@ abbrev number : Received → ℕ
 number a = numberOf a .0
 
 -- the number and what is told, where the answer a is the case x, which shows these figures
-told-in : (before after : List ℕ) {a x : Received} {values shown : List ℕ} → a ≡ x → values ≡ shown
-    → after ≡ toldIn before (inWidths receipt-widths values) → toldIn before (inWidths receipt-widths shown) ≡ toldAfter x before
-    → (number x ≡ number a) × (after ≡ toldAfter a before)
-told-in before after is e h same = (
+told-in : (before after : List ℕ) {a x : Received} {values shown : List ℕ} {r : ℕ} → bytesFor receipt-widths ≤ length before → a ≡ x
+    → values ≡ shown → CardTold receipt-widths (granted values) before after r
+    → splice before 0 (inWidths receipt-widths shown) ≡ toldAfter x before → (number x ≡ number a) × (after ≡ toldAfter a before)
+told-in before after room is e h same = (
   sym (ap number is),
-  h ∙ ap (λ (l : List ℕ). toldIn before (inWidths receipt-widths l)) e ∙ same ∙ sym (ap (λ (x : Received). toldAfter x before) is),
+  h .told
+      ∙ told-room receipt-widths _ before room
+      ∙ ap (λ (l : List ℕ). splice before 0 (inWidths receipt-widths l)) e
+      ∙ same
+      ∙ sym (ap (λ (x : Received). toldAfter x before) is),
 )
 
 tell-requires : tie.Need-tell-requires
-unfolding inWidths bytesOf
-tell-requires c κs = as-wide receipt-widths (c .before .receipt-values .result) (search needs)
+unfolding bytesFor
+tell-requires c κs = (search needs, refl)
 
 tell-requires-2 : tie.Need-tell-requires-2
-unfolding inWidths bytesOf
-tell-requires-2 c κs = as-wide receipt-widths (c .before .receipt-values2 .result) (search needs)
+unfolding bytesFor
+tell-requires-2 c κs = (search needs, refl)
 
 tell-requires-3 : tie.Need-tell-requires-3
-unfolding inWidths bytesOf
-tell-requires-3 c κs = as-wide receipt-widths (c .before .receipt-values3 .result) (search needs)
+unfolding bytesFor
+tell-requires-3 c κs = (search needs, refl)
 
 returns : tie.Need-returns
 unfolding numberOf toldAfter
 returns c =
     let listed = c .before .before .before .before in
-    told-in _ _ (listed .before .before .before .before .a .given .1) (listed .receipt-values .ensures) (c .before .before .tell .ensures) refl
+    let known = listed .before .before .before .before in
+    told-in _ _ (known .before .before .before .pre) (known .a .given .1) (listed .receipt-values .ensures) (c .before .before .tell .ensures) refl
 
 returns-2 : tie.Need-returns-2
 unfolding numberOf toldAfter
 returns-2 c =
     let listed = c .before .before .before .before in
-    told-in _ _ (listed .before .before .before .before .a2 .given .1) (listed .receipt-values2 .ensures) (c .before .before .tell2 .ensures) refl
+    let known = listed .before .before .before .before in
+    told-in _ _ (known .before .before .before .pre) (known .a2 .given .1) (listed .receipt-values2 .ensures) (c .before .before .tell2 .ensures) refl
 
 returns-3 : tie.Need-returns-3
 unfolding numberOf toldAfter
 returns-3 c =
     let listed = c .before .before .before .before in
-    told-in _ _ (listed .before .before .before .before .a3 .given .1) (listed .receipt-values3 .ensures) (c .before .before .tell3 .ensures) refl
+    let known = listed .before .before .before .before in
+    told-in _ _ (known .before .before .before .pre) (known .a3 .given .1) (listed .receipt-values3 .ensures) (c .before .before .tell3 .ensures) refl
 
 returns-4 : tie.Need-returns-4
 unfolding numberOf toldAfter

@@ -17,18 +17,18 @@ abbrev μ-loop : tie.MeasureT-loop
 returns : tie.Need-returns Inv-loop μ-loop
 returns c =
     let start = c .before .before .before .before in
-    tells-short (start .args .widths .now) (start .args .values .now) (start .args .told .now) (start .args .n) (start .pre .1) (omega arith)
+    tells-short (start .args .widths .now) (start .args .values .now) (start .args .told .now) (start .args .n) (start .pre) (omega arith)
 
 loop-holds : tie.Need-loop-holds Inv-loop μ-loop
 loop-holds c =
     let start = c .before .before .before .before in
-    tells-none (start .args .widths .now) (start .args .values .now) (start .args .told .now) (start .args .n) (start .pre .1)
+    tells-none (start .args .widths .now) (start .args .values .now) (start .args .told .now) (start .args .n) (start .pre)
 
 add-end : tie.Need-add-end Inv-loop μ-loop
 add-end c =
     let turn = c .before .before .loop in
     let start = c .before .before .before .before .before .before .before in
-    let room = tells-room _ _ _ _ (start .pre .1) (turn .inv) (omega arith) (omega arith) (omega (arith, start .pre .0)) in
+    let room = tells-room _ _ _ _ (start .pre) (turn .inv) (omega arith) (omega arith) (omega (arith, start .pre .0)) in
     search needs
 
 shared-slice-read-put-number : tie.Need-shared-slice-read-put-number Inv-loop μ-loop
@@ -38,7 +38,7 @@ put-number-requires : tie.Need-put-number-requires Inv-loop μ-loop
 put-number-requires c κs =
     let turn = c .before .before .before .before .loop in
     let start = c .before .before .before .before .before .before .before .before .before in
-    (omega arith, tells-room _ _ _ _ (start .pre .1) (turn .inv) (omega arith) (omega arith) (omega (arith, start .pre .0)))
+    (omega arith, tells-room _ _ _ _ (start .pre) (turn .inv) (omega arith) (omega arith) (omega (arith, start .pre .0)))
 
 loop-less : tie.Need-loop-less Inv-loop μ-loop
 loop-less c = omega arith
@@ -49,7 +49,7 @@ loop-again c =
     let L = c .before .before .before .before .before .before .before .loop in
     let turn = L in
     let start = Before in
-    tells-more _ _ _ _ (start .pre .1) (turn .inv) _ (omega arith) (omega arith) (omega (arith, start .pre .0)) refl
+    tells-more _ _ _ _ (start .pre) (turn .inv) _ (omega arith) (omega arith) (omega (arith, start .pre .0)) refl
     (c .before .before .put-number .ensures)
 
 same-length : tie.Need-same-length Inv-loop μ-loop
@@ -58,7 +58,7 @@ same-length c = c .before .loop .inv .long
 returns-2 : tie.Need-returns-2 Inv-loop μ-loop
 returns-2 c =
     let start = c .before .before .before .before .before .before in
-    tells-all _ _ _ _ (start .pre .1) (c .before .loop .inv) (omega arith) (omega arith)
+    tells-all _ _ _ _ (start .pre) (c .before .loop .inv) (omega arith) (omega arith)
 
 mul-end : tie.Need-mul-end Inv-loop μ-loop
 mul-end c = search needs
