@@ -4,11 +4,12 @@ use mathlib.Core.Bool.{true}
 use mathlib.Core.List.{List, [], _∷_, _++_, append-assoc, append-nil}
 use Prim.Native.Nat.{ℕ, suc, _+_, _-_, _/_, _%_, _<_, _≤_}
 use native.Mathlib.Omega.{arith}
-use borrow.Author.Tests.{le-ltb, lt-ltb}
+use borrow.Author.Tests.{ltb-false, le-ltb, lt-ltb}
 use lib.ListN.{length, getD, take, drop, set, length-append, drop-of-length-le}
 use lib.Seq.{length-take-le, take-set-le, drop-at, drop-cons, set-split}
 use Rattle.base_rules.specs.Answer.{Answer, granted, refused}
 use Rattle.base_rules.specs.Bytes.{splice, bytesOf}
+use Rattle.base_rules.proofs.Logic.{either}
 use Rattle.base_rules.proofs.Numbers.{length-bytes}
 use Rattle.base_rules.proofs.Splice.{splice-none, splice-then, splice-length}
 use Rattle.card_rules.specs.Told.{refusalIn, inWidths, bytesFor, tooShort, roomFor, toldOf, CardTold}
@@ -20,6 +21,12 @@ pub fits-room : (widths told : List ℕ) (a : Answer) → bytesFor widths ≤ le
 unfolding roomFor
 fits-room widths told (granted values) fits = rw (le-ltb (length told) (bytesFor widths) fits)
 fits-room widths told (refused n) fits = refl
+
+-- what was granted had room,
+pub had-room : (widths told values : List ℕ) → 0 ≡ refusalIn (roomFor widths told (granted values)) → bytesFor widths ≤ length told
+unfolding roomFor refusalIn
+had-room widths told values e =
+    either (tooShort widths told) (λ short. let z : _≡_ {A = ℕ} 0 1 = rw short at e in absurd (omega arith)) (λ fits. ltb-false _ _ fits)
 
 -- and the values of an answer that refuses nothing stand at its front
 pub told-room : (widths values before : List ℕ) → bytesFor widths ≤ length before

@@ -15,14 +15,13 @@ use Rattle.receiver_rules.specs.Promise.{displacedValues, numberOf}
 use Rattle.receiver_rules.specs.declared.Received.{Received}
 use Rattle.receiver_rules.specs.declared.Received.the-variants.{Kept, Delivered, Damaged}
 use Rattle.receiver_rules.proofs.Proved.{one-received}
-use Rattle.card_rules.specs.Told.{toldIn, inWidths}
-use Rattle.card_rules.specs.Receiving.{receiptTold, receipt-widths, toldAfter}
+use Rattle.card_rules.specs.Receiving.{toldAfter}
 use Rattle.link.specs.Demand as link
 use Rattle.link.specs.Demand.{by-kept, by-delivered, by-damaged}
 use Rattle.link.proofs.Basic.{same-or-not}
 use Rattle.shipped.specs.Runs.{Call, displacedFrom, handedFrom, answerFrom, callOf}
 use Rattle.shipped.specs.Main.{HandsOut, Names}
-use Rattle.shipped.proofs.Read.{Fits, stands, told-there, displaced-told, handed-told}
+use Rattle.shipped.proofs.Read.{Fits, stands, displaced-told, handed-told}
 use Rattle.shipped.proofs.Runs.{Gave}
 
 -- ---- from what `receive` answers to what is told
@@ -46,23 +45,22 @@ module _ {e : Call} (gave : Gave e) where
   -- a packet that is handed out is told, with its length and the count of its fragments not held
   pub told-handed : (l m : ℕ) (d : Displaced) → link.HandsOut (callOf e) l m d
       → HandsOut e × (numberAt 2 (e .left .told) 1 ≡ l) × (numberAt 2 (e .left .told) 3 ≡ m)
-  unfolding numberOf toldAfter
+  unfolding numberOf toldAfter stands
   told-handed l m d q =
       let t = tells (Delivered l m d) q in
       let there = handed-told (e .told) l m d (t .whole .0) (t .whole .1) in
-      let is : e .left .told ≡ stands (e .told) 1 l m d = t .told ∙ told-there (e .told) 1 l m d (gave .room) in
+      let is : e .left .told ≡ stands (e .told) 1 l m d = t .told in
       rw is ((t .number, there .0), there .1, there .2)
 
   names : (handed l m n : ℕ) → n < 65536 → (e .given ≡ 0) ⊎ (e .given ≡ 13)
-      → e .left .told ≡ toldIn (e .told) (inWidths receipt-widths (receiptTold handed l m (Number n))) → Names e n
-  names handed l m n small given put =
+      → e .left .told ≡ stands (e .told) handed l m (Number n) → Names e n
+  names handed l m n small given is =
       let there = displaced-told (e .told) handed l m n small in
-      let is : e .left .told ≡ stands (e .told) handed l m (Number n) = put ∙ told-there (e .told) handed l m (Number n) (gave .room) in
       record { answered = given; displaced = rw is (there .0); number = rw is (there .1) }
 
   -- a number that is named is told
   pub told-named : (n : ℕ) (a : ℕ × List ℕ) → callOf e .left .answer ≡ a → link.Names (Number n) a → Names e n
-  unfolding numberOf toldAfter
+  unfolding numberOf toldAfter stands
   told-named n a q by-kept = let t = tells (Kept (Number n)) q in names 0 0 0 n (t .whole) (inl (t .number)) (t .told)
   told-named n a q (by-delivered l m) = let t = tells (Delivered l m (Number n)) q in names 1 l m n (t .whole .2) (inl (t .number)) (t .told)
   told-named n a q by-damaged = let t = tells (Damaged (Number n)) q in names 0 0 0 n (t .whole) (inr (t .number)) (t .told)

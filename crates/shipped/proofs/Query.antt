@@ -1,8 +1,8 @@
 -- What bailhammer_query tells in reached buffers, and what the caller reads of it. Assumes nothing.
 use mathlib.Core.Path.{_≡_, refl, sym, ap, _∙_}
 use mathlib.Core.Bool.{cond}
-use mathlib.Core.List.{[], _∷_}
-use Prim.Native.Nat.{ℕ, _%_, _<_}
+use mathlib.Core.List.{List, [], _∷_}
+use Prim.Native.Nat.{ℕ, _%_, _<_, _≤_}
 use native.Mathlib.Nat.{le-refl}
 use native.Mathlib.Omega.{arith}
 use borrow.Author.Tests.{eq-eqb, ne-eqb}
@@ -21,21 +21,22 @@ use Rattle.places_rules.specs.Places.{four, free, open-now, placeAt, keyIn, hel
 use Rattle.places_rules.proofs.Ranges.{range-from}
 use Rattle.receiver_rules.specs.Calls.{shownOf}
 use Rattle.receiver_rules.proofs.Ranges.{place-fine}
-use Rattle.card_rules.specs.Told.{refusalIn, inWidths, toldOf}
+use Rattle.card_rules.specs.Told.{refusalIn, inWidths, bytesFor, roomFor, toldOf}
 use Rattle.card_rules.specs.Receiving.{onRecord, placeTold, placesTold, places-widths, queryFor}
-use Rattle.card_rules.proofs.TellLaws.{told-room}
+use Rattle.card_rules.proofs.TellLaws.{fits-room}
 use Rattle.link.proofs.Basic.{each-place, held-found, held-some, holds-yes, holds-number, holds-some}
 use Rattle.link.proofs.View.{no-room-fault}
-use Rattle.shipped.specs.Runs.{Buffers, stateOf, queried, conditionTold, numberTold, ShownAs, Holds}
+use Rattle.shipped.specs.Runs.{Buffers, stateOf, query-bytes, queried, conditionTold, numberTold, ShownAs, Holds}
 use Rattle.shipped.specs.Runs.{QueryTells, HoldsAlike, OpenTold}
 use Rattle.shipped.proofs.Runs.{Stands, reached-stands}
 use Rattle.shipped.proofs.Typed.{key-small}
 
 -- ---- what is told
 
-twelve : (s : Buffers) → length (queried s) ≡ 12
-unfolding queried inWidths placesTold placeTold bytesOf
-twelve s = refl
+-- 12 bytes are room for it
+room-told : (told : List ℕ) → query-bytes ≤ length told → bytesFor places-widths ≤ length told
+unfolding bytesFor
+room-told told room = omega arith
 
 -- what is told of a place's number
 abbrev shownNumber : Place → ℕ
@@ -91,9 +92,11 @@ module _ (s : Buffers) (stands : Stands s) where
 pub query-tells : QueryTells
 unfolding refusalIn toldOf queried
 query-tells s c told told-after r room said =
-    let due = query-granted s (reached-stands c) in (
-      said .number ∙ ap refusalIn due,
-      said .told ∙ ap (λ (a : Answer). toldOf places-widths a told) due ∙ told-room told (queried s) (omega (arith, twelve s)),
+    let shown : List ℕ = placesTold (tableFrom (s .table)) in
+    let due = ap (roomFor places-widths told) (query-granted s (reached-stands c)) in
+    let granted-so = fits-room places-widths told (granted shown) (room-told told room) in (
+      said .number ∙ ap refusalIn (due ∙ granted-so),
+      said .told ∙ ap (λ (a : Answer). toldOf places-widths a told) (due ∙ granted-so),
     )
 
 -- a number is held, by what is told, where the state holds it and nowhere else

@@ -12,10 +12,9 @@ use Rattle.places_rules.specs.declared.Displaced.the-variants.{None, Number}
 use Rattle.receiver_rules.specs.Promise.{displacedValues, numberOf}
 use Rattle.receiver_rules.specs.declared.Received.{Received}
 use Rattle.receiver_rules.specs.declared.Received.the-variants.{Kept, Delivered, Damaged, Refused}
-use Rattle.card_rules.specs.Told.{toldIn, inWidths}
+use Rattle.card_rules.specs.Told.{inWidths}
 use Rattle.card_rules.specs.Receiving.{displacedTold, receiptTold, receipt-widths, toldAfter}
-use Rattle.card_rules.proofs.TellLaws.{told-room}
-use Rattle.shipped.specs.Runs.{receipt-bytes, displacedFrom, handedFrom, answerFrom}
+use Rattle.shipped.specs.Runs.{displacedFrom, handedFrom, answerFrom}
 
 -- ---- which answers are told whole
 
@@ -34,8 +33,8 @@ Fits (Refused n) = (n ≡ 0 → ⊥) × (n ≡ 13 → ⊥)
 -- ---- read back
 
 module _ (told : List ℕ) (handed l m : ℕ) where
-  -- what stands where there is room for it
-  pub stands : Displaced → List ℕ
+  -- what stands afterwards
+  unfoldable pub stands : Displaced → List ℕ
   stands d = splice told 0 (inWidths receipt-widths (receiptTold handed l m d))
 
   -- a displaced number is told as 1 and itself
@@ -47,16 +46,6 @@ module _ (told : List ℕ) (handed l m : ℕ) where
   unfolding stands splice inWidths receiptTold displacedTold bytesOf displacedFrom displacedValues
   displaced-back None f = refl
   displaced-back (Number n) f = ap (λ (x : ℕ). 1 ∷ x ∷ []) (displaced-told n f .1)
-
-  eight : (d : Displaced) → length (inWidths receipt-widths (receiptTold handed l m d)) ≡ 8
-  unfolding inWidths receiptTold displacedTold bytesOf
-  eight None = refl
-  eight (Number n) = refl
-
-  -- which is so where there are 8 bytes
-  pub told-there : (d : Displaced) → receipt-bytes ≤ length told → toldIn told (inWidths receipt-widths (receiptTold handed l m d)) ≡ stands d
-  unfolding stands
-  told-there d room = told-room told _ (omega (arith, eight d))
 
 none-handed : (told : List ℕ) (d : Displaced) → handedFrom (stands told 0 0 0 d) ≡ []
 unfolding stands splice inWidths receiptTold bytesOf handedFrom
@@ -73,15 +62,10 @@ unfolding stands splice inWidths receiptTold bytesOf handedFrom
 one-handed told l m d small few = let there = handed-told told l m d small few in ap₂ (λ (x y : ℕ). x ∷ y ∷ []) (there .1) (there .2)
 
 -- the answer is read back off its number and what it tells
-pub answer-back : (a : Received) (told : List ℕ) → receipt-bytes ≤ length told → Fits a
-    → answerFrom (numberOf a .0) (toldAfter a told) ≡ numberOf a
-unfolding answerFrom toldAfter numberOf
-answer-back (Kept d) told room f =
-    ap (answerFrom 0) (told-there told 0 0 0 d room)
-    ∙ ap₂ (λ (x y : List ℕ). (0, x ++ y)) (none-handed told d) (displaced-back told 0 0 0 d f)
-answer-back (Delivered l m d) told room f =
-    ap (answerFrom 0) (told-there told 1 l m d room)
-    ∙ ap₂ (λ (x y : List ℕ). (0, x ++ y)) (one-handed told l m d (f .0) (f .1)) (displaced-back told 1 l m d (f .2))
-answer-back (Damaged d) told room f =
-    ap (answerFrom 13) (told-there told 0 0 0 d room) ∙ ap (λ (x : List ℕ). (13, x)) (displaced-back told 0 0 0 d f)
-answer-back (Refused n) told room f = rw (ne-eqb n 0 (f .0), ne-eqb n 13 (f .1))
+pub answer-back : (a : Received) (told : List ℕ) → Fits a → answerFrom (numberOf a .0) (toldAfter a told) ≡ numberOf a
+unfolding answerFrom toldAfter numberOf stands
+answer-back (Kept d) told f = ap₂ (λ (x y : List ℕ). (0, x ++ y)) (none-handed told d) (displaced-back told 0 0 0 d f)
+answer-back (Delivered l m d) told f =
+    ap₂ (λ (x y : List ℕ). (0, x ++ y)) (one-handed told l m d (f .0) (f .1)) (displaced-back told 1 l m d (f .2))
+answer-back (Damaged d) told f = ap (λ (x : List ℕ). (13, x)) (displaced-back told 0 0 0 d f)
+answer-back (Refused n) told f = rw (ne-eqb n 0 (f .0), ne-eqb n 13 (f .1))

@@ -2,7 +2,8 @@
 use mathlib.Core.Path.{_≡_, refl, sym, ap, ap₂, _∙_, subst}
 use mathlib.Core.List.{List, [], _∷_, map}
 use Prim.Native.Nat.{ℕ, _≤_}
-use borrow.Author.Tests.{eq-eqb}
+use native.Mathlib.Omega.{arith}
+use borrow.Author.Tests.{eq-eqb, le-ltb}
 use lib.ListN.{length, replicate}
 use Rattle.base_rules.specs.Answer.{granted}
 use Rattle.base_rules.specs.Bounds.{most-l}
@@ -20,7 +21,8 @@ use Rattle.receiver_rules.specs.Promise.{Outcome, outcome, all-places, Step}
 use Rattle.receiver_rules.specs.declared.Received.{Received}
 use Rattle.receiver_rules.proofs.Proved.{some-outcome}
 use Rattle.card_rules.specs.Calls.{addressOf}
-use Rattle.card_rules.specs.Receiving.{onRecord, toldAfter, Held, ReceivedWith, CardReceived}
+use Rattle.card_rules.specs.Told.{bytesFor}
+use Rattle.card_rules.specs.Receiving.{onRecord, receipt-widths, toldAfter, Held, ReceivedWith, CardReceived}
 use Rattle.card_rules.proofs.Proved.{zeros-fresh}
 use Rattle.card_rules.proofs.ReceiveLaws.{good-record}
 use Rattle.card_rules.proofs.ReceiveProved.{fresh-typed, with-record}
@@ -57,13 +59,17 @@ fresh-stands lent all =
 
 -- ---- a call
 
+-- 8 bytes are room for what it tells
+room-told : (told : List ℕ) → receipt-bytes ≤ length told → bytesFor receipt-widths ≤ length told
+unfolding bytesFor
+room-told told room = omega arith
+
 -- the answer that it gave, which its number and the bytes told are, and which is read off them
 pub record Gave (e : Call) : Type 0 where
   pub answer : Received
   pub whole : Fits answer
   pub number : e .given ≡ promise.numberOf answer .0
   pub told : e .left .told ≡ toldAfter answer (e .told)
-  pub room : receipt-bytes ≤ length (e .told)
   pub read : callOf e .left .answer ≡ promise.numberOf answer
 
 module _ (s : Buffers) (e : Call) (stands : Stands s) (m : Made s e) where
@@ -71,7 +77,7 @@ module _ (s : Buffers) (e : Call) (stands : Stands s) (m : Made s e) where
   before = record { record-bytes = s .table; lent = s .lent; told = e .told; out = e .out }
 
   with : ReceivedWith (addressOf (e .addressed) (e .source) (e .dest)) (e .datagram) before (e .left) (e .given) (tableFrom (s .table))
-  with = with-record (addressOf (e .addressed) (e .source) (e .dest)) (e .datagram) before (e .left) (e .given) (m .meets) (stands .read)
+  with = with-record (addressOf (e .addressed) (e .source) (e .dest)) (e .datagram) before (e .left) (e .given) (m .meets) (stands .read) (room-told (e .told) (m .told-room))
 
   abbrev left : Outcome
   left = outcome (with .answer) (with .table) (e .left .lent) (e .left .out)
@@ -81,7 +87,7 @@ module _ (s : Buffers) (e : Call) (stands : Stands s) (m : Made s e) where
   fits = step-fits (callOf e .own) (stateOf s) (e .datagram) (e .out) left (stands .good) (stands .typed) (m .room) (with .step) (with .answer) refl
 
   answer-read : callOf e .left .answer ≡ promise.numberOf (with .answer)
-  answer-read = ap₂ answerFrom (with .number) (with .told) ∙ answer-back (with .answer) (e .told) (m .told-room) fits
+  answer-read = ap₂ answerFrom (with .number) (with .told) ∙ answer-back (with .answer) (e .told) fits
 
   -- what the caller reads of the call is what it left
   read-left : left ≡ callOf e .left
@@ -98,7 +104,7 @@ module _ (s : Buffers) (e : Call) (stands : Stands s) (m : Made s e) where
   }
 
   call-gave : Gave e
-  call-gave = record { answer = with .answer; whole = fits; number = with .number; told = with .told; room = m .told-room; read = answer-read }
+  call-gave = record { answer = with .answer; whole = fits; number = with .number; told = with .told; read = answer-read }
 
   call-stands : Stands (after e)
   call-stands = record {
@@ -152,8 +158,8 @@ made-gave c m = call-gave _ _ (reached-stands c) m
 
 -- ---- there are calls
 
-module _ (s : Buffers) (stands : Stands s) (own : Address) (datagram told out : List ℕ) (room : most-l ≤ length out) (bytes : Bytes datagram)
-    (y : Outcome) (step : Step own (stateOf s) datagram out y) where
+module _ (s : Buffers) (stands : Stands s) (own : Address) (datagram told out : List ℕ) (room : most-l ≤ length out)
+    (told-room : receipt-bytes ≤ length told) (bytes : Bytes datagram) (y : Outcome) (step : Step own (stateOf s) datagram out y) where
   answers : Answers y
   answers = step-answers own (stateOf s) datagram out y (stands .good) (stands .typed) room step
 
@@ -168,7 +174,7 @@ module _ (s : Buffers) (stands : Stands s) (own : Address) (datagram told out : 
   received : CardReceived own datagram (record { record-bytes = s .table; lent = s .lent; told = told; out = out }) left-by
       (promise.numberOf (answers .0) .0)
   unfolding CardReceived onRecord
-  received = rw (eq-eqb (unpackFault (s .table)) 0 (stands .read)) (record {
+  received = rw (eq-eqb (unpackFault (s .table)) 0 (stands .read), le-ltb (length told) (bytesFor receipt-widths) (room-told told told-room)) (record {
     answer = answers .0;
     table = y .table;
     step = subst (Step own (stateOf s) datagram out) is-outcome step;
@@ -184,7 +190,7 @@ some-call s c addressed source dest datagram told out room told-room bytes =
     let own = addressOf addressed source dest in
     let stands = reached-stands c in
     let y = some-outcome own (stateOf s) datagram out in (
-      left-by s stands own datagram told out room bytes (y .0) (y .1),
-      promise.numberOf (answers s stands own datagram told out room bytes (y .0) (y .1) .0) .0,
-      record { room = room; told-room = told-room; bytes = bytes; meets = received s stands own datagram told out room bytes (y .0) (y .1) },
+      left-by s stands own datagram told out room told-room bytes (y .0) (y .1),
+      promise.numberOf (answers s stands own datagram told out room told-room bytes (y .0) (y .1) .0) .0,
+      record { room = room; told-room = told-room; bytes = bytes; meets = received s stands own datagram told out room told-room bytes (y .0) (y .1) },
     )

@@ -5,7 +5,7 @@ use mathlib.Core.Bool.{false}
 use mathlib.Core.List.{List, [], _∷_}
 use Prim.Native.Nat.{ℕ, zero, suc, _+_, _-_, _≤_, _<_}
 use native.Mathlib.Omega.{arith}
-use borrow.Author.Tests.{eq-eqb, ne-eqb}
+use borrow.Author.Tests.{eq-eqb, ne-eqb, le-ltb}
 use lib.Dec.{eqb}
 use lib.ListN.{length, take, drop}
 use lib.Seq.{take-at}
@@ -25,9 +25,9 @@ use Rattle.sender_rules.proofs.Splitting.{all-passed}
 use Rattle.card_rules.specs.Calls.{addressOf}
 use Rattle.card_rules.specs.Claims.{InTwo, none, more}
 use Rattle.card_rules.specs.Sending.{settingsOf, twos}
-use Rattle.card_rules.specs.Told.{refusalIn, inWidths, toldOf, SentAs}
+use Rattle.card_rules.specs.Told.{refusalIn, inWidths, bytesFor, roomFor, SentAs}
 use Rattle.card_rules.proofs.Proved.{length-whole, split-whole}
-use Rattle.card_rules.proofs.TellLaws.{told-room}
+use Rattle.card_rules.proofs.TellLaws.{had-room, told-room}
 use Rattle.link.specs.Demand as link
 use Rattle.link.proofs.Proved as proved
 use Rattle.shipped.specs.Runs.{Call, callOf}
@@ -59,12 +59,18 @@ record Done (n fault : ℕ) (values written before told told-after after : List 
   pub values-told : told-after ≡ stands n told values
   pub out : after ≡ written
 
-done : (n fault : ℕ) (values written before told told-after after : List ℕ) → length (inWidths (twos n) values) ≤ length told
-    → SentAs (twos n) (settled fault values written before) told told-after after 0 → Done n fault values written before told told-after after
-unfolding refusalIn answerIn bytesIn settled toldOf stands
-done n zero values written before told told-after after room said =
-    record { faultless = refl; values-due = refl; values-told = said .told ∙ told-room told (inWidths (twos n) values) room; out = said .out }
-done n (suc fault) values written before told told-after after room said = absurd (omega (arith, said .number))
+done : (n fault : ℕ) (values written before told told-after after : List ℕ)
+    → SentAs (twos n) (settled fault values written before) told told-after before after 0 → Done n fault values written before told told-after after
+unfolding refusalIn answerIn bytesIn settled roomFor stands
+done n zero values written before told told-after after said =
+    let room = had-room (twos n) told values (said .tells .number) in
+    record {
+      faultless = refl;
+      values-due = refl;
+      values-told = said .tells .told ∙ told-room (twos n) values told room;
+      out = rw (le-ltb (length told) (bytesFor (twos n)) room) at (said .out);
+    }
+done n (suc fault) values written before told told-after after said = absurd (omega (arith, said .tells .number))
 
 -- ---- addresses
 
@@ -110,13 +116,9 @@ module _ (c : Sending) (cut : Cut c) where
   abbrev written : List ℕ
   written = splice (c .out) 0 (fragmentsFor g (c .number) (c .packet))
 
-  eight : length (inWidths (twos 4) figures) ≡ 8
-  unfolding inWidths bytesOf
-  eight = refl
-
   due : Done 4 (fragmentsFault g (c .number) (c .packet) (length (c .out))) figures written (c .out) (c .told) (c .told-after) (c .out-after)
   unfolding fragmentsCall
-  due = done 4 _ figures written (c .out) (c .told) (c .told-after) (c .out-after) (omega (arith, eight, cut .told-room)) (cut .meets)
+  due = done 4 _ figures written (c .out) (c .told) (c .told-after) (c .out-after) (cut .meets)
 
   in-two : InTwo figures
   unfolding fragmentsCall
@@ -147,18 +149,14 @@ module _ (c : Sending) (cut : Cut c) where
       (splits g (c .number) (c .packet) (c .out) (due .faultless) i (omega (arith, count-is)))
 
   -- bailhammer_fragment writes the same
-  module _ (i : ℕ) (less : i < count c) (told told-after out out-after : List ℕ) (room : 2 ≤ length told)
-      (said : SentAs (twos 1) (fragmentCall g (c .number) (c .packet) i out) told told-after out-after 0) where
+  module _ (i : ℕ) (less : i < count c) (told told-after out out-after : List ℕ)
+      (said : SentAs (twos 1) (fragmentCall g (c .number) (c .packet) i out) told told-after out out-after 0) where
     abbrev fragment : List ℕ
     fragment = fragmentFor g (c .number) (c .packet) i
 
-    two : length (inWidths (twos 1) (length fragment ∷ [])) ≡ 2
-    unfolding inWidths bytesOf
-    two = refl
-
     one-due : Done 1 (fragmentFault g (c .number) (c .packet) i (length out)) (length fragment ∷ []) (splice out 0 fragment) out told told-after out-after
     unfolding fragmentCall
-    one-due = done 1 _ (length fragment ∷ []) (splice out 0 fragment) out told told-after out-after (omega (arith, two)) said
+    one-due = done 1 _ (length fragment ∷ []) (splice out 0 fragment) out told told-after out-after said
 
     length-read : numberAt 2 told-after 0 ≡ length fragment
     unfolding fragmentCall
@@ -180,7 +178,7 @@ sent-all c cut = (count-is c cut, fragment-is c cut)
 
 -- one by one they are the same
 pub sent-one : SentOne
-sent-one c cut i less told told-after out out-after room said = one-written c cut i less told told-after out out-after (omega arith) said
+sent-one c cut i less told told-after out out-after said = one-written c cut i less told told-after out out-after said
 
 -- where addresses match they are heard
 pub match-heard : MatchHeard

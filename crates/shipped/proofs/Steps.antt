@@ -1,13 +1,11 @@
 -- What a call of `receive` answers fits the bytes in which C has it: numbers of two bytes, and no refusal as 13. Assumes nothing.
 use mathlib.Core.Path.{_≡_, refl, sym, ap, _∙_, subst}
-use mathlib.Core.Bool.{Bool}
-use mathlib.Core.List.{List, [], _∷_}
+use mathlib.Core.List.{List}
 use Prim.Native.Nat.{ℕ, _≤_, _<_}
 use native.Mathlib.Omega.{arith}
-use lib.Dec.{eqb, lit<}
+use lib.Dec.{eqb}
 use lib.ListN.{length}
 use Rattle.base_rules.specs.Bounds.{most-l, most-f}
-use Rattle.base_rules.specs.Tests.{first}
 use Rattle.base_rules.proofs.Logic.{either}
 use Rattle.cut_rules.specs.declared.Address.{Address}
 use Rattle.header_rules.specs.declared.Header.{Header}
@@ -24,34 +22,10 @@ use Rattle.receiver_rules.specs.declared.Received.the-variants.{Kept, Delivered
 use Rattle.receiver_rules.proofs.Proved.{one-received}
 use Rattle.receiver_rules.proofs.Ranges.{opens-below}
 use Rattle.card_rules.proofs.Proved.{receipt-whole}
+use Rattle.card_rules.proofs.RefusalLaws.{header-other, place-other}
 use Rattle.link.proofs.View.{Good, View, unheard, refuses, keeps, opens, view}
 use Rattle.shipped.proofs.Read.{FitsDisplaced, Fits}
 use Rattle.shipped.proofs.Typed.{key-small}
-
--- ---- refusals
-
-low : (b : Bool) (n : ℕ) (ts : List (Bool × ℕ)) → n < 13 → first ts < 13 → first ((b, n) ∷ ts) < 13
-unfolding first
-low b n ts here rest = either b (λ e. rw e here) (λ e. rw e rest)
-
-not-13 : {n : ℕ} → n < 13 → n ≡ 13 → ⊥
-not-13 l e = omega arith
-
-none-low : first [] < 13
-unfolding first
-none-low = lit< tt
-
-header-low : (own : Address) (d : List ℕ) → faultOf own d < 13
-unfolding faultOf
-header-low own d =
-    low _ 2 _ (lit< tt)
-    (low _ 3 _ (lit< tt)
-    (low _ 4 _ (lit< tt)
-    (low _ 5 _ (lit< tt) (low _ 6 _ (lit< tt) (low _ 7 _ (lit< tt) (low _ 8 _ (lit< tt) none-low))))))
-
-place-low : (p : Place) (h : Header) → placeFault p h < 13
-unfolding placeFault
-place-low p h = low _ 9 _ (lit< tt) (low _ 10 _ (lit< tt) (low _ 11 _ (lit< tt) (low _ 12 _ (lit< tt) none-low)))
 
 -- ---- numbers
 
@@ -78,8 +52,8 @@ module _ (own : Address) (s : State) (d o : List ℕ) (y : Outcome) (r : Good s)
 
   view-fits : Step own s d o y → View own s d o y → Answers y
   unfolding outcome keepAt
-  view-fits step (unheard n q) = (Refused (faultOf own d), ap (λ (z : Outcome). z .answer) q, (n, not-13 (header-low own d)))
-  view-fits step (refuses e l n q) = (Refused (placeFault _ h), ap (λ (z : Outcome). z .answer) q, (n, not-13 (place-low _ h)))
+  view-fits step (unheard n q) = (Refused (faultOf own d), ap (λ (z : Outcome). z .answer) q, (n, header-other own d))
+  view-fits step (refuses e l n q) = (Refused (placeFault _ h), ap (λ (z : Outcome). z .answer) q, (n, place-other _ h))
   view-fits step (keeps e l n z) = settled-fits tt (receipt-whole own s d o y step) z
   view-fits step (opens e l z) =
       settled-fits (displaced-fits (s .table) _ (key-small (typed .each _ (opens-below (s .table) (r .ranged))))) (receipt-whole own s d o y step) z

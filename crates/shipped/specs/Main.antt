@@ -40,14 +40,10 @@ pub record Sending : Type 0 where
 abbrev pub settings : Sending → Settings
 settings c = settingsOf (c .fec) (c .m) (c .mtu) (c .addressed) (c .source) (c .dest)
 
--- card.h, bailhammer_fragments: "Tells 8 bytes"
-abbrev pub split-bytes : ℕ
-split-bytes = 8
-
--- the call gave 0, with room for what it tells; numbers and bytes are what their types in card.h say
+-- the call gave 0; numbers and bytes are what their types in card.h say
 pub record Cut (c : Sending) : Type 0 where
-  pub meets : SentAs (twos 4) (fragmentsCall (settings c) (c .number) (c .packet) (c .out)) (c .told) (c .told-after) (c .out-after) 0
-  pub told-room : split-bytes ≤ length (c .told)
+  pub meets : SentAs (twos 4) (fragmentsCall (settings c) (c .number) (c .packet) (c .out)) (c .told) (c .told-after) (c .out)
+      (c .out-after) 0
   pub bytes : Bytes (c .packet)
   pub number : c .number < 65536
   pub source : c .source < 65536
@@ -172,8 +168,8 @@ SentAll =
 -- bailhammer_fragment, which writes one at the front of out and tells its length, writes the same
 abbrev pub SentOne : Type 0
 SentOne =
-    (c : Sending) → Cut c → (i : ℕ) → i < count c → (told told-after out out-after : List ℕ) → 2 ≤ length told
-    → SentAs (twos 1) (fragmentCall (settings c) (c .number) (c .packet) i out) told told-after out-after 0
+    (c : Sending) → Cut c → (i : ℕ) → i < count c → (told told-after out out-after : List ℕ)
+    → SentAs (twos 1) (fragmentCall (settings c) (c .number) (c .packet) i out) told told-after out out-after 0
     → take (numberAt 2 told-after 0) out-after ≡ fragmentAt c i
 
 -- "addresses match": the packet is sent without one, or the call is handed the same
