@@ -25,8 +25,8 @@ enum {
     MTU = 1400,
     H = 16,             /* bytes of a fragment's header */
     SENT = F * (H + S), /* bytes of all fragments */
-    SPLIT = 8,          /* bytes that say how they are split */
-    TOLD = 8,           /* those that it tells */
+    SPLIT = BAILHAMMER_TOLD_FRAGMENTS, /* bytes that say how they are split */
+    TOLD = BAILHAMMER_TOLD_RECEIVE, /* those that it tells */
     COME = F - M,       /* fragments that come where M are lost */
     ENOUGH = 13,        /* of which so many suffice: three of F are PARITY bytes of a chunk at most */
     LATE = 11,          /* what the receiver says of a fragment of a packet that was handed out */

@@ -53,7 +53,7 @@ static int is_lost(size_t index)
 /* Hands the receiver one fragment; gives the length of the packet that it completes, else 0. */
 static size_t receive(size_t index, const uint8_t *fragment, size_t length)
 {
-    uint8_t told[8];
+    uint8_t told[BAILHAMMER_TOLD_RECEIVE];
     size_t number = bailhammer_receive(NO_ADDRESS, 0, 0, record, sizeof record, lent, sizeof lent, fragment, length, told, sizeof told,
                                        out, sizeof out);
     check("receive", number);
@@ -68,7 +68,7 @@ static size_t receive(size_t index, const uint8_t *fragment, size_t length)
 int main(void)
 {
     size_t l = make_packet();
-    uint8_t told[8];
+    uint8_t told[BAILHAMMER_TOLD_FRAGMENTS];
     check("fragments", bailhammer_fragments(FEC, M, MTU, NO_ADDRESS, 0, 0, NUMBER, packet, l, told, sizeof told, sent, sizeof sent));
     size_t f = two(told), h = two(told + 2), s = two(told + 4), last = two(told + 6);
     printf("packet of %zu bytes: %zu fragments of %zu bytes\n", l, f, h + s);

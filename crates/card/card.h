@@ -16,6 +16,16 @@ extern "C" {
 #define BAILHAMMER_WALKER 56   /* a walk through a packet's items */
 #define BAILHAMMER_SENT 17408  /* no packet's fragments take more: 12,288 bytes and 256 headers of 20 */
 
+/* Bytes that each call tells, and the least of its `told`. */
+#define BAILHAMMER_TOLD_CHECK 8
+#define BAILHAMMER_TOLD_FIND 17
+#define BAILHAMMER_TOLD_STEP 22 /* bailhammer_walk_step */
+#define BAILHAMMER_TOLD_PLAN 20
+#define BAILHAMMER_TOLD_FRAGMENT 2
+#define BAILHAMMER_TOLD_FRAGMENTS 8
+#define BAILHAMMER_TOLD_RECEIVE 8
+#define BAILHAMMER_TOLD_QUERY 12
+
 /*
  * The numbers that the calls give:
  *     0   done
@@ -53,8 +63,8 @@ extern "C" {
  *   257   too few fragments are kept: a chunk misses more than 48 bytes
  * Where the number is neither 0, 13 nor 256, no byte lent is changed. No pointer may be null, also where the length is 0,
  * and the bytes that are written may not overlap the bytes that are read, nor those of another slice that is written.
- * What a call tells stands at the front of `told`, numbers big-endian; where told_len is below what it takes, nothing is told, and all
- * else is done. What is 0 or not 0 counts as no or yes.
+ * What a call tells stands at the front of `told`, numbers big-endian. Where told_len is below what it takes, the call gives 1, or the
+ * number that is due before it, and nothing is done. What is 0 or not 0 counts as no or yes.
  *
  * The calls keep no pointer and no state of their own: those on different buffers may run at once, and a table is for one call at a time.
  * A slice may stand at any address. Each call takes less than 64 KiB of stack, as c/run stack measures, memcpy and memset aside: where these
@@ -68,8 +78,8 @@ extern "C" {
  * (over 8,180 bytes) and 1 that is due. */
 size_t bailhammer_wrap(uint16_t seq, size_t cf, const uint8_t *payload, size_t payload_len, uint8_t *out, size_t out_len);
 
-/* Checks an AF packet. Its payload begins at 10. Tells 8 bytes: SEQ (2), CF (1), the minor revision (1), LEN (4). Gives 0, or the first of
- * 20 to 25 that is due. */
+/* Checks an AF packet. Its payload begins at 10. Tells 8 bytes: SEQ (2), CF (1), the minor revision (1), LEN (4). Gives 0; else the
+ * first of 20 to 25 and 1 that is due. */
 size_t bailhammer_check(const uint8_t *packet, size_t packet_len, uint8_t *told, size_t told_len);
 
 /* The TAG layer. A name is four bytes as a number, the first one highest; names are four bytes each, one behind the other. */
@@ -80,7 +90,7 @@ size_t bailhammer_item(uint32_t name, uint32_t bits, const uint8_t *value, size_
 
 /* Finds an item by its name in a packet, else in the standing packet beside it, which may be empty. Tells 17 bytes: 0 where it is in the
  * packet, 1 where in the standing packet (1), its bits (4), where its value begins there (8), the value's bytes (4). Gives 0; else 30, 31
- * or 33 of the packet, then of the standing packet, or 34. */
+ * or 33 of the packet, then of the standing packet; 34; or 1. */
 size_t bailhammer_find(const uint8_t *packet, size_t packet_len, const uint8_t *standing, size_t standing_len, uint32_t name,
                        uint8_t *told, size_t told_len);
 
@@ -91,8 +101,8 @@ size_t bailhammer_walk_open(const uint8_t *packet, size_t packet_len, const uint
 
 /* Hands out the next item of a walk over the same packet and names. Tells 22 bytes: 1 (1), the item's depth (1), its name (4), its bits
  * (4), where its value begins (8), the value's bytes (4); or, behind the last item, zeros and the bytes of padding in the last 4: so it
- * does then at each step. Gives 0; else the first that is due: 1 where walker has not 56 bytes; 43 for a list of names that opening
- * refuses. Where walker is not as a call left it, a step may tell an item that is none or the end, and gives 30 where what stands there
+ * does then at each step. Gives 0; else the first that is due: 1 where walker has not 56 bytes or told under 22; 43 for a list of names that
+ * opening refuses. Where walker is not as a call left it, a step may tell an item that is none or the end, and gives 30 where what stands there
  * would pass the end of its packet. */
 size_t bailhammer_walk_step(const uint8_t *packet, size_t packet_len, const uint8_t *names, size_t names_len, uint8_t *walker,
                             size_t walker_len, uint8_t *told, size_t told_len);
@@ -102,7 +112,7 @@ size_t bailhammer_walk_step(const uint8_t *packet, size_t packet_len, const uint
  * FEC, four more with an address. The house default is FEC, m 2, mtu 1,400 and no address. */
 
 /* Plans the cut of an AF packet of l bytes. Tells 20 bytes, two each: c, k, z and n (0 without FEC), h, S, L, f, s, and m, the
- * losses that the cut is made to bear, whichever they are. Gives 0; else the first of 40, 20, 22 and 41 that is due. */
+ * losses that the cut is made to bear, whichever they are. Gives 0; else the first of 40, 20, 22, 41 and 1 that is due. */
 size_t bailhammer_plan(size_t fec, size_t m, size_t mtu, size_t addressed, size_t l, uint8_t *told, size_t told_len);
 
 /* Writes fragment `index` of an AF packet at the front of out, under the packet's number. Tells its length, 2 bytes. Gives 0; else the
@@ -125,7 +135,7 @@ size_t bailhammer_fragments(size_t fec, size_t m, size_t mtu, size_t addressed, 
  * is taken where addressed is yes and the address is source and dest. Tells 8 bytes: 1 where a packet was handed out (1), its length (2),
  * how many of its fragments are not held (2); then 1 and the number of the packet that lost its place before it was formed (1 and 2),
  * zeros where there is none. Gives 0; else the first that is due: for the record 1 and 14, then 14 and 1 to 12; or 13, which changes the
- * record and tells the number displaced too. */
+ * record and tells the number displaced too. So a packet that is handed out is always told. */
 size_t bailhammer_receive(size_t addressed, uint16_t source, uint16_t dest, uint8_t *table, size_t table_len, uint8_t *lent, size_t lent_len,
                           const uint8_t *datagram, size_t datagram_len, uint8_t *told, size_t told_len, uint8_t *out, size_t out_len);
 

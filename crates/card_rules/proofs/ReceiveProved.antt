@@ -212,12 +212,13 @@ module _ (own : Address) (datagram : List ℕ) (before after : Held) (r : ℕ) (
   says : (handed l missing : ℕ) (d : Displaced) (a : Received) → p .answer ≡ a
       → toldAfter a (before .told) ≡ splice (before .told) 0 (inWidths receipt-widths (receiptTold handed l missing d))
       → Shown (before .out) (after .out) handed l → Said before after
+  unfolding bytesFor
   says handed l missing d a is tells shown = record {
     handed = handed;
     l = l;
     missing = missing;
     displaced = d;
-    room = room;
+    room = omega arith;
     told = p .told ∙ ap (λ (x : Received). toldAfter x (before .told)) is ∙ tells;
     shown = shown;
   }

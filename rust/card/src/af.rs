@@ -25,7 +25,7 @@ pub fn wrap(seq: u16, cf: bool, payload: &[u8], out: &mut [u8]) -> Result<usize,
 
 /// Checks a packet. Refused: 20 to 25.
 pub fn check(packet: &[u8]) -> Result<Checked, Refused> {
-    let mut told = [0; 8];
+    let mut told = [0; raw::TOLD_CHECK];
     done(raw::check(packet, &mut told))?;
     let len = long(&told, 4) as usize;
     Ok(Checked { seq: short(&told, 0), cf: told[2] != 0, minor: told[3], len })

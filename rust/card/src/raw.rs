@@ -6,6 +6,24 @@
 
 use crate::ffi;
 
+/// The bytes that a check tells; where `told` has fewer, a call that tells gives 1 or the number
+/// that is due before it, and does nothing.
+pub const TOLD_CHECK: usize = 8;
+/// The bytes that finding an item tells.
+pub const TOLD_FIND: usize = 17;
+/// The bytes that a step of a walk tells.
+pub const TOLD_STEP: usize = 22;
+/// The bytes that a plan tells.
+pub const TOLD_PLAN: usize = 20;
+/// The bytes that a fragment tells.
+pub const TOLD_FRAGMENT: usize = 2;
+/// The bytes that all fragments tell.
+pub const TOLD_FRAGMENTS: usize = 8;
+/// The bytes that a receiving tells.
+pub const TOLD_RECEIVE: usize = 8;
+/// The bytes that a query tells.
+pub const TOLD_QUERY: usize = 12;
+
 pub fn wrap(seq: u16, cf: usize, payload: &[u8], out: &mut [u8]) -> usize {
     let (bytes, room) = (payload.len(), out.len());
     // Safety: pointers and lengths are those of live slices, which do not overlap.

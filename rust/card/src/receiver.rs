@@ -69,7 +69,7 @@ impl<'a> Receiver<'a> {
         datagram: &[u8],
         out: &mut [u8],
     ) -> Result<Received, Refused> {
-        let mut told = [0; 8];
+        let mut told = [0; raw::TOLD_RECEIVE];
         let (addressed, source, dest) = pair(address);
         let (record, lent) = (&mut self.record, &mut self.lent[..]);
         let number = raw::receive(addressed, source, dest, record, lent, datagram, &mut told, out);
@@ -87,7 +87,7 @@ impl<'a> Receiver<'a> {
 
     /// Shows the four places. Refused: 14.
     pub fn query(&self) -> Result<[Place; 4], Refused> {
-        let mut told = [0; 12];
+        let mut told = [0; raw::TOLD_QUERY];
         done(raw::query(&self.record, &self.lent[..], &mut told))?;
         Ok([0, 3, 6, 9].map(|at| shown(told[at], short(&told, at + 1))))
     }

@@ -69,7 +69,7 @@ pub(crate) fn pair(address: Option<Address>) -> (usize, u16, u16) {
 
 /// Plans the cut of a packet of l bytes. Refused: 40, 20, 22, 41.
 pub fn plan(settings: &Settings, l: usize) -> Result<Plan, Refused> {
-    let mut told = [0; 20];
+    let mut told = [0; raw::TOLD_PLAN];
     let Settings { fec, m, mtu, address } = *settings;
     done(raw::plan(fec.into(), m, mtu, address.is_some().into(), l, &mut told))?;
     Ok(Plan {
@@ -95,7 +95,7 @@ pub fn fragment(
     index: usize,
     out: &mut [u8],
 ) -> Result<usize, Refused> {
-    let mut told = [0; 2];
+    let mut told = [0; raw::TOLD_FRAGMENT];
     let Settings { fec, m, mtu, address } = *settings;
     let (addressed, source, dest) = pair(address);
     done(raw::fragment(
@@ -122,7 +122,7 @@ pub fn fragments(
     packet: &[u8],
     out: &mut [u8],
 ) -> Result<Split, Refused> {
-    let mut told = [0; 8];
+    let mut told = [0; raw::TOLD_FRAGMENTS];
     let Settings { fec, m, mtu, address } = *settings;
     let (addressed, source, dest) = pair(address);
     done(raw::fragments(

@@ -47,7 +47,7 @@ pub fn item(name: Name, bits: u32, value: &[u8], out: &mut [u8]) -> Result<usize
 /// Finds an item in a packet, else in the standing packet, which may be empty. Refused: 30, 31 or
 /// 33 of the packet, then of the standing packet; 34.
 pub fn find<'a>(packet: &'a [u8], standing: &'a [u8], name: Name) -> Result<Found<'a>, Refused> {
-    let mut told = [0; 17];
+    let mut told = [0; raw::TOLD_FIND];
     done(raw::find(packet, standing, u32::from_be_bytes(name), &mut told))?;
     let in_standing = told[0] != 0;
     let holder = if in_standing { standing } else { packet };
@@ -73,7 +73,7 @@ impl<'a> Walk<'a> {
     /// Hands out the next item. Behind the last one it answers `End`, each time. No walk that
     /// `open` gave is refused.
     pub fn step(&mut self) -> Result<Step<'a>, Refused> {
-        let mut told = [0; 22];
+        let mut told = [0; raw::TOLD_STEP];
         done(raw::walk_step(self.packet, self.names, &mut self.walker, &mut told))?;
         if told[0] == 0 {
             return Ok(Step::End { padding: long(&told, 18) as usize });

@@ -5,7 +5,7 @@ use reference::af::{check as expected_check, wrap as expected_wrap, Header, LEAS
 use reference::crc;
 
 use crate::rng::Rng;
-use crate::tally::{hex, number_of, told, Judge, Tally};
+use crate::tally::{due, hex, number_of, told, Judge, Tally};
 
 pub fn wrap(rng: &mut Rng, tally: &mut Tally) {
     let (seq, yes, length) = (rng.short(), rng.chance(50), rng.length(MOST + 200));
@@ -83,17 +83,17 @@ pub fn check(rng: &mut Rng, tally: &mut Tally) {
         97..99 => rng.bytes(l),
         _ => long_packet(rng),
     };
-    let before = rng.room(8);
+    let before = rng.room(raw::TOLD_CHECK);
     let mut after = before.clone();
     let number = raw::check(&packet, &mut after);
     let typed = af::check(&packet).map_err(|refused| refused.0);
     let expected = expected_check(&packet);
 
     let mut judge = Judge::default();
-    judge.same("number", number, number_of(&expected));
-    let expected_told =
-        expected.as_ref().map_or(before.clone(), |header| told(&before, &bytes(header)));
-    judge.bytes("told", &after, &expected_told);
+    let due = due(&expected, &before, raw::TOLD_CHECK);
+    judge.same("number", number, number_of(&due));
+    let line = due.map_or(before.clone(), |header| told(&before, &bytes(header)));
+    judge.bytes("told", &after, &line);
     let typed = typed.map(|t| Header { seq: t.seq, cf: t.cf, minor: t.minor, len: t.len });
     judge.same("typed", typed, expected);
     tally.count(number, judge, || format!("packet={} told={}", hex(&packet), hex(&before)));

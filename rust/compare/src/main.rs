@@ -39,10 +39,10 @@ type Compared = fn(&mut Rng, &mut Tally);
 /// The kinds that are compared one call after another, with the numbers that each can give.
 const KINDS: [(&str, &[usize], Compared); 9] = [
     ("wrap", &[0, 1, 22], af::wrap),
-    ("check", &[0, 20, 21, 22, 23, 24, 25], af::check),
+    ("check", &[0, 1, 20, 21, 22, 23, 24, 25], af::check),
     ("item", &[0, 1, 33, 43], tag::item),
-    ("find", &[0, 30, 31, 33, 34], tag::find),
-    ("plan", &[0, 20, 22, 40, 41], sender::plan),
+    ("find", &[0, 1, 30, 31, 33, 34], tag::find),
+    ("plan", &[0, 1, 20, 22, 40, 41], sender::plan),
     ("fragment", &[0, 1, 20, 21, 22, 23, 24, 25, 40, 41, 42], sender::fragment),
     ("fragments", &[0, 1, 20, 21, 22, 23, 24, 25, 40, 41], sender::fragments),
     ("encode", &[0, 1, 8], block::encode),

@@ -7,7 +7,7 @@ use reference::receiver::{Condition, Table, LENT};
 use crate::call::Call;
 use crate::record;
 use crate::rng::Rng;
-use crate::tally::{hex, number_of, told, Judge, Tally};
+use crate::tally::{due as due_of, hex, number_of, told, Judge, Tally};
 
 /// The number that is due for query and clear: the record's, then 1 for bytes that are not 49,152.
 fn due(call: &Call) -> usize {
@@ -18,22 +18,25 @@ fn due(call: &Call) -> usize {
 }
 
 pub fn query(rng: &mut Rng, tally: &mut Tally, call: &Call) {
-    let (before, due) = (rng.room(12), due(call));
+    let (before, due) = (rng.room(raw::TOLD_QUERY), due(call));
     let mut after = before.clone();
     let number = raw::query(&call.table, &call.lent, &mut after);
 
     let mut judge = Judge::default();
-    judge.same("number", number, due);
-    let shown = if due == 0 { record::shown(&call.table) } else { Vec::new() };
-    judge.bytes("told", &after, &told(&before, &shown));
+    let shown = if due == 0 { Ok(record::shown(&call.table)) } else { Err(due as u8) };
+    let in_room = due_of(&shown, &before, raw::TOLD_QUERY);
+    judge.same("number", number, number_of(&in_room));
+    judge.bytes("told", &after, &in_room.map_or(before.clone(), |shown| told(&before, shown)));
     if let Some(places) = typed_query(call) {
-        judge.same("typed", places, if due == 0 { Ok(shown) } else { Err(due as u8) });
+        judge.same("typed", places, shown);
     }
     if let Some(table) = record::table_of(&call.table) {
-        let expected = table.query(&call.lent);
-        judge.same("number by the reference", number, number_of(&expected));
-        let places: Vec<u8> = expected.into_iter().flatten().flat_map(bytes).collect();
-        judge.bytes("told by the reference", &after, &told(&before, &places));
+        let places = |shown: [_; 4]| shown.into_iter().flat_map(bytes).collect::<Vec<u8>>();
+        let expected = table.query(&call.lent).map(places);
+        let in_room = due_of(&expected, &before, raw::TOLD_QUERY);
+        judge.same("number by the reference", number, number_of(&in_room));
+        let line = in_room.map_or(before.clone(), |places| told(&before, places));
+        judge.bytes("told by the reference", &after, &line);
     }
     tally.count(number, judge, || call.inputs() + " told=" + &hex(&before));
 }

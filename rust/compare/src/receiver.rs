@@ -95,7 +95,7 @@ impl Desk {
                 record::change(rng, &mut table);
             }
         }
-        let (told, room) = (rng.room(8), af::MOST + rng.pick(&[0, 0, 1, 300]));
+        let (told, room) = (rng.room(raw::TOLD_RECEIVE), af::MOST + rng.pick(&[0, 0, 1, 300]));
         let (lent, out) = (self.lent.clone(), rng.bytes(room));
         (Call { own, table, lent, datagram, told, out }, changed)
     }
@@ -107,8 +107,12 @@ impl Desk {
         let Call { table, lent, datagram, told, out, .. } = &mut after;
         let number = raw::receive(addressed, source, dest, table, lent, datagram, told, out);
         let mut judge = Judge::default();
-        let due = self.due(call);
+        let (due, untold) = (self.due(call), untold(call));
         match &due {
+            _ if untold => {
+                judge.same("number", number, number::ROOM.into());
+                after.compare(&mut judge, "", call);
+            }
             Due::Known(known) => {
                 judge.same("number", number, number_due(&known.answer));
                 after.compare(&mut judge, "", &known.after);
@@ -129,7 +133,7 @@ impl Desk {
             format!("{pair} {}", call.inputs())
         });
         match due {
-            Due::Known(known) => Some(known),
+            Due::Known(known) if !untold => Some(known),
             _ => None,
         }
     }
@@ -147,7 +151,7 @@ impl Desk {
             let mut after = call.clone();
             let answer = table.receive(call.own, &mut after.lent, &call.datagram, &mut after.out);
             after.table = record::bytes_of(&table);
-            if let Ok(received) = &answer {
+            if let (Ok(received), false) = (&answer, untold(call)) {
                 after.told = told(&call.told, &bytes(received));
             }
             return Due::Known(Box::new(Known { answer, table, after }));
@@ -171,6 +175,12 @@ impl Desk {
             self.traffic.forget(u16::from_be_bytes([call.datagram[2], call.datagram[3]]));
         }
     }
+}
+
+/// Whether a call lends a record, and too few bytes to tell in: that is refused before the datagram
+/// is looked at.
+fn untold(call: &Call) -> bool {
+    record::fault(&call.table) == 0 && call.told.len() < raw::TOLD_RECEIVE
 }
 
 /// The number of an answer: a damaged packet is told as 13.

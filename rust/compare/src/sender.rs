@@ -6,7 +6,7 @@ use reference::sender::{fragment as expected_fragment, fragments as expected_fra
 
 use crate::af::{packet, wrong_packet};
 use crate::rng::Rng;
-use crate::tally::{hex, number_of, told, Judge, Tally};
+use crate::tally::{due, hex, number_of, told, Judge, Tally};
 
 /// Settings in their bounds for packets of about l bytes, and at times any.
 pub fn settings(rng: &mut Rng, l: usize) -> Settings {
@@ -78,7 +78,7 @@ pub fn plan(rng: &mut Rng, tally: &mut Tally) {
         10..60 => rng.within(12, 8_192),
         _ => 12 + rng.length(8_180),
     };
-    let (settings, before) = (any_settings(rng, l.min(8_192)), rng.room(20));
+    let (settings, before) = (any_settings(rng, l.min(8_192)), rng.room(raw::TOLD_PLAN));
     let (fec, addressed) = (rng.flag(settings.fec), rng.flag(settings.address.is_some()));
     let mut after = before.clone();
     let number = raw::plan(fec, settings.m, settings.mtu, addressed, l, &mut after);
@@ -86,13 +86,14 @@ pub fn plan(rng: &mut Rng, tally: &mut Tally) {
     let expected = expected_plan(&settings, l);
 
     let mut judge = Judge::default();
-    judge.same("number", number, number_of(&expected));
-    let shown = |p: &Plan| [p.c, p.k, p.z, p.n, p.h, p.most, p.total, p.f, p.s, p.losses];
-    let expected = expected.as_ref().map(shown);
-    let lines = expected.map_or(before.clone(), |figures| told(&before, &shorts(&figures)));
-    judge.bytes("told", &after, &lines);
+    let shown = |p: Plan| [p.c, p.k, p.z, p.n, p.h, p.most, p.total, p.f, p.s, p.losses];
+    let expected = expected.map(shown);
+    let due = due(&expected, &before, raw::TOLD_PLAN);
+    judge.same("number", number, number_of(&due));
+    let line = due.map_or(before.clone(), |figures| told(&before, &shorts(figures)));
+    judge.bytes("told", &after, &line);
     let typed = typed.map(|p| [p.c, p.k, p.z, p.n, p.h, p.most, p.total, p.f, p.s, p.losses]);
-    judge.same("typed", typed.map(|p| p.map(usize::from)), expected.map_err(|number| *number));
+    judge.same("typed", typed.map(|p| p.map(usize::from)), expected);
     tally.count(number, judge, || {
         format!("fec={fec} {settings:?} addressed={addressed} l={l} told={}", hex(&before))
     });
@@ -120,7 +121,7 @@ pub fn fragment(rng: &mut Rng, tally: &mut Tally) {
     let f = plan.map_or(1, |plan| plan.f);
     let index = if rng.chance(92) { rng.below(f) } else { rng.pick(&[f, f + 1, 256, usize::MAX]) };
     let needed = plan.map_or(0, |plan| plan.h + if index < f { plan.payload(index) } else { 0 });
-    let (before, told_before) = (rng.room(needed), rng.room(2));
+    let (before, told_before) = (rng.room(needed), rng.room(raw::TOLD_FRAGMENT));
     let (mut out, mut typed_out, mut expected_out) =
         (before.clone(), before.clone(), before.clone());
     let (fec, (addressed, source, dest)) = (rng.flag(settings.fec), pair(rng, settings.address));
@@ -132,11 +133,11 @@ pub fn fragment(rng: &mut Rng, tally: &mut Tally) {
     let expected = expected_fragment(&settings, pseq, &packet, index, &mut expected_out);
 
     let mut judge = Judge::default();
-    judge.same("number", number, number_of(&expected));
-    let line =
-        expected.map_or(told_before.clone(), |length| told(&told_before, &shorts(&[length])));
+    let due = due(&expected, &told_before, raw::TOLD_FRAGMENT);
+    judge.same("number", number, number_of(&due));
+    let line = due.map_or(told_before.clone(), |length| told(&told_before, &shorts(&[*length])));
     judge.bytes("told", &after, &line);
-    judge.bytes("out", &out, &expected_out);
+    judge.bytes("out", &out, if due.is_ok() { &expected_out } else { &before });
     judge.same("typed", typed.map_err(|refused| refused.0), expected);
     judge.bytes("typed out", &typed_out, &expected_out);
     tally.count(number, judge, || {
@@ -151,7 +152,7 @@ pub fn fragments(rng: &mut Rng, tally: &mut Tally) {
     let (settings, pseq) = (any_settings(rng, packet.len()), rng.short());
     let needed = expected_plan(&settings, packet.len())
         .map_or(0, |plan| plan.f * plan.h + (plan.f - 1) * plan.s + plan.payload(plan.f - 1));
-    let (before, told_before) = (rng.room(needed), rng.room(8));
+    let (before, told_before) = (rng.room(needed), rng.room(raw::TOLD_FRAGMENTS));
     let (mut out, mut typed_out, mut expected_out) =
         (before.clone(), before.clone(), before.clone());
     let (fec, (addressed, source, dest)) = (rng.flag(settings.fec), pair(rng, settings.address));
@@ -162,12 +163,12 @@ pub fn fragments(rng: &mut Rng, tally: &mut Tally) {
     let expected = expected_fragments(&settings, pseq, &packet, &mut expected_out);
 
     let mut judge = Judge::default();
-    judge.same("number", number, number_of(&expected));
+    let due = due(&expected, &told_before, raw::TOLD_FRAGMENTS);
+    judge.same("number", number, number_of(&due));
     let shown = |sent: &Sent| shorts(&[sent.f, sent.h, sent.s, sent.last]);
-    let line =
-        expected.as_ref().map_or(told_before.clone(), |sent| told(&told_before, &shown(sent)));
+    let line = due.map_or(told_before.clone(), |sent| told(&told_before, &shown(sent)));
     judge.bytes("told", &after, &line);
-    judge.bytes("out", &out, &expected_out);
+    judge.bytes("out", &out, if due.is_ok() { &expected_out } else { &before });
     let typed = typed.map(|t| Sent { f: t.f, h: t.h, s: t.s, last: t.last });
     judge.same("typed", typed.map_err(|refused| refused.0), expected);
     judge.bytes("typed out", &typed_out, &expected_out);

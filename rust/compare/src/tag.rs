@@ -5,7 +5,7 @@ use reference::tag as expected;
 use reference::tag::{Found, Name, DUMMY, POINTER};
 
 use crate::rng::Rng;
-use crate::tally::{hex, number_of, told, Judge, Tally};
+use crate::tally::{due, hex, number_of, told, Judge, Tally};
 
 /// The depth at which an item is refused.
 const TOO_DEEP: usize = 5;
@@ -171,7 +171,7 @@ pub fn place(packet: &[u8], part: &[u8]) -> usize {
 pub fn find(rng: &mut Rng, tally: &mut Tally) {
     let style = Style::new(rng, Vec::new());
     let (packet, standing) = (some_packet(rng, &style), some_packet(rng, &style));
-    let (mut wanted, before) = (name(rng), rng.room(17));
+    let (mut wanted, before) = (name(rng), rng.room(raw::TOLD_FIND));
     let whole = expected::items(&packet).into_iter().chain(expected::items(&standing));
     let there: Vec<Name> = whole.flat_map(|(items, _)| items).map(|item| item.name).collect();
     if !there.is_empty() && rng.chance(70) {
@@ -183,7 +183,8 @@ pub fn find(rng: &mut Rng, tally: &mut Tally) {
     let expected = expected::find(wanted, &packet, &standing);
 
     let mut judge = Judge::default();
-    judge.same("number", number, number_of(&expected));
+    let due = due(&expected, &before, raw::TOLD_FIND);
+    judge.same("number", number, number_of(&due));
     let shown = |found: &Found| {
         let holder = if found.standing { &standing } else { &packet };
         let mut bytes = vec![found.standing.into()];
@@ -192,9 +193,8 @@ pub fn find(rng: &mut Rng, tally: &mut Tally) {
         bytes.extend((found.item.value.len() as u32).to_be_bytes());
         bytes
     };
-    let expected_told =
-        expected.as_ref().map_or(before.clone(), |found| told(&before, &shown(found)));
-    judge.bytes("told", &after, &expected_told);
+    let line = due.map_or(before.clone(), |found| told(&before, &shown(found)));
+    judge.bytes("told", &after, &line);
     let typed = typed.map(|t| (t.standing, t.bits, t.value.as_ptr(), t.value.len()));
     let value = |found: Found| (found.item.value.as_ptr(), found.item.value.len());
     let expected = expected.map(|e| (e.standing, e.item.bits, value(e).0, value(e).1));

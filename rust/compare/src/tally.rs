@@ -3,6 +3,8 @@
 use std::collections::BTreeMap;
 use std::fmt::Debug;
 
+use reference::number;
+
 /// The differences of a kind that are printed whole.
 const SHOWN: usize = 3;
 
@@ -108,11 +110,19 @@ pub fn number_of<T>(answer: &Result<T, u8>) -> usize {
     answer.as_ref().err().map_or(0, |number| usize::from(*number))
 }
 
-/// What is lent for an answer, after the call told it: at the front, if there is room for all.
+/// What is due of an answer of the reference that takes `needed` bytes to tell: its refusal, and
+/// then 1 where fewer are lent.
+pub fn due<'a, T>(answer: &'a Result<T, u8>, lent: &[u8], needed: usize) -> Result<&'a T, u8> {
+    match answer {
+        Ok(_) if lent.len() < needed => Err(number::ROOM),
+        Ok(told) => Ok(told),
+        Err(number) => Err(*number),
+    }
+}
+
+/// What is lent for an answer, after the call told it: at the front.
 pub fn told(before: &[u8], told: &[u8]) -> Vec<u8> {
     let mut after = before.to_vec();
-    if let Some(front) = after.get_mut(..told.len()) {
-        front.copy_from_slice(told);
-    }
+    after[..told.len()].copy_from_slice(told);
     after
 }

@@ -112,18 +112,25 @@ fn one_step(
     stands: Walker,
     whole: Option<Vec<u8>>,
 ) -> Walker {
-    let (before, mut walker, mut expected_walker) = (rng.room(22), stands.bytes(), stands);
+    let (before, mut walker, mut expected_walker) =
+        (rng.room(raw::TOLD_STEP), stands.bytes(), stands);
     let mut after = before.clone();
     let number = raw::walk_step(packet, list, &mut walker, &mut after);
     let expected = expected_walker.step(packet, list);
 
     let mut judge = Judge::default();
-    judge.same("number", number, number_of(&expected));
-    let shown = expected.as_ref().map_or(before.clone(), |shown| told(&before, shown));
-    judge.bytes("told", &after, &shown);
-    judge.bytes("walker", &walker, &expected_walker.bytes());
-    if let Some(whole) = whole {
-        judge.bytes("told by the whole walk", &after, &told(&before, &whole));
+    if before.len() < raw::TOLD_STEP {
+        judge.same("number", number, number::ROOM.into());
+        judge.bytes("told", &after, &before);
+        judge.bytes("walker", &walker, &stands.bytes());
+    } else {
+        judge.same("number", number, number_of(&expected));
+        let shown = expected.as_ref().map_or(before.clone(), |shown| told(&before, shown));
+        judge.bytes("told", &after, &shown);
+        judge.bytes("walker", &walker, &expected_walker.bytes());
+        if let Some(whole) = whole {
+            judge.bytes("told by the whole walk", &after, &told(&before, &whole));
+        }
     }
     tally.count(number, judge, || inputs(packet, list, &stands.bytes()) + " told=" + &hex(&before));
     expected_walker
@@ -132,7 +139,7 @@ fn one_step(
 /// A step with other than 56 bytes is refused, and changes nothing.
 fn misfit_step(rng: &mut Rng, tally: &mut Tally, packet: &[u8], list: &[u8]) {
     let length = rng.pick(&OTHER_LENGTHS);
-    let (before, stood) = (rng.room(22), rng.bytes(length));
+    let (before, stood) = (rng.room(raw::TOLD_STEP), rng.bytes(length));
     let (mut after, mut walker) = (before.clone(), stood.clone());
     let number = raw::walk_step(packet, list, &mut walker, &mut after);
 
