@@ -106,6 +106,7 @@ pub extern "C" fn bailhammer_fragment(
         (now (out .entry))) (now (told .entry)) (now (told .exit)) (now (out .entry)) (now (out .exit)) r ⌝ }
 {
     let g = settings_of(fec, m, mtu, addressed, source, dest);
+    // With no bytes to write in nothing is written, and up to 1 the same is due.
     if told.len() < TOLD_FRAGMENT {
         let none = sender::fragment(g, number, packet, index, &mut []);
         return tell_length(none, told);
@@ -142,6 +143,7 @@ pub extern "C" fn bailhammer_fragments(
         (now (told .entry)) (now (told .exit)) (now (out .entry)) (now (out .exit)) r ⌝ }
 {
     let g = settings_of(fec, m, mtu, addressed, source, dest);
+    // As in `bailhammer_fragment`.
     if told.len() < TOLD_FRAGMENTS {
         let none = sender::fragments(g, number, packet, &mut []);
         return tell_split(none, told);

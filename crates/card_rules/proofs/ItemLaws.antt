@@ -56,7 +56,8 @@ pub walker-laid : (d : List ℕ) (w : Walker) {y : List ℕ} {r : ℕ} → lengt
     → y ≡ walkerBytes w
 unfolding walkerBytes inWidths bytesOf bytesFor
 walker-laid d w long ends said =
-    said .told ∙ told-room walker-widths _ d (omega arith) ∙ whole d _ (sym long) ∙ ap (λ (l : List ℕ). inWidths walker-widths (w .at ∷ w .depth ∷ l)) (sym (five (w .ends) ends))
+    said .told ∙ told-room walker-widths _ d (omega arith) ∙ whole d _ (sym long)
+    ∙ ap (λ (l : List ℕ). inWidths walker-widths (w .at ∷ w .depth ∷ l)) (sym (five (w .ends) ends))
 
 -- ---- opening a walk
 

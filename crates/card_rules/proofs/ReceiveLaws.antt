@@ -18,6 +18,7 @@ use Rattle.base_rules.specs.Written.{numberOf}
 use Rattle.base_rules.specs.declared.Written.{Written}
 use Rattle.base_rules.specs.declared.Written.the-variants.{Done, Refused}
 use Rattle.base_rules.proofs.Firsts.{clear}
+use Rattle.base_rules.proofs.Logic.{either}
 use Rattle.code_rules.proofs.CallCases.{granted-by, refused-by}
 use Rattle.cut_rules.specs.declared.Address.{Address}
 use Rattle.packed_rules.specs.Packed.{table-bytes, packedOf, packCall, tableFrom, badRecord, unpackFault, unpackCall}
@@ -118,19 +119,22 @@ module _ (s : List ℕ) (w : Written) (t : Table) (e : (numberOf w, t) ≡ unpac
       let good = good-record is in
       ap (λ (b : Bool). cond b (call (tableFrom s)) (refusal (unpackFault s))) (eq-eqb (unpackFault s) 0 (good .0)) ∙ ap call (sym (good .1))
 
+-- a receiving with too few bytes to tell in gives the number of unpacking, or 14 or 1, and changes nothing
+pub receive-short : (own : Address) (datagram : List ℕ) (before after : Held) (r : ℕ) → length (before .told) < bytesFor receipt-widths
+    → r ≡ onRecord (before .record-bytes) (λ (n : ℕ). n) shortFault → after ≡ before → CardReceived own datagram before after r
+unfolding CardReceived onRecord
+receive-short own datagram before after r short number same =
+    let none = lt-ltb (length (before .told)) (bytesFor receipt-widths) short in
+    either (eqb (unpackFault (before .record-bytes)) 0)
+    (λ e. rw (e, none) (rw e at number, same))
+    (λ e. rw e (rw e at number, same))
+
 module _ (own : Address) (datagram : List ℕ) (before after : Held) (r : ℕ) (w : Written) (x : Table)
     (e : (numberOf w, x) ≡ unpackCall (before .record-bytes)) where
   -- a receiving with bytes that are no record gives the number of unpacking and changes nothing
   pub receive-refused : w ≡ Refused r → after ≡ before → CardReceived own datagram before after r
   unfolding CardReceived
   receive-refused is same = subst (λ (X : Type 0). X) (sym (refused-record (before .record-bytes) w x e _ _ r is)) (refl, same)
-
-  -- a receiving with a record and too few bytes to tell in gives 14 or 1 and changes nothing
-  pub receive-short : w ≡ Done → length (before .told) < bytesFor receipt-widths → r ≡ shortFault x → after ≡ before
-      → CardReceived own datagram before after r
-  unfolding CardReceived
-  receive-short is short number same =
-      rw (taken-record (before .record-bytes) w x e _ _ is, lt-ltb (length (before .told)) (bytesFor receipt-widths) short) (number, same)
 
   -- a receiving that fits the promise of `receive`, packed again and told, fits that of the call for C
   pub received-there : (o : Address) (v : Written) (t : Table) (a : Received) → w ≡ Done → o ≡ own

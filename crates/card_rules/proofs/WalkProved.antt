@@ -20,8 +20,8 @@ use Rattle.walk_rules.specs.Step.{opens, goesOn, endOf, stepFrom}
 use Rattle.walk_rules.proofs.ContainerNames.{fault-is}
 use Rattle.walk_rules.proofs.StepCases.{list-stays, steps-on}
 use Rattle.walk_rules.proofs.StepLaws.{by-steps, by-walker, item-within, end-within}
-use Rattle.card_rules.specs.Told.{refusalIn, inWidths}
-use Rattle.card_rules.specs.Items.{walker-widths, walker-bytes, walkerBytes, walkerFrom, steppedNumber, stepped, walkStepCall}
+use Rattle.card_rules.specs.Told.{refusalIn, inWidths, bytesFor}
+use Rattle.card_rules.specs.Items.{walker-widths, walker-bytes, walkerBytes, walkerFrom, steppedNumber, step-widths, stepped, walkStepCall}
 use Rattle.card_rules.specs.Claims.{TypedWalk, OpensTyped, StepsTyped, ReadBack, StepNumbers}
 use Rattle.card_rules.proofs.ItemLaws.{five, walker-read, answers}
 

@@ -90,7 +90,7 @@ pub record Said (before after : Held) : Type 0 where
   pub told : after .told ≡ splice (before .told) 0 (inWidths receipt-widths (receiptTold handed l missing displaced))
   pub shown : Shown (before .out) (after .out) handed l
 
--- card.h, "Gives 0 ..; or 13": such a receiving has told what it did, so that no packet is handed out in silence
+-- card.h, "So a packet that is handed out is always told": a receiving that gives 0 or 13 has told its 8 bytes
 abbrev pub NoSilence : Type 0
 NoSilence =
     (own : Address) (datagram : List ℕ) (before after : Held) (r : ℕ) → CardReceived own datagram before after r

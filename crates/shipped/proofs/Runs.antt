@@ -77,7 +77,9 @@ module _ (s : Buffers) (e : Call) (stands : Stands s) (m : Made s e) where
   before = record { record-bytes = s .table; lent = s .lent; told = e .told; out = e .out }
 
   with : ReceivedWith (addressOf (e .addressed) (e .source) (e .dest)) (e .datagram) before (e .left) (e .given) (tableFrom (s .table))
-  with = with-record (addressOf (e .addressed) (e .source) (e .dest)) (e .datagram) before (e .left) (e .given) (m .meets) (stands .read) (room-told (e .told) (m .told-room))
+  with =
+      with-record (addressOf (e .addressed) (e .source) (e .dest)) (e .datagram) before (e .left) (e .given) (m .meets) (stands .read)
+      (room-told (e .told) (m .told-room))
 
   abbrev left : Outcome
   left = outcome (with .answer) (with .table) (e .left .lent) (e .left .out)

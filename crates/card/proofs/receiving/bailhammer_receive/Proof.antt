@@ -20,17 +20,15 @@ enum-told c = search needs
 returns : tie.Need-returns
 unfolding bytesFor
 returns c =
-    let short = c .before in
-    let opened = short .before .before .before in
-    let a = opened .before .before .before .before .before .before .before .args in
-    receive-short (addressOf (a .addressed) (a .source) (a .dest)) (a .datagram .now) _ _ _ (opened .unpack .result .answer)
-    (opened .unpack .result .table)
-    (opened .unpack .ensures) (short .before .enum-told .given .1) (omega (arith, short .if1 .taken)) (c .short-number .ensures) refl
+    let short = c .before .before in
+    let a = short .before .before .before .before .before .before .args in
+    receive-short (addressOf (a .addressed) (a .source) (a .dest)) (a .datagram .now) _ _ _ (omega (arith, short .if1 .taken))
+    (c .short-number .ensures) refl
 
 returns-2 : tie.Need-returns-2
 returns-2 c =
     let opened = c .before .before .before in
-    let a = opened .before .before .before .before .before .before .before .args in
+    let a = opened .before .before .before .before .before .before .before .before .args in
     receive-refused (addressOf (a .addressed) (a .source) (a .dest)) (a .datagram .now) _ _ _ (opened .unpack .result .answer)
     (opened .unpack .result .table)
     (opened .unpack .ensures) (c .before .fault .given .1) refl
@@ -42,10 +40,10 @@ returns-3 c =
     let packed = said .before .before .before .before in
     let got = packed .before .before .before .before .before .before in
     let addressed = got .before .before .before in
-    let fits = addressed .before in
-    let told = fits .before in
+    let told = addressed .before in
     let opened = told .before .before in
-    let start = opened .before .before .before .before .before .before .before in
+    let fits = opened .before .before in
+    let start = fits .before .before .before .before .before .before in
     let a = start .args in
     let t = got .receive .result .table in
     let ok = got .receive .ok .1 .1 .0 .1 .1 in
@@ -108,13 +106,13 @@ pub bailhammer-receive-spec : {M : Type 1} → statement M
 bailhammer-receive-spec =
     tie.close
     (tie.spec
+    short-number-requires
+    same-length
+    returns
     unpack-requires
     enum-known-fault
     cast-result
     enum-told
-    short-number-requires
-    same-length
-    returns
     address-of-requires
     receive-requires
     pack-requires
