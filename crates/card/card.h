@@ -149,8 +149,8 @@ size_t bailhammer_clear(uint8_t *table, size_t table_len, const uint8_t *lent, s
 /* The code's block calls, for those who cut and join themselves. */
 
 /* Writes the block of a packet at the front of out: c chunks of k bytes (1 to 207), the packet and zeros behind it, each followed by
- * its 48 parity bytes. c * (k + 48) is 12,288 at most, and the packet ends in the last chunk (no packet in no chunk is no block). Gives 0;
- * else the first of 8 and 1 that is due. */
+ * its 48 parity bytes. c is at least 1, so nothing in no chunk is refused too; c * (k + 48) is 12,288 at most, and the packet ends in the
+ * last chunk. Gives 0; else the first of 8 and 1 that is due. */
 size_t bailhammer_encode(const uint8_t *packet, size_t packet_len, size_t k, size_t c, uint8_t *out, size_t out_len);
 
 /* Fills in the missing cells of a block: f fragments of s bytes were sent, cell q is of fragment q mod f, and fragment i is kept where

@@ -51,11 +51,14 @@ fn over_place(k: usize, c: usize) -> bool
     PLACE < c * (k + PARITY)
 }
 
-// Whether a packet of l bytes does not end in the last of c chunks of k bytes.
+// Whether a packet of l bytes does not end in the last of c chunks of k bytes; none ends in no chunk.
 fn misfit(l: usize, k: usize, c: usize) -> bool
     requires { ⌜ c * k ≤ place ⌝ }
     ensures { λ r. ⌜ r ≡ misfits l k c ⌝ }
 {
+    if c == 0 {
+        return true;
+    }
     if c * k < l {
         return true;
     }

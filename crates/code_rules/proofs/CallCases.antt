@@ -45,11 +45,6 @@ pub many-chunks : (k c : ℕ) → place < c → true ≡ overPlace k c
 unfolding overPlace
 many-chunks k c h = sym (lt-ltb place (c * (k + parity)) (omega arith))
 
--- a packet fits its chunks
-pub fits-chunks : (l k c : ℕ) → misfits l k c ≡ false → l ≤ c * k
-unfolding misfits
-fits-chunks l k c fine = ltb-false (c * k) l (or-left (ltb (c * k) l) _ fine)
-
 -- ---- the parity of a chunk
 
 module _ (chunk out : List ℕ) where

@@ -32,9 +32,9 @@ parityCall chunk out = settled (parityFault (length chunk) (length out)) [] (spl
 unfoldable pub overPlace : ℕ → ℕ → Bool
 overPlace k c = ltb place (c * (k + parity))
 
--- clause 7.3.1: a packet of l bytes leaves a chunk or more of c chunks of k bytes empty, or is too long for them
+-- clause 7.3.1: there is no chunk, or a packet of l bytes is too long for c chunks of k bytes, or leaves one of them or more empty
 unfoldable pub misfits : ℕ → ℕ → ℕ → Bool
-misfits l k c = ltb (c * k) l || leb k (c * k - l)
+misfits l k c = eqb c 0 || (ltb (c * k) l || leb k (c * k - l))
 
 -- document 01: what the block of a packet of l bytes is refused for, with `room` bytes lent: 8 SIZE, 1 ROOM
 unfoldable pub encodeFault : ℕ → ℕ → ℕ → ℕ → ℕ

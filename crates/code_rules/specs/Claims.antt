@@ -16,7 +16,7 @@ pub record R4 : Type 0 where
   pub block : (kept : List Bool) (f s k : ℕ) (b v w : List ℕ) (r q : Filled) → BlockFilled kept f s k b v r → BlockFilled kept f s k b w q
       → (r ≡ q) × (v ≡ w)
 
--- clause 7.3.1: a packet of l bytes fits c chunks of k bytes where it ends in the last of them, and only there
+-- clause 7.3.1: a packet of l bytes fits c chunks of k bytes where it ends in the last of them, and only there; so none fits no chunk
 pub record EndsInLast : Type 0 where
-  pub taken : (l k c : ℕ) → 0 < c → (c - 1) * k < l → l ≤ c * k → misfits l k c ≡ false
-  pub only : (l k c : ℕ) → 0 < c → misfits l k c ≡ false → ((c - 1) * k < l) × (l ≤ c * k)
+  pub taken : (l k c : ℕ) → (c - 1) * k < l → l ≤ c * k → misfits l k c ≡ false
+  pub only : (l k c : ℕ) → misfits l k c ≡ false → ((c - 1) * k < l) × (l ≤ c * k)

@@ -19,10 +19,12 @@ use Rattle.cut_rules.specs.Cells.{fragmentOf, partOf}
 use Rattle.cut_rules.specs.Sizes.{c, k, z, n, h, L, f, s}
 use Rattle.cut_rules.specs.declared.Settings.{Settings}
 use Rattle.cut_rules.specs.declared.Figures.{Figures}
+use Rattle.cut_rules.proofs.ChunkSizes.{c-some}
 use Rattle.cut_rules.proofs.PlanCases.{L-fec}
 use Rattle.code_rules.specs.Calls.{overPlace, misfits, encodeFault, encodeCall}
 use Rattle.code_rules.proofs.CallCases.{length-whole}
 use Rattle.weave_rules.specs.Calls.{badCount, tooMuch, interleaveFault, interleaveOf}
+use Rattle.weave_rules.proofs.CallCases.{fits-cells}
 use Rattle.header_rules.specs.Header.{headerBytes, writeCall}
 use Rattle.header_rules.specs.declared.Header.{Header}
 use Rattle.sender_rules.specs.Fragments.{blockFor, payloadFor, headerFor, fragmentFor}
@@ -70,7 +72,12 @@ module _ (g : Settings) (packet : List ℕ) (p : Figures) (d : Figured g packet 
   misfit-fine =
       let l : ℕ = length packet in
       let bound = sure g packet (d .passed) in
-      rw (le-ltb (c l * k l) l (omega (arith, bound .chunks)), lt-leb (k l) (c l * k l - l) (omega (arith, bound .chunks, bound .z-less)))
+      let some : 0 < c l = c-some l (omega (arith, in-bounds g packet (d .passed) .from)) in
+      rw (
+        ne-eqb (c l) 0 (λ (e : c l ≡ 0). omega arith),
+        le-ltb (c l * k l) l (omega (arith, bound .chunks)),
+        lt-leb (k l) (c l * k l - l) (omega (arith, bound .chunks, bound .z-less)),
+      )
 
   module _ (fec : g .fec ≡ true) where
     block-fits : c (length packet) * (k (length packet) + parity) ≤ place
@@ -127,9 +134,10 @@ module _ (g : Settings) (packet : List ℕ) (p : Figures) (d : Figured g packet 
         let l : ℕ = length packet in
         let figures : interleaveOf block (p .f) (p .s) i out ≡ interleaveOf block (f g l) (s g l) i out = ap₂
         (λ (x w : ℕ). interleaveOf block x w i out) (is-f g packet p d) (is-s g packet p d) in
+        let within : length block ≤ f g l * s g l = omega (arith, ap length is-block, length-block, sure g packet (d .passed) .all-held) in
         written-is _ _ _ out y a
-        (skip 7 _ count-fine (skip 8 _ much-fine (skip 42 _ (lt-leb (f g l) i less)
-        (skip 1 _ (le-ltb (length out) (s g l) (omega (arith, size-fec g packet fec i))) none-due))))
+        (skip 7 _ count-fine (skip 8 _ much-fine (skip 8 _ (fits-cells (length block) (f g l) (s g l) within) (skip 42 _ (lt-leb (f g l) i less)
+        (skip 1 _ (le-ltb (length out) (s g l) (omega (arith, size-fec g packet fec i))) none-due)))))
         (e ∙ figures)
         ∙ ap (splice out 0) (ap (λ (b : List ℕ). fragmentOf b (f g l) (s g l) i) is-block ∙ sym (payload-fec g packet fec i))
 

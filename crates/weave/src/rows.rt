@@ -51,7 +51,8 @@ fn blank(out: &mut [u8], from: usize, to: usize)
     }
 }
 
-// Writes fragment i of f, of s bytes, at the front of out; 7, 8, 42, 1 where that cannot be, and then out stays as it is.
+// Writes fragment i of f, of s bytes, at the front of out; 7, 8 (a block longer than the f s cells too), 42, 1 where that cannot be, and then
+// out stays as it is.
 pub fn interleave(block: &[u8], f: usize, s: usize, i: usize, out: &mut [u8]) -> Written
     ensures { λ r. ⌜ outcome (numberOf r) (now (out .exit)) ≡ interleaveOf (now (block .entry)) f s i (now (out .entry)) ⌝ }
 {
@@ -59,6 +60,9 @@ pub fn interleave(block: &[u8], f: usize, s: usize, i: usize, out: &mut [u8]) ->
         return Written::Refused(7);
     }
     if too_much(f, s) {
+        return Written::Refused(8);
+    }
+    if f * s < block.len() {
         return Written::Refused(8);
     }
     if f <= i {

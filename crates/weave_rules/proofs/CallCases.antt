@@ -19,7 +19,7 @@ use Rattle.base_rules.proofs.Firsts.{due, skip, none-due}
 use Rattle.base_rules.proofs.Logic.{or-left, or-right}
 use Rattle.base_rules.proofs.Splice.{splice-next}
 use Rattle.base_rules.proofs.Tables.{length-table, table-add, table-same}
-use Rattle.weave_rules.specs.Calls.{badCount, tooMuch, badChunk, interleaveFault, interleaveOf, deinterleaveFault, deinterleaveOf, notKept}
+use Rattle.weave_rules.specs.Calls.{badCount, tooMuch, overCells, badChunk, interleaveFault, interleaveOf, deinterleaveFault, deinterleaveOf, notKept}
 use Rattle.weave_rules.specs.Calls.{enoughFault, enoughOf, numberOf}
 use Rattle.cut_rules.specs.Cells.{fragmentOf, cellOf, cellsOf}
 use Rattle.cut_rules.specs.Missing.{suffice}
@@ -52,6 +52,21 @@ unfolding tooMuch
 over-place f s fine long =
     let once : 1 * s ≤ f * s = mul-le-mul-right s (f-some f fine) in
     sym (lt-ltb place (f * s) (omega (arith, once)))
+
+-- a block that does not pass the cells has at most f s bytes
+pub within-cells : (len f s : ℕ) → overCells len f s ≡ false → len ≤ f * s
+unfolding overCells
+within-cells len f s fine = ltb-false (f * s) len fine
+
+-- and one of at most f s bytes does not pass them
+pub fits-cells : (len f s : ℕ) → len ≤ f * s → overCells len f s ≡ false
+unfolding overCells
+fits-cells len f s h = le-ltb (f * s) len h
+
+-- a block of more bytes passes the cells
+pub passes-cells : (len f s : ℕ) → f * s < len → overCells len f s ≡ true
+unfolding overCells
+passes-cells len f s h = lt-ltb (f * s) len h
 
 -- a k that passes 8 SIZE is 1 to 207
 pub chunk-some : (f s k : ℕ) → badChunk f s k ≡ false → (0 < k) × (k ≤ most-k)
@@ -110,23 +125,32 @@ module _ (block out : List ℕ) (f s i : ℕ) where
     weave-8 e = leaves 8 _ _ _ _ (lit< tt) (skip 7 _ counted (due 8 _ e))
 
     module _ (held : tooMuch f s ≡ false) where
-      -- an interleaving asked for a fragment not below f is refused with 42, and nothing is written
-      pub weave-42 : f ≤ i → outcome (refused 42) out ≡ interleaveOf block f s i out
+      -- an interleaving of a block longer than the f s cells is refused with 8, and nothing is written
+      pub weave-long : overCells (length block) f s ≡ true → outcome (refused 8) out ≡ interleaveOf block f s i out
       unfolding interleaveOf interleaveFault
-      weave-42 h = leaves 42 _ _ _ _ (lit< tt) (skip 7 _ counted (skip 8 _ held (due 42 _ (le-leb f i h))))
+      weave-long e = leaves 8 _ _ _ _ (lit< tt) (skip 7 _ counted (skip 8 _ held (due 8 _ e)))
 
-      module _ (below : i < f) where
-        -- an interleaving with room for fewer than s bytes is refused with 1, and nothing is written
-        pub weave-1 : length out < s → outcome (refused 1) out ≡ interleaveOf block f s i out
+      module _ (whole : overCells (length block) f s ≡ false) where
+        -- an interleaving asked for a fragment not below f is refused with 42, and nothing is written
+        pub weave-42 : f ≤ i → outcome (refused 42) out ≡ interleaveOf block f s i out
         unfolding interleaveOf interleaveFault
-        weave-1 h = leaves 1 _ _ _ _ (lit< tt) (skip 7 _ counted (skip 8 _ held (skip 42 _ (lt-leb f i below) (due 1 _ (lt-ltb (length out) s h)))))
+        weave-42 h = leaves 42 _ _ _ _ (lit< tt) (skip 7 _ counted (skip 8 _ held (skip 8 _ whole (due 42 _ (le-leb f i h)))))
 
-        -- with fragment i below f and room for s bytes, fragment i of the block at the front of out is the answer
-        pub weave-done : (y : List ℕ) → s ≤ length out → y ≡ splice out 0 (fragmentOf block f s i)
-            → outcome (granted []) y ≡ interleaveOf block f s i out
-        unfolding interleaveOf interleaveFault
-        weave-done y h e =
-            writes _ _ _ _ _ (skip 7 _ counted (skip 8 _ held (skip 42 _ (lt-leb f i below) (skip 1 _ (le-ltb (length out) s h) none-due)))) e
+        module _ (below : i < f) where
+          -- an interleaving with room for fewer than s bytes is refused with 1, and nothing is written
+          pub weave-1 : length out < s → outcome (refused 1) out ≡ interleaveOf block f s i out
+          unfolding interleaveOf interleaveFault
+          weave-1 h =
+              leaves 1 _ _ _ _ (lit< tt)
+              (skip 7 _ counted (skip 8 _ held (skip 8 _ whole (skip 42 _ (lt-leb f i below) (due 1 _ (lt-ltb (length out) s h))))))
+
+          -- with fragment i below f and room for s bytes, fragment i of the block at the front of out is the answer
+          pub weave-done : (y : List ℕ) → s ≤ length out → y ≡ splice out 0 (fragmentOf block f s i)
+              → outcome (granted []) y ≡ interleaveOf block f s i out
+          unfolding interleaveOf interleaveFault
+          weave-done y h e =
+              let roomy = skip 1 _ (le-ltb (length out) s h) none-due in
+              writes _ _ _ _ _ (skip 7 _ counted (skip 8 _ held (skip 8 _ whole (skip 42 _ (lt-leb f i below) roomy)))) e
 
 -- ---- deinterleaving
 

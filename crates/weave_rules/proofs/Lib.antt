@@ -1,2 +1,3 @@
 pub mod PrefixSums
 pub mod CallCases
+pub mod Proved

@@ -26,13 +26,17 @@ tooMuch f s = ltb place (f * s)
 unfoldable pub badChunk : ℕ → ℕ → ℕ → Bool
 badChunk f s k = badK k || ltb (f * s) (k + parity)
 
--- what an interleaving is refused for, with `room` bytes lent: 7, 8, 42 INDEX, ROOM
-unfoldable pub interleaveFault : ℕ → ℕ → ℕ → ℕ → ℕ
-interleaveFault f s i room = first ((badCount f, 7) ∷ (tooMuch f s, 8) ∷ (leb f i, 42) ∷ (ltb room s, 1) ∷ [])
+-- document 01, 8 SIZE: a block of `len` bytes passes the f s cells
+unfoldable pub overCells : ℕ → ℕ → ℕ → Bool
+overCells len f s = ltb (f * s) len
+
+-- what interleaving a block of `len` bytes is refused for, with `room` bytes lent: 7, 8, 42 INDEX, ROOM
+unfoldable pub interleaveFault : ℕ → ℕ → ℕ → ℕ → ℕ → ℕ
+interleaveFault len f s i room = first ((badCount f, 7) ∷ (tooMuch f s, 8) ∷ (overCells len f s, 8) ∷ (leb f i, 42) ∷ (ltb room s, 1) ∷ [])
 
 -- else fragment i of the block stands at the front of out
 unfoldable pub interleaveOf : List ℕ → ℕ → ℕ → ℕ → List ℕ → Outcome
-interleaveOf block f s i out = settled (interleaveFault f s i (length out)) [] (splice out 0 (fragmentOf block f s i)) out
+interleaveOf block f s i out = settled (interleaveFault (length block) f s i (length out)) [] (splice out 0 (fragmentOf block f s i)) out
 
 -- what the reverse is refused for: 7, 8, ROOM where the fragments held or the bytes lent are fewer than f s
 unfoldable pub deinterleaveFault : ℕ → ℕ → ℕ → ℕ → ℕ

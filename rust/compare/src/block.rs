@@ -27,6 +27,7 @@ pub fn encode(rng: &mut Rng, tally: &mut Tally) {
         1 => c = rng.pick(&[0, c + 1, PLACE / (k + PARITY) + 1, usize::MAX, usize::MAX / 8]),
         2 => length = rng.within(0, (c + 1) * k),
         3 => length = if rng.chance(50) { 0 } else { (PLACE / (k + PARITY) + 1) * k },
+        4 => (c, length) = (0, 0),
         _ => {}
     }
     if length > MOST_DATA * 60 && rng.chance(50) {

@@ -18,11 +18,11 @@ pub enum Filled {
 }
 
 /// Writes c chunks of k bytes, the packet and zeros behind it, each followed by its parity, into
-/// the first bytes of `out`, and gives their length. The packet takes just c chunks, and they fit a
-/// place. Refusals: 8, ROOM.
+/// the first bytes of `out`, and gives their length. The packet takes just c chunks, at least one,
+/// and they fit a place. Refusals: 8, ROOM.
 pub fn encode(packet: &[u8], k: usize, c: usize, out: &mut [u8]) -> Answer<usize> {
     refuse(k == 0 || k > MOST_DATA, number::SIZE)?;
-    refuse(packet.len().div_ceil(k) != c, number::SIZE)?;
+    refuse(c == 0 || packet.len().div_ceil(k) != c, number::SIZE)?;
     let length = c.saturating_mul(k + PARITY);
     refuse(length > PLACE, number::SIZE)?;
     refuse(out.len() < length, number::ROOM)?;

@@ -12,6 +12,7 @@ use Rattle.base_rules.specs.Bounds.{badK}
 use Rattle.base_rules.proofs.ChunkSize.{k-most}
 use Rattle.code_rules.specs.Calls.{overPlace, misfits}
 use Rattle.code_rules.proofs.CallCases as cases
+use Rattle.code_rules.proofs.Misfits.{fits-in-last}
 use Rattle.code_encoder.proofs.calls.encode.Statement.{statement}
 use Rattle.code_encoder.proofs.calls.encode.Tie as tie
 
@@ -87,7 +88,7 @@ write-block-requires c κs =
     let E = c .before .before in
     let within = cases.within-place (A .k) (A .c) (placed (E .before .before)) in
     let short = k-most (A .k) (sized (E .before .before .before .before)) in
-    let fits = cases.fits-chunks (length (A .packet .now)) (A .k) (A .c) (fitting E) in
+    let fits = fits-in-last (length (A .packet .now)) (A .k) (A .c) (fitting E) .1 in
     (short, fits, omega (arith, within), length-take-le (A .c * (A .k + 48)) (A .out .now) (c .before .if4 .left))
 
 returns-5 : tie.Need-returns-5
@@ -97,7 +98,7 @@ returns-5 c =
     let E = c .before .before .before .before .before in
     let packet = A .packet .now in
     let n = A .c * (A .k + 48) in
-    let size = cases.length-whole packet (A .k) (A .c) (cases.fits-chunks (length packet) (A .k) (A .c) (fitting E)) in
+    let size = cases.length-whole packet (A .k) (A .c) (fits-in-last (length packet) (A .k) (A .c) (fitting E) .1) in
     cases.encode-done packet (A .out .now) (A .k) (A .c) (sized (E .before .before .before .before)) (placed (E .before .before)) (fitting E) _
     (c .before .before .before .before .if4 .left)
     (cases.block-lent (A .out .now) _ _ n size (c .before .before .write-block .ensures))

@@ -1,6 +1,6 @@
 -- `misfit` meets its contract. Assumes nothing.
 use Prim.Native.Nat.{_*_}
-use borrow.Author.Tests.{lt-ltb, le-ltb}
+use borrow.Author.Tests.{eq-eqb, ne-eqb, lt-ltb, le-ltb}
 use borrow.Author.Needs.{needs}
 use Rattle.code_rules.specs.Calls.{misfits}
 use Rattle.code_encoder.proofs.calls.misfit.Statement.{statement}
@@ -8,14 +8,22 @@ use Rattle.code_encoder.proofs.calls.misfit.Tie as tie
 
 returns : tie.Need-returns
 unfolding misfits
-returns c = rw (lt-ltb (c .before .args .c * c .before .args .k) (c .before .args .l) (c .if1 .taken))
+returns c = rw (eq-eqb (c .before .args .c) 0 (c .if1 .taken))
 
 returns-2 : tie.Need-returns-2
 unfolding misfits
-returns-2 c = rw (le-ltb (c .before .args .c * c .before .args .k) (c .before .args .l) (c .if1 .left))
+returns-2 c =
+    let a = c .before .before .args in
+    rw (ne-eqb (a .c) 0 (c .before .if1 .left), lt-ltb (a .c * a .k) (a .l) (c .if2 .taken))
 
-mul-if1 : tie.Need-mul-if1
-mul-if1 c = search needs
+returns-3 : tie.Need-returns-3
+unfolding misfits
+returns-3 c =
+    let a = c .before .before .args in
+    rw (ne-eqb (a .c) 0 (c .before .if1 .left), le-ltb (a .c * a .k) (a .l) (c .if2 .left))
+
+mul-if2 : tie.Need-mul-if2
+mul-if2 c = search needs
 
 mul-result : tie.Need-mul-result
 mul-result c = search needs
@@ -24,4 +32,4 @@ sub-result : tie.Need-sub-result
 sub-result c = search needs
 
 pub misfit-spec : {M : Type 1} → statement M
-misfit-spec = tie.close (tie.spec mul-if1 returns mul-result sub-result returns-2)
+misfit-spec = tie.close (tie.spec returns mul-if2 returns-2 mul-result sub-result returns-3)
