@@ -16,7 +16,7 @@ ghost use Prim.Native.Nat.{_≤_};
 ghost use lib.ListN.{length};
 ghost use Rattle.card_rules.specs.Told.{bytesFor, CardWritten, CardTold};
 ghost use Rattle.card_rules.specs.Calls.{addressOf};
-ghost use Rattle.card_rules.specs.Receiving.{onRecord, places-widths, queryFor, clearFor, receiptTold, receipt-widths, toldAfter, shortFault, CardReceived};
+ghost use Rattle.card_rules.specs.Receiving.{places-widths, queryFor, clearFor, receiptTold, receipt-widths, toldAfter, CardReceived};
 ghost use Rattle.card_rules.specs.inner.Queried.{seenTold, shownTold, queriedIn};
 ghost use Rattle.receiver_rules.specs.Promise.{numberOf};
 
@@ -79,23 +79,6 @@ fn tell_receipt(a: Received, told: &mut [u8]) -> usize
     }
 }
 
-// The number where too few bytes are lent to tell in: the record is looked at first.
-fn short_number(table: &[u8]) -> usize
-    ensures { λ r. ⌜ r ≡ onRecord (now (table .entry)) (λ n. n) shortFault ⌝ }
-{
-    let unpacked = packed::unpack(table);
-    let fault = unpacked.answer;
-    match fault {
-        Written::Refused(n) => n as usize,
-        Written::Done => {
-            if places::bad_table(unpacked.table) {
-                return 14;
-            }
-            1
-        }
-    }
-}
-
 // Receives a datagram with the record in its bytes, and gives the number of the answer.
 #[no_mangle]
 pub extern "C" fn bailhammer_receive(
@@ -112,8 +95,9 @@ pub extern "C" fn bailhammer_receive(
         (record { record-bytes = now (table .entry); lent = now (lent .entry); told = now (told .entry); out = now (out .entry) })
         (record { record-bytes = now (table .exit); lent = now (lent .exit); told = now (told .exit); out = now (out .exit) }) r ⌝ }
 {
+    // The record, then 14, then 1, as of a query with no bytes lent.
     if told.len() < TOLD_RECEIVE {
-        return short_number(table);
+        return bailhammer_query(table, &[], &mut []);
     }
     let unpacked = packed::unpack(table);
     let fault = unpacked.answer;

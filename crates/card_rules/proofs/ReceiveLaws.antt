@@ -13,7 +13,9 @@ use lib.Dec.{ltb, eqb}
 use lib.ListN.{length, getD}
 use mir.Val.{Val}
 use Rattle.base_rules.specs.Answer.{Answer, answered, outcome, bytesIn}
+use Rattle.base_rules.specs.Bounds.{most-l}
 use Rattle.base_rules.specs.Bytes.{splice}
+use Rattle.base_rules.specs.Tests.{first}
 use Rattle.base_rules.specs.Written.{numberOf}
 use Rattle.base_rules.specs.declared.Written.{Written}
 use Rattle.base_rules.specs.declared.Written.the-variants.{Done, Refused}
@@ -26,14 +28,15 @@ use Rattle.packed_rules.specs.Claims.{Typed, TypedTable}
 use Rattle.packed_rules.proofs.Proved.{unpacks, packed-length}
 use Rattle.places_rules.specs.declared.Table.{Table}
 use Rattle.places_rules.specs.declared.Place.{Place}
+use Rattle.places_rules.specs.Faults.{badTable}
 use Rattle.places_rules.specs.Places.{freePlace, freshTable}
 use Rattle.places_rules.proofs.Place as a-place
 use Rattle.places_rules.proofs.Records.{as-long}
 use Rattle.receiver_rules.specs.Promise as promise
-use Rattle.receiver_rules.specs.Promise.{Step}
+use Rattle.receiver_rules.specs.Promise.{badRoom, roomFault, Step}
 use Rattle.receiver_rules.specs.declared.Received.{Received}
-use Rattle.card_rules.specs.Told.{bytesFor}
-use Rattle.card_rules.specs.Receiving.{onRecord, receipt-widths, toldAfter, shortFault, Held, ReceivedWith, CardReceived}
+use Rattle.card_rules.specs.Told.{refusalIn, bytesFor, roomFor, CardTold}
+use Rattle.card_rules.specs.Receiving.{onRecord, placesTold, places-widths, queryFor, receipt-widths, toldAfter, shortFault, Held, ReceivedWith, CardReceived}
 use Rattle.card_rules.proofs.ToldLaws.{chosen}
 use Rattle.card_rules.proofs.TellLaws.{whole}
 
@@ -119,14 +122,20 @@ module _ (s : List ℕ) (w : Written) (t : Table) (e : (numberOf w, t) ≡ unpac
       let good = good-record is in
       ap (λ (b : Bool). cond b (call (tableFrom s)) (refusal (unpackFault s))) (eq-eqb (unpackFault s) 0 (good .0)) ∙ ap call (sym (good .1))
 
--- a receiving with too few bytes to tell in gives the number of unpacking, or 14 or 1, and changes nothing
-pub receive-short : (own : Address) (datagram : List ℕ) (before after : Held) (r : ℕ) → length (before .told) < bytesFor receipt-widths
-    → r ≡ onRecord (before .record-bytes) (λ (n : ℕ). n) shortFault → after ≡ before → CardReceived own datagram before after r
-unfolding CardReceived onRecord
-receive-short own datagram before after r short number same =
+asked-short : (t : Table) → refusalIn (roomFor places-widths [] (answered (roomFault t 0 most-l) (placesTold t))) ≡ shortFault t
+unfolding roomFault badRoom shortFault first answered roomFor refusalIn
+asked-short t = either (badTable t) (λ e. rw e refl) (λ e. rw e refl)
+
+-- a receiving with too few bytes to tell in gives the number of a query with none lent, and changes nothing
+pub receive-short : (own : Address) (datagram : List ℕ) (before after : Held) (r : ℕ) {told : List ℕ}
+    → length (before .told) < bytesFor receipt-widths → CardTold places-widths (queryFor (before .record-bytes) 0) [] told r → after ≡ before
+    → CardReceived own datagram before after r
+unfolding CardReceived onRecord queryFor roomFor refusalIn
+receive-short own datagram before after r short asked same =
+    let number = asked .number in
     let none = lt-ltb (length (before .told)) (bytesFor receipt-widths) short in
     either (eqb (unpackFault (before .record-bytes)) 0)
-    (λ e. rw (e, none) (rw e at number, same))
+    (λ e. rw (e, none) ((rw e at number) ∙ asked-short (tableFrom (before .record-bytes)), same))
     (λ e. rw e (rw e at number, same))
 
 module _ (own : Address) (datagram : List ℕ) (before after : Held) (r : ℕ) (w : Written) (x : Table)

@@ -20,10 +20,11 @@ enum-told c = search needs
 returns : tie.Need-returns
 unfolding bytesFor
 returns c =
-    let short = c .before .before in
+    let asked = c .before in
+    let short = asked .before .before .before .before in
     let a = short .before .before .before .before .before .before .args in
     receive-short (addressOf (a .addressed) (a .source) (a .dest)) (a .datagram .now) _ _ _ (omega (arith, short .if1 .taken))
-    (c .short-number .ensures) refl
+    (asked .bailhammer-query .ensures) refl
 
 returns-2 : tie.Need-returns-2
 returns-2 c =
@@ -59,8 +60,14 @@ returns-3 c =
     (told .enum-told .given .1) (addressed .address-of .ensures) (got .receive .ensures) typed (packed .pack .ensures)
     (omega (arith, fits .if1 .left)) (said .tell-receipt .ensures)
 
-short-number-requires : tie.Need-short-number-requires
-short-number-requires c κs = search needs
+slice-aggregate-bailhammer-query : tie.Need-slice-aggregate-bailhammer-query
+slice-aggregate-bailhammer-query c = search needs
+
+slice-aggregate-bailhammer-query-2 : tie.Need-slice-aggregate-bailhammer-query-2
+slice-aggregate-bailhammer-query-2 c = search needs
+
+bailhammer-query-requires : tie.Need-bailhammer-query-requires
+bailhammer-query-requires c κs = search needs
 
 unpack-requires : tie.Need-unpack-requires
 unpack-requires c κs = search needs
@@ -106,7 +113,9 @@ pub bailhammer-receive-spec : {M : Type 1} → statement M
 bailhammer-receive-spec =
     tie.close
     (tie.spec
-    short-number-requires
+    slice-aggregate-bailhammer-query
+    slice-aggregate-bailhammer-query-2
+    bailhammer-query-requires
     same-length
     returns
     unpack-requires
