@@ -5,6 +5,7 @@ ghost use Rattle.text_rules.specs.Wrote.{Wrote};
 use crate::replies;
 use crate::words;
 use crate::words::Number;
+use lister::Listed;
 
 // The answer; 0 where the line is no question on AF packets or malformed.
 pub(crate) fn answer(line: &[u8], out: &mut [u8]) -> usize
@@ -84,14 +85,15 @@ fn answer_list(line: &[u8], out: &mut [u8]) -> usize
     write_listing(out, &packet[..n])
 }
 
-// The listing in a buffer that has room for it: no line has more than 19 letters, and each but two
-// tells of 8 bytes or more of a packet, which has at most 8,192.
+// The listing in a buffer that has room for it: no listing has more letters than `lister::LISTING`.
 fn write_listing(out: &mut [u8], packet: &[u8]) -> usize
     ensures { λ r. ⌜ Wrote (now (out .entry)) 0 r (now (out .exit)) ⌝ }
 {
     let mut listing = words::zeros();
-    let n = lister::list(packet, &mut listing);
-    write_line(out, &mut listing[..n])
+    match lister::list(packet, &mut listing) {
+        Listed::Length(n) => write_line(out, &mut listing[..n]),
+        Listed::Refused(n) => replies::refused(out, n),
+    }
 }
 
 // What was listed, in one line.

@@ -4,6 +4,7 @@ use af::Figures;
 use base::LEAST_L;
 use base::MOST_L;
 use item::HEAD;
+pub use lister_rules::Listed;
 use walk::Handed;
 use walk::Visit;
 use walk::Walker;
@@ -12,15 +13,15 @@ ghost use mathlib.Core.List.{_++_};
 ghost use Rattle.text_rules.specs.Text.{laid, behind, decimalOf};
 ghost use Rattle.walk_rules.specs.Walk.{refusal, walkOf};
 ghost use Rattle.walk_rules.specs.Step.{opens};
+ghost use Rattle.base_rules.specs.Answer.{outcome};
 ghost use Rattle.lister_rules.specs.Listing.{containers, newline, headLine, itemLine, linesOf, refusedLine, payloadLines, listingOf};
+ghost use Rattle.lister_rules.specs.Calls.{numberOf, listCall};
 
-// A buffer as long as this holds every packet and a byte more. So a program may stop reading where it is full: a longer input is refused
-// with 21 or 22, as it would be whole.
+// A buffer as long as this holds every packet and a byte more. So a program may stop reading where it is full: a longer input is listed as
+// its first bytes are (`FirstBytes`).
 pub const INPUT: usize = MOST_L + 1;
 
-// A buffer as long as this holds every listing. A payload has 8,180 bytes at most, and each item's head takes 8 of them: there are 1,022 items
-// at most. The line on an item has 17 letters at most: the depth 1, the name 8, the bits 5 as they are 65,376 at most, two blanks and the end
-// of the line. The other two lines have 25 at most, as "af 65535 1.15 8180" and "pad 7" have with the ends of their lines.
+// A buffer as long as this holds every listing (`ListingFits`).
 pub const LISTING: usize = (MOST_L - LEAST_L) / HEAD * 17 + 25;
 
 // The only container.
@@ -110,8 +111,8 @@ fn list_payload(payload: &[u8], figures: Figures, out: &mut [u8]) -> usize
     item_lines(payload, opened, out, to)
 }
 
-// Writes the listing of a packet at the front of out, as much of it as out has room for, and answers how many bytes were written.
-pub fn list(packet: &[u8], out: &mut [u8]) -> usize
+// The listing of a packet at the front of out, as much of it as out has room for.
+fn lay(packet: &[u8], out: &mut [u8]) -> usize
     ensures { λ r. ⌜ (r ≡ behind (now (out .entry)) 0 (listingOf (now (packet .entry))))
         × (now (out .exit) ≡ laid (now (out .entry)) 0 (listingOf (now (packet .entry)))) ⌝ }
 {
@@ -120,4 +121,17 @@ pub fn list(packet: &[u8], out: &mut [u8]) -> usize
         Checked::Refused(n) => refused_line(out, n),
         Checked::Packet(figures) => list_payload(af::payload(packet), figures, out),
     }
+}
+
+// Writes the listing of a packet at the front of out and answers its length; 1 where out is too short for it, and then out stays as it is.
+pub fn list(packet: &[u8], out: &mut [u8]) -> Listed
+    ensures { λ r. ⌜ outcome (numberOf r) (now (out .exit)) ≡ listCall (now (packet .entry)) (now (out .entry)) ⌝ }
+{
+    let mut listing = [0u8; LISTING];
+    let n = lay(packet, &mut listing);
+    if out.len() < n {
+        return Listed::Refused(1);
+    }
+    text::plain(out, 0, &listing[..n]);
+    Listed::Length(n)
 }

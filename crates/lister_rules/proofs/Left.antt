@@ -39,7 +39,7 @@ told-enough (ends p) n m h = take-same n m _ h ∙ sym (take-same n n _ (le-refl
 told-enough (stops r) n m h = refl
 
 -- how many items a tour visits, and how many there are among what is handed out
-pub visits : Tour → ℕ
+unfoldable pub visits : Tour → ℕ
 visits (visit d i t) = suc (visits t)
 visits (ends p) = 0
 visits (stops n) = 0

@@ -1,12 +1,14 @@
 -- The listing of an AF packet (document 01, "On each side of the edge"). Letters are ASCII.
 use mathlib.Core.Bool.{cond}
 use mathlib.Core.List.{List, [], _∷_, _++_}
-use Prim.Native.Nat.{ℕ}
+use Prim.Native.Nat.{ℕ, _+_, _*_, _/_}
 use lib.Dec.{eqb}
+use Rattle.base_rules.specs.Bounds.{most-l}
 use Rattle.base_rules.specs.Bytes.{bytesOf}
 use Rattle.text_rules.specs.Text.{decimalOf, hexOf}
-use Rattle.af_rules.specs.Packet.{seqOf, minorOf, lenOf, payloadOf}
+use Rattle.af_rules.specs.Packet.{most-payload, seqOf, minorOf, lenOf, payloadOf}
 use Rattle.af_rules.specs.Calls.{afFault}
+use Rattle.item_rules.specs.Item.{head}
 use Rattle.item_rules.specs.declared.Item.{Item}
 use Rattle.walk_rules.specs.Walk.{Tour, visit, ends, stops, refusal, walkOf}
 
@@ -64,3 +66,19 @@ payloadLines front t = cond (eqb (refusal t) 0) (front ++ linesOf t) (refusedLin
 unfoldable pub listingOf : List ℕ → List ℕ
 listingOf s = cond (eqb (afFault s) 0) (payloadLines (headLine (seqOf s) (minorOf s) (lenOf s)) (walkOf (payloadOf s) containers))
     (refusedLine (afFault s))
+
+-- the letters of the longest line on an item: "4 2a646d79 65376" has a depth of 1 digit, bits of at most 5, and the newline
+abbrev pub most-line : ℕ
+most-line = 17
+
+-- the letters of the other two lines at their longest, "af 65535 1.15 8180" and "pad 7", with their newlines
+abbrev pub most-others : ℕ
+most-others = 25
+
+-- so many letters hold every listing: the head of each item takes 8 bytes of the payload
+abbrev pub most-listing : ℕ
+most-listing = most-payload / head * most-line + most-others
+
+-- document 01, "AF packet 12 to 8,192 bytes": so many bytes of an input tell its listing, one more than any packet has
+abbrev pub most-input : ℕ
+most-input = most-l + 1

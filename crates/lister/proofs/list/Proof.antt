@@ -1,57 +1,59 @@
--- `list` meets its contract, by what the AF check answers. Assumes nothing.
+-- `list` meets its contract: the listing, whole in a buffer that holds every one, is copied where out has room for it. Assumes nothing.
+use mathlib.Core.Path.{sym}
+use native.Mathlib.Omega.{arith}
 use borrow.Author.Needs.{needs}
-use Rattle.text_rules.proofs.Laws.{lays-same}
-use Rattle.lister_rules.proofs.Texts.{packet-refused, packet-passes}
+use lib.ListN.{length-replicate}
+use lib.Seq.{length-take-le}
+use Prim.Native.Nat.{ℕ}
+use Rattle.base_rules.specs.Bytes.{Bytes}
+use Rattle.base_rules.proofs.ByteLaws.{bytes-from}
+use Rattle.lister_rules.proofs.Written.{lays-within, list-short, list-copied}
 use Rattle.lister.proofs.list.Statement.{statement}
 use Rattle.lister.proofs.list.Tie as tie
 
+bytes : (c : tie.After-listing) → Bytes (c .before .before .before .args .packet .now)
+bytes c = bytes-from (c .before .before .before .args .packet .now) (λ i l. c .before .before .shared-slice-known .given i .fits)
+
 returns : tie.Need-returns
 returns c =
-    let known = c .before .before .before .before .before in
-    lays-same _ _ (packet-refused _ _ (known .before .before .check .ensures) _ (known .checked .given .1)) (c .before .before .refused-line .ensures)
+    let a = c .before .before .before .before .before .before .args in
+    list-short (a .packet .now) (a .out .now) (bytes (c .before .before .before)) _ _ _ (length-replicate {A = ℕ} 17399 0)
+    (c .before .before .lay .ensures) (c .if1 .taken)
+
+array-share-prefix-listing : tie.Need-array-share-prefix-listing
+array-share-prefix-listing c = lays-within _ _ _ _ (c .before .before .before .lay .ensures)
+
+slice-aggregate-plain : tie.Need-slice-aggregate-plain
+slice-aggregate-plain c = sym (length-take-le _ _ (lays-within _ _ _ _ (c .before .before .before .before .lay .ensures)))
 
 returns-2 : tie.Need-returns-2
 returns-2 c =
-    let known = c .before .before .before .before .before .before in
-    let text = packet-passes _ _ (known .before .before .check .ensures) _ _ (known .checked2 .given .1)
-    (c .before .before .before .before .payload .ensures .0) in
-    lays-same _ _ text (c .before .before .list-payload .ensures)
+    let a = c .before .before .before .before .before .before .before .before .before .before .before .args in
+    let lay = c .before .before .before .before .before .before .before .lay in
+    list-copied (a .packet .now) (a .out .now) (bytes (c .before .before .before .before .before .before .before .before)) _ _ _
+    (length-replicate {A = ℕ} 17399 0) (lay .ensures) _ (c .before .before .before .before .before .if1 .left) (c .before .before .plain .ensures .1)
 
-check-requires : tie.Need-check-requires
-check-requires c κs = search needs
+slice-aggregate-lay : tie.Need-slice-aggregate-lay
+slice-aggregate-lay c = search needs
 
-enum-known-checked : tie.Need-enum-known-checked
-enum-known-checked c = search needs
+lay-requires : tie.Need-lay-requires
+lay-requires c κs = search needs
 
-refused-line-requires : tie.Need-refused-line-requires
-refused-line-requires c κs = search needs
-
-enum-known-checked-2 : tie.Need-enum-known-checked-2
-enum-known-checked-2 c = search needs
-
-payload-requires : tie.Need-payload-requires
-payload-requires c κs = search needs
-
-list-payload-requires : tie.Need-list-payload-requires
-list-payload-requires c κs = search needs
+plain-requires : tie.Need-plain-requires
+plain-requires c κs = search needs
 
 same-length : tie.Need-same-length
 same-length c = search needs
-
-same-length-2 : tie.Need-same-length-2
-same-length-2 c = search needs
 
 pub list-spec : {M : Type 1} → statement M
 list-spec =
     tie.close
     (tie.spec
-    check-requires
-    enum-known-checked
-    refused-line-requires
-    enum-known-checked-2
-    payload-requires
-    list-payload-requires
-    same-length
+    slice-aggregate-lay
+    lay-requires
     returns
-    same-length-2
+    array-share-prefix-listing
+    slice-aggregate-plain
+    plain-requires
+    same-length
     returns-2)
