@@ -1,13 +1,13 @@
 -- No listing is longer than most-listing: each item of a walk takes 8 bytes of the payload for its head, and its contents are bytes of its value.
 -- Assumes nothing.
-use Prim.Native.Nat.{ℕ, zero, suc, _+_, _-_, _*_, _%_, _≤_, _<_}
-use mathlib.Core.List.{List, [], _∷_, _++_}
-use mathlib.Core.Path.{_≡_, refl, sym, ap, _∙_}
-use mathlib.Core.Bool.{Bool, true, false, cond, not, _&&_}
-use native.Mathlib.Nat.{not-suc-le-zero, mod-lt}
+use Prim.Native.Nat.{ℕ, zero, suc, _+_, _-_, _*_, _≤_, _<_}
+use mathlib.Core.List.{List, [], _∷_}
+use mathlib.Core.Path.{_≡_, refl}
+use mathlib.Core.Bool.{Bool, true, false, cond}
+use native.Mathlib.Nat.{mod-lt}
 use native.Mathlib.Omega.{arith}
 use borrow.Author.Tests.{ltb-false, eqb-true, eqb-false}
-use lib.Dec.{eqb, ltb}
+use lib.Dec.{eqb}
 use lib.ListN.{length, length-append, length-take, length-drop}
 use Rattle.base_rules.specs.Bytes.{Bytes}
 use Rattle.base_rules.specs.Tests.{first, among}
@@ -15,7 +15,6 @@ use Rattle.base_rules.proofs.Ceil.{up}
 use Rattle.base_rules.proofs.Firsts.{clear, clear-rest}
 use Rattle.base_rules.proofs.Logic.{either}
 use Rattle.base_rules.proofs.Numbers.{number-lt}
-use Rattle.text_rules.specs.Text.{decimalOf}
 use Rattle.af_rules.specs.Packet.{most-payload, seqOf, arOf, minorOf, lenOf, payloadOf}
 use Rattle.af_rules.specs.Calls.{afFault}
 use Rattle.af_rules.proofs.Checks.{passing}
@@ -23,12 +22,12 @@ use Rattle.item_rules.specs.declared.Item.{Item}
 use Rattle.item_rules.specs.declared.Step.{Step}
 use Rattle.item_rules.specs.declared.Step.the-variants as step
 use Rattle.item_rules.specs.Item.{bytesFor, itemAt, stepIn}
-use Rattle.item_rules.specs.Run.{Run, item, padding, refused, nextOf, runOf, faultOf}
+use Rattle.item_rules.specs.Run.{Run, item, nextOf, runOf, faultOf}
 use Rattle.item_rules.proofs.Steps.{item-fits, item-at, end-few, refused-is}
 use Rattle.item_rules.proofs.Runs.{item-begins, falls, run-item, run-end, run-refused}
 use Rattle.walk_rules.specs.Names.{deepest, namesOf, namesFault}
 use Rattle.walk_rules.specs.Walk.{Tour, visit, ends, stops, unless, andThen, walkFault, tourBy, tourAt, refusal, walkOf}
-use Rattle.lister_rules.specs.Listing.{containers, headLine, linesOf, refusedLine, payloadLines, listingOf, most-line, most-listing}
+use Rattle.lister_rules.specs.Listing.{containers, linesOf, payloadLines, listingOf, most-listing}
 use Rattle.lister_rules.proofs.Left.{visits}
 use Rattle.lister_rules.proofs.Lines.{item-line-few, head-line-few, pad-few, refused-line-few}
 

@@ -1,6 +1,4 @@
 -- The claims of specs/Claims.antt, by citation. Assumes nothing.
-use mathlib.Core.Path.{_≡_}
-use Rattle.lister_rules.specs.declared.Listed.{Listed}
 use Rattle.lister_rules.specs.declared.Listed.the-variants.{Length, Refused}
 use Rattle.lister_rules.specs.Calls.{numberOf}
 use Rattle.lister_rules.specs.Claims.{ListingFits, FirstBytes, OneListed}

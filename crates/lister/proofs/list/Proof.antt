@@ -1,6 +1,5 @@
 -- `list` meets its contract: the listing, whole in a buffer that holds every one, is copied where out has room for it. Assumes nothing.
 use mathlib.Core.Path.{sym}
-use native.Mathlib.Omega.{arith}
 use borrow.Author.Needs.{needs}
 use lib.ListN.{length-replicate}
 use lib.Seq.{length-take-le}

@@ -1,5 +1,4 @@
 -- `list_whole` meets its contract: where the buffer holds every listing, none is refused. Assumes nothing.
-use mathlib.Core.List.{List}
 use mathlib.Core.Path.{_≡_}
 use Prim.Native.Nat.{ℕ}
 use native.Mathlib.Omega.{arith}
