@@ -36,7 +36,8 @@ use Rattle.receiver_rules.specs.Promise as promise
 use Rattle.receiver_rules.specs.Promise.{badRoom, roomFault, Step}
 use Rattle.receiver_rules.specs.declared.Received.{Received}
 use Rattle.card_rules.specs.Told.{refusalIn, bytesFor, roomFor, CardTold}
-use Rattle.card_rules.specs.Receiving.{onRecord, placesTold, places-widths, queryFor, receipt-widths, toldAfter, shortFault, Held, ReceivedWith, CardReceived}
+use Rattle.card_rules.specs.Receiving.{onRecord, placesTold, places-widths, queryFor, receipt-widths, toldAfter, shortFault}
+use Rattle.card_rules.specs.Receiving.{Held, ReceivedWith, CardReceived}
 use Rattle.card_rules.proofs.ToldLaws.{chosen}
 use Rattle.card_rules.proofs.TellLaws.{whole}
 

@@ -84,7 +84,8 @@ module _ (s : List ℕ) where
     visits-by seen (item i r) (more-items p v) =
         visits-unless (walkFault cs d (among (i .name) seen) i) _ (λ z.
         let shallow = not-too-deep cs d (among (i .name) seen) i z in
-        more (record { at = p .at; spelt = p .spelt; inside = p .inside; shallow = shallow }) (visits-then _ _ (contents (among (i .name) cs) i (p .inside)) (visits-by (i .name ∷ seen) r v)))
+        more (record { at = p .at; spelt = p .spelt; inside = p .inside; shallow = shallow })
+        (visits-then _ _ (contents (among (i .name) cs) i (p .inside)) (visits-by (i .name ∷ seen) r v)))
     visits-by seen (padding p) v = end
     visits-by seen (refused n) v = stop
 
