@@ -8,8 +8,9 @@ ghost use mathlib.Core.Path.{_≡_};
 ghost use mathlib.Core.Bool.{false, _&&_};
 ghost use Prim.Native.Nat.{_%_, _<_};
 ghost use lib.ListN.{replicate};
-ghost use Rattle.item_rules.specs.Item.{bytesFor, stepIn};
-ghost use Rattle.item_rules.specs.Run.{runOf, firstOf, badPtr, faultOf, isBefore, slots};
+ghost use Rattle.base_rules.specs.Answer.{granted};
+ghost use Rattle.item_rules.specs.Item.{bytesFor, stepIn, numberOf, stepCall};
+ghost use Rattle.item_rules.specs.Run.{runOf, firstOf, firstValues, foundNumber, badPtr, faultOf, isBefore, slots};
 
 // The bytes before a value.
 pub const HEAD: usize = 8;
@@ -34,7 +35,7 @@ pub fn bytes_of(bits: Bits) -> Bytes
 
 // What stands at `at` in the packet that ends before `end`.
 pub fn step_in(s: &[u8], at: usize, end: usize) -> Step
-    ensures { λ r. ⌜ r ≡ stepIn (now (s .entry)) at end ⌝ }
+    ensures { λ r. ⌜ (r ≡ stepIn (now (s .entry)) at end) × (numberOf r ≡ stepCall (now (s .entry)) at end) ⌝ }
 {
     if end < at {
         return Step::End(Bytes(0));
@@ -59,7 +60,8 @@ pub fn step_in(s: &[u8], at: usize, end: usize) -> Step
 
 // The first item of that name in the packet from `from` to `end`.
 pub fn first_in(s: &[u8], name: u32, from: usize, end: usize) -> Found
-    ensures { λ r. ⌜ r ≡ firstOf name (runOf (now (s .entry)) from end) ⌝ }
+    ensures { λ r. ⌜ (r ≡ firstOf name (runOf (now (s .entry)) from end))
+        × (foundNumber r ≡ granted (firstValues name (runOf (now (s .entry)) from end))) ⌝ }
 {
     let mut at = from;
     loop {

@@ -4,4 +4,5 @@ pub mod Runs
 pub mod Faults
 pub mod Seen
 pub mod Finds
+pub mod Numbers
 pub mod Proved

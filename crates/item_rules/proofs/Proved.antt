@@ -1,10 +1,12 @@
--- The claim of specs/Claims.antt. Assumes nothing.
+-- The claims of specs/Claims.antt. Assumes nothing.
 use Prim.Native.Nat.{ℕ}
-use mathlib.Core.Path.{_≡_, ap}
+use mathlib.Core.Path.{_≡_, refl, ap}
 use Rattle.item_rules.specs.declared.Item.{Item}
 use Rattle.item_rules.specs.declared.Step.the-variants as step
+use Rattle.item_rules.specs.declared.Found.the-variants as found
 use Rattle.item_rules.specs.Item.{valuesOf, numberOf}
-use Rattle.item_rules.specs.Claims.{OneStep}
+use Rattle.item_rules.specs.Run.{foundNumber}
+use Rattle.item_rules.specs.Claims.{OneStep, OneFound}
 
 -- an item is what it tells
 abbrev made : ℕ → ℕ → ℕ → ℕ → Item
@@ -29,3 +31,11 @@ one-step (step.End p) (step.Refused m) e = cc
 one-step (step.Refused n) (step.Item j) e = cc
 one-step (step.Refused n) (step.End q) e = cc
 one-step (step.Refused n) (step.Refused m) e = cc
+
+-- nor have two of a search
+pub one-found : OneFound
+unfolding foundNumber
+one-found (found.At i) (found.At j) e = ap found.At (one-item i j (cc))
+one-found (found.At i) found.Nothing e = cc
+one-found found.Nothing (found.At j) e = cc
+one-found found.Nothing found.Nothing e = refl

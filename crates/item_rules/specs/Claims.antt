@@ -1,8 +1,14 @@
--- What holds of a step's answer, as a claim: the proof is in proofs/Proved.antt.
+-- What holds of the answers of a step and of a search, as claims: the proofs are in proofs/Proved.antt.
 use mathlib.Core.Path.{_≡_}
 use Rattle.item_rules.specs.declared.Step.{Step}
+use Rattle.item_rules.specs.declared.Found.{Found}
 use Rattle.item_rules.specs.Item.{numberOf}
+use Rattle.item_rules.specs.Run.{foundNumber}
 
 -- no second answer fits: two steps with the same number and values are the same step
 abbrev pub OneStep : Type 0
 OneStep = (a b : Step) → numberOf a ≡ numberOf b → a ≡ b
+
+-- so it is of what a search finds
+abbrev pub OneFound : Type 0
+OneFound = (a b : Found) → foundNumber a ≡ foundNumber b → a ≡ b

@@ -1,11 +1,12 @@
 -- A TAG item (clause 5.2): a name of 4 bytes, a length in bits of 4 bytes, and the value.
-use mathlib.Core.Bool.{cond}
+use mathlib.Core.Bool.{cond, not, _&&_}
 use mathlib.Core.List.{List, [], _∷_}
 use Prim.Native.Nat.{ℕ, _+_, _-_}
 use lib.Dec.{ltb, leb}
-use Rattle.base_rules.specs.Answer.{Answer, granted, refused}
+use Rattle.base_rules.specs.Answer.{Answer, granted, refused, answered}
 use Rattle.base_rules.specs.Bytes.{numberAt}
 use Rattle.base_rules.specs.Round.{ceil}
+use Rattle.base_rules.specs.Tests.{first}
 use Rattle.item_rules.specs.declared.Bits.{Bits}
 use Rattle.item_rules.specs.declared.Bytes.{Bytes}
 use Rattle.item_rules.specs.declared.Item.{Item}
@@ -45,3 +46,16 @@ unfoldable pub numberOf : Step → Answer
 numberOf (step.Item i) = granted (valuesOf i)
 numberOf (step.End p) = granted (p .0 ∷ [])
 numberOf (step.Refused n) = refused n
+
+-- document 01, 30 OVERRUN: 8 bytes or more remain, so an item must follow, and it passes the end; 0 where it does not
+unfoldable pub overrunIn : List ℕ → ℕ → ℕ → ℕ
+overrunIn s at end =
+    first ((not (ltb (end - at) head) && not (leb (head + bytesFor (numberAt 4 s (at + 4))) (end - at)), 30) ∷ [])
+
+-- document 01: what is told where nothing is refused: the count of padding bytes where 7 or fewer remain, else what the item tells
+unfoldable pub stepValues : List ℕ → ℕ → ℕ → List ℕ
+stepValues s at end = cond (ltb (end - at) head) ((end - at) ∷ []) (valuesOf (itemAt s at))
+
+-- a step as document 01's number and values
+unfoldable pub stepCall : List ℕ → ℕ → ℕ → Answer
+stepCall s at end = answered (overrunIn s at end) (stepValues s at end)

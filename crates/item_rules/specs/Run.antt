@@ -1,15 +1,16 @@
 -- A packet is a run of items (document 01, "TAG layer"): what is found in it, and when an item is at fault.
-use mathlib.Core.Bool.{Bool, false, cond, not, _&&_}
+use mathlib.Core.Bool.{Bool, false, cond, not, _&&_, _||_}
 use mathlib.Core.List.{List, [], _∷_}
 use Prim.Native.Nat.{ℕ, zero, suc, _+_, _-_}
 use lib.Dec.{ltb, eqb}
+use Rattle.base_rules.specs.Answer.{Answer, granted}
 use Rattle.base_rules.specs.Tests.{first, among}
 use Rattle.item_rules.specs.declared.Item.{Item}
 use Rattle.item_rules.specs.declared.Step.{Step}
 use Rattle.item_rules.specs.declared.Step.the-variants as step
 use Rattle.item_rules.specs.declared.Found.{Found}
 use Rattle.item_rules.specs.declared.Found.the-variants as found
-use Rattle.item_rules.specs.Item.{stepIn}
+use Rattle.item_rules.specs.Item.{stepIn, valuesOf}
 
 -- items, one after another, and how they end: with so many bytes of padding, or at an item that is refused
 pub data Run : Type 0 where
@@ -41,6 +42,23 @@ unfoldable pub firstOf : ℕ → Run → Found
 firstOf name (item i r) = cond (eqb (i .name) name) (found.At i) (firstOf name r)
 firstOf name (padding n) = found.Nothing
 firstOf name (refused n) = found.Nothing
+
+-- whether an item has that name
+unfoldable pub hasName : ℕ → Run → Bool
+hasName name (item i r) = eqb (i .name) name || hasName name r
+hasName name (padding n) = false
+hasName name (refused n) = false
+
+-- what the first item of that name tells; no values where none has it
+unfoldable pub firstValues : ℕ → Run → List ℕ
+firstValues name (item i r) = cond (eqb (i .name) name) (valuesOf i) (firstValues name r)
+firstValues name (padding n) = []
+firstValues name (refused n) = []
+
+-- document 01's number and values for each case: a search of one packet refuses nothing, since 34 ABSENT is said of two
+unfoldable pub foundNumber : Found → Answer
+foundNumber (found.At i) = granted (valuesOf i)
+foundNumber found.Nothing = granted []
 
 -- document 01: "*dmy" is filler
 abbrev pub dmy : ℕ

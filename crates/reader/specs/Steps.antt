@@ -2,9 +2,10 @@
 use mathlib.Core.List.{List, [], _∷_}
 use Prim.Native.Nat.{ℕ, zero, suc}
 use denote.Ref.{RefT, now}
+use Rattle.base_rules.specs.Answer.{Answer}
 use Rattle.item_rules.specs.declared.Step.{Step}
 use Rattle.tag_rules.specs.Find.{checkOf}
-use Rattle.tag_rules.specs.Calls.{readOf, afterOf}
+use Rattle.tag_rules.specs.Calls.{readOf, readCall, afterOf}
 use Rattle.reader.specs.declared.Reader.{Reader}
 
 -- document 01: opening checks the whole packet; the reader begins at 0 and keeps the refusal, 0 for none
@@ -14,6 +15,10 @@ openedOn p = record { packet = p; at = 0; refusal = checkOf (now p) }
 -- document 01: what it hands out where it stands
 abbrev pub stepOf : Reader → Step
 stepOf r = readOf (now (r .packet)) (r .at) (r .refusal)
+
+-- that as document 01's number and values
+abbrev pub toldBy : Reader → Answer
+toldBy r = readCall (now (r .packet)) (r .at) (r .refusal)
 
 -- document 01: the reader behind what it handed out
 abbrev pub movedOf : Reader → Reader

@@ -3,9 +3,10 @@
 use item::Step;
 use tag::Opened;
 ghost use mathlib.Core.Path.{_≡_};
+ghost use Rattle.item_rules.specs.Item.{numberOf};
 ghost use Rattle.tag_rules.specs.Find.{checkOf};
-ghost use Rattle.tag_rules.specs.Calls.{readOf, afterOf};
-ghost use Rattle.reader.specs.Steps.{openedOn, stepOf, movedOf};
+ghost use Rattle.tag_rules.specs.Calls.{readOf, readCall, firstCall, afterOf};
+ghost use Rattle.reader.specs.Steps.{openedOn, stepOf, toldBy, movedOf};
 
 // The packet, where the reader stands in it, and the number with which opening refused it, 0 for none.
 pub struct Reader<'a> {
@@ -38,7 +39,7 @@ pub fn open<'a>(packet: &'a [u8]) -> Reader<'a>
 
 // What the reader hands out where it stands: an item, the end with the count of padding bytes, or the refusal.
 pub fn step<'a>(r: Reader<'a>) -> Step
-    ensures { λ s. ⌜ s ≡ stepOf (r .entry) ⌝ }
+    ensures { λ s. ⌜ (s ≡ stepOf (r .entry)) × (numberOf s ≡ toldBy (r .entry)) ⌝ }
 {
     tag::read_at(r.packet, r.at, r.refusal)
 }
@@ -56,14 +57,14 @@ pub fn moved<'a>(r: Reader<'a>) -> Reader<'a>
 
 // What a reader just opened on the packet hands out.
 pub fn first(packet: &[u8]) -> Step
-    ensures { λ s. ⌜ s ≡ readOf (now (packet .entry)) 0 (checkOf (now (packet .entry))) ⌝ }
+    ensures { λ s. ⌜ (s ≡ readOf (now (packet .entry)) 0 (checkOf (now (packet .entry)))) × (numberOf s ≡ firstCall (now (packet .entry))) ⌝ }
 {
     step(open(packet))
 }
 
 // What a reader that stands at `at` hands out, for callers that hold no reader.
 pub fn step_at(packet: &[u8], at: usize, refusal: u8) -> Step
-    ensures { λ s. ⌜ s ≡ readOf (now (packet .entry)) at refusal ⌝ }
+    ensures { λ s. ⌜ (s ≡ readOf (now (packet .entry)) at refusal) × (numberOf s ≡ readCall (now (packet .entry)) at refusal) ⌝ }
 {
     step(Reader {
         packet,

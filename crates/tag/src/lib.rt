@@ -9,8 +9,9 @@ ghost use mathlib.Core.Path.{_≡_};
 ghost use mathlib.Core.List.{[], _∷_};
 ghost use denote.Ref.{ptr};
 ghost use Rattle.base_rules.specs.Answer.{granted};
+ghost use Rattle.item_rules.specs.Item.{numberOf};
 ghost use Rattle.tag_rules.specs.Find.{checkOf, locateOf, valueOf, valuePlace, PartShown};
-ghost use Rattle.tag_rules.specs.Calls.{openedNumber, openCall, readOf, afterOf, soughtNumber, searchCall};
+ghost use Rattle.tag_rules.specs.Calls.{openedNumber, openCall, readOf, readCall, afterOf, soughtNumber, searchCall, locatedNumber, locateCall};
 
 // The number of the leftmost item at fault of a whole packet, or 0. A name whose slot has no mark has not stood before, so that few names are
 // searched for.
@@ -55,7 +56,7 @@ pub fn open_reader(packet: &[u8]) -> Opened
 
 // What a reader at `at` hands out; `refusal` is the number with which its packet was refused, or 0.
 pub fn read_at(packet: &[u8], at: usize, refusal: u8) -> Step
-    ensures { λ r. ⌜ r ≡ readOf (now (packet .entry)) at refusal ⌝ }
+    ensures { λ r. ⌜ (r ≡ readOf (now (packet .entry)) at refusal) × (numberOf r ≡ readCall (now (packet .entry)) at refusal) ⌝ }
 {
     if refusal != 0 {
         return Step::Refused(refusal);
@@ -77,7 +78,8 @@ pub fn read_after(packet: &[u8], at: usize, refusal: u8) -> usize
 
 // Where the name is: both packets are checked whole, the packet first, before either is searched.
 pub fn locate(packet: &[u8], standing: &[u8], name: u32) -> Located
-    ensures { λ r. ⌜ r ≡ locateOf (now (packet .entry)) (now (standing .entry)) name ⌝ }
+    ensures { λ r. ⌜ (r ≡ locateOf (now (packet .entry)) (now (standing .entry)) name)
+        × (locatedNumber r ≡ locateCall (now (packet .entry)) (now (standing .entry)) name) ⌝ }
 {
     let n = check(packet);
     if n != 0 {

@@ -6,4 +6,5 @@ pub mod Values
 pub mod HandedOut
 pub mod Endings
 pub mod Inside
+pub mod Numbers
 pub mod Proved

@@ -1,21 +1,22 @@
 -- What the calls on a packet answer; document 01, "Numbers given back", has the numbers.
-use mathlib.Core.Bool.{cond}
+use mathlib.Core.Bool.{cond, not, _||_}
 use mathlib.Core.List.{List, [], _∷_}
 use Prim.Native.Nat.{ℕ}
 use lib.Dec.{eqb}
 use lib.ListN.{length}
 use Rattle.base_rules.specs.Answer.{Answer, granted, refused, answered}
+use Rattle.base_rules.specs.Tests.{first}
 use Rattle.item_rules.specs.declared.Step.{Step}
 use Rattle.item_rules.specs.declared.Step.the-variants as step
-use Rattle.item_rules.specs.Item.{stepIn, valuesOf}
-use Rattle.item_rules.specs.Run.{nextOf, onStep}
+use Rattle.item_rules.specs.Item.{stepIn, valuesOf, overrunIn, stepValues}
+use Rattle.item_rules.specs.Run.{nextOf, onStep, orElse, hasName, firstValues}
 use Rattle.tag_rules.specs.declared.Located.{Located}
 use Rattle.tag_rules.specs.declared.Located.the-variants as located
 use Rattle.tag_rules.specs.declared.Opened.{Opened}
 use Rattle.tag_rules.specs.declared.Opened.the-variants as opened
 use Rattle.tag_rules.specs.declared.Sought.{Sought}
 use Rattle.tag_rules.specs.declared.Sought.the-variants as sought
-use Rattle.tag_rules.specs.Find.{checkOf, locateOf}
+use Rattle.tag_rules.specs.Find.{wholeRun, checkOf, locateOf}
 
 -- document 01's number and values for each case: a reader opens at a position
 unfoldable pub openedNumber : Opened → Answer
@@ -29,6 +30,14 @@ openCall s = answered (checkOf s) (0 ∷ [])
 -- document 01: what a reader at a position hands out; `refusal` is the number with which its packet was refused, 0 for none
 unfoldable pub readOf : List ℕ → ℕ → ℕ → Step
 readOf s at refusal = cond (eqb refusal 0) (stepIn s at (length s)) (step.Refused refusal)
+
+-- the same as number and values: the refusal of its opening comes first, then 30 OVERRUN where it stands
+unfoldable pub readCall : List ℕ → ℕ → ℕ → Answer
+readCall s at refusal = answered (orElse refusal (overrunIn s at (length s))) (stepValues s at (length s))
+
+-- document 01: what a reader just opened hands out, as number and values: the whole packet was checked, so nothing else is refused
+unfoldable pub firstCall : List ℕ → Answer
+firstCall s = answered (checkOf s) (stepValues s 0 (length s))
 
 -- document 01: where it stands then: behind the item; at the end, or refused, it stays
 unfoldable pub afterOf : List ℕ → ℕ → ℕ → ℕ
@@ -55,6 +64,15 @@ locatedNumber (located.Packet i) = granted (0 ∷ valuesOf i)
 locatedNumber (located.Standing i) = granted (1 ∷ valuesOf i)
 locatedNumber (located.Refused n) = refused n
 
+-- document 01: the number with which a search is refused: the packet's fault, then the standing packet's; 34 ABSENT "comes after all of them"
+unfoldable pub locateFault : List ℕ → List ℕ → ℕ → ℕ
+locateFault s t name =
+    orElse (checkOf s) (orElse (checkOf t) (first ((not (hasName name (wholeRun s) || hasName name (wholeRun t)), 34) ∷ [])))
+
+-- document 01: what is told of the name: the first item of the first packet that holds it
+unfoldable pub locateValues : List ℕ → List ℕ → ℕ → List ℕ
+locateValues s t name = cond (hasName name (wholeRun s)) (0 ∷ firstValues name (wholeRun s)) (1 ∷ firstValues name (wholeRun t))
+
 -- document 01: where a name is, as number and values
 unfoldable pub locateCall : List ℕ → List ℕ → ℕ → Answer
-locateCall s t name = locatedNumber (locateOf s t name)
+locateCall s t name = answered (locateFault s t name) (locateValues s t name)

@@ -13,10 +13,10 @@ enum-told c = search needs
 returns : tie.Need-returns
 returns c =
     let k = c .before .before in
-    sym (simp (k .before .before .before .if1 .taken, sym (k .before .before .first-in .ensures) ∙ k .f .given .1))
+    sym (simp (k .before .before .before .if1 .taken, sym (k .before .before .first-in .ensures .0) ∙ k .f .given .1))
 
 returns-2 : tie.Need-returns-2
-returns-2 c = sym (simp (c .before .before .before .if1 .taken, sym (c .before .before .first-in .ensures) ∙ c .enum-told .given .1))
+returns-2 c = sym (simp (c .before .before .before .if1 .taken, sym (c .before .before .first-in .ensures .0) ∙ c .enum-told .given .1))
 
 first-in-requires : tie.Need-first-in-requires
 first-in-requires c κs = search needs

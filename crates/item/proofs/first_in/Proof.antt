@@ -6,6 +6,7 @@ use mathlib.Core.Path.{_≡_, refl, sym, ap, _∙_}
 use Rattle.item_rules.specs.Run.{runOf, firstOf}
 use Rattle.item_rules.proofs.Steps.{item-fits}
 use Rattle.item_rules.proofs.Runs.{item-begins, falls, first-here, first-next, first-end, first-refused}
+use Rattle.item_rules.proofs.Numbers.{found-told}
 use Rattle.item.proofs.first_in.Statement.{statement}
 use Rattle.item.proofs.first_in.Tie as tie
 use Rattle.item.proofs.first_in.Reads as reads
@@ -24,33 +25,37 @@ loop-holds c = refl
 returns : tie.Need-returns Inv-loop μ-loop
 returns c =
     let k = c .before .before .before in
-    sym (k .before .before .before .loop .inv ∙ first-here _ _ _ _ _ (sym (k .before .before .step-in .ensures) ∙ k .step .given .1) (c .if1 .taken))
+    let e = sym (k .before .before .step-in .ensures .0) ∙ k .step .given .1 in
+    found-told _ _ _ (sym (k .before .before .before .loop .inv ∙ first-here _ _ _ _ _ e (c .if1 .taken)))
 
 add-at : tie.Need-add-at Inv-loop μ-loop
 add-at c =
-    let e = sym (c .before .before .before .before .before .before .step-in .ensures) ∙ c .before .before .before .before .step .given .1 in
+    let e = sym (c .before .before .before .before .before .before .step-in .ensures .0) ∙ c .before .before .before .before .step .given .1 in
     omega (arith, item-begins _ _ _ _ e, item-fits _ _ _ _ e)
 
 loop-less : tie.Need-loop-less Inv-loop μ-loop
 loop-less c =
     let k = c .before .before .before .before in
-    omega (arith, falls _ _ _ _ (sym (k .before .before .step-in .ensures) ∙ k .step .given .1))
+    omega (arith, falls _ _ _ _ (sym (k .before .before .step-in .ensures .0) ∙ k .step .given .1))
 
 loop-again : tie.Need-loop-again Inv-loop μ-loop
 loop-again c =
     let k = c .before .before .before .before in
-    let e = sym (k .before .before .step-in .ensures) ∙ k .step .given .1 in
+    let e = sym (k .before .before .step-in .ensures .0) ∙ k .step .given .1 in
     k .before .before .before .loop .inv ∙ first-next _ _ _ _ _ e (c .before .if1 .left)
 
 enum-told : tie.Need-enum-told Inv-loop μ-loop
 enum-told c = search needs
 
 returns-2 : tie.Need-returns-2 Inv-loop μ-loop
-returns-2 c = sym (c .before .before .before .loop .inv ∙ first-end _ _ _ _ _ (sym (c .before .before .step-in .ensures) ∙ c .enum-told .given .1))
+returns-2 c =
+    let e = sym (c .before .before .step-in .ensures .0) ∙ c .enum-told .given .1 in
+    found-told _ _ _ (sym (c .before .before .before .loop .inv ∙ first-end _ _ _ _ _ e))
 
 returns-3 : tie.Need-returns-3 Inv-loop μ-loop
 returns-3 c =
-    sym (c .before .before .before .loop .inv ∙ first-refused _ _ _ _ _ (sym (c .before .before .step-in .ensures) ∙ c .enum-told2 .given .1))
+    let e = sym (c .before .before .step-in .ensures .0) ∙ c .enum-told2 .given .1 in
+    found-told _ _ _ (sym (c .before .before .before .loop .inv ∙ first-refused _ _ _ _ _ e))
 
 step-in-requires : tie.Need-step-in-requires Inv-loop μ-loop
 step-in-requires c κs = search needs

@@ -3,6 +3,7 @@ use native.Mathlib.Nat.{sub-eq-zero-of-le, le-of-lt}
 use borrow.Author.Tests.{lt-ltb}
 use Rattle.item_rules.specs.Item.{stepIn}
 use Rattle.item_rules.proofs.Steps.{is-item, is-overrun}
+use Rattle.item_rules.proofs.Numbers.{step-told}
 use borrow.Author.Needs.{needs}
 use Rattle.item.proofs.step_in.Statement.{statement}
 use Rattle.item.proofs.step_in.Tie as tie
@@ -13,22 +14,22 @@ use Rattle.item.proofs.bytes_of.Reads as bytes-of-reads
 
 returns : tie.Need-returns
 unfolding stepIn
-returns c = simp (sub-eq-zero-of-le (le-of-lt (c .if1 .taken)))
+returns c = step-told _ _ _ _ (simp (sub-eq-zero-of-le (le-of-lt (c .if1 .taken))))
 
 returns-2 : tie.Need-returns-2
 unfolding stepIn
-returns-2 c = simp (lt-ltb _ _ (c .if2 .taken))
+returns-2 c = step-told _ _ _ _ (simp (lt-ltb _ _ (c .if2 .taken)))
 
 returns-3 : tie.Need-returns-3
 returns-3 c =
-    let h = c .before .before .before .before .before .if2 .left in let f = c .if3 .taken in is-overrun _ _ _ _ _ h
-    (c .before .before .before .read42 .ensures) (c .before .before .bytes-of .ensures) (omega arith)
+    let h = c .before .before .before .before .before .if2 .left in let f = c .if3 .taken in step-told _ _ _ _ (is-overrun _ _ _ _ _ h
+    (c .before .before .before .read42 .ensures) (c .before .before .bytes-of .ensures) (omega arith))
 
 returns-4 : tie.Need-returns-4
 returns-4 c =
-    let h = c .before .before .before .before .before .if2 .left in let f = c .if3 .left in is-item _ _ _ _ _ _ h
+    let h = c .before .before .before .before .before .if2 .left in let f = c .if3 .left in step-told _ _ _ _ (is-item _ _ _ _ _ _ h
     (c .before .before .before .before .read4 .ensures) (c .before .before .before .read42 .ensures) (c .before .before .bytes-of .ensures)
-    (omega arith)
+    (omega arith))
 
 read4-requires : tie.Need-read4-requires
 read4-requires c κs = search needs

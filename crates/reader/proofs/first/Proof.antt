@@ -20,7 +20,7 @@ use types.Run.{look, init, forget, stop, from, load, and-then, no-more, land, re
 use sound.WpLaws.{FmC, fmOf, WpFn-mono}
 use denote.Laws.{Is}
 use denote.Builtin.{u8}
-use denote.Ref.{RefT, NamedLft}
+use denote.Ref.{RefT, NamedLft, now}
 use denote.Signature.{plain}
 use denote.Slice.{ShrSlice, slice-vals, shr-slice-tells, shr-slice-lawful}
 use denote.Steps.{nothing}
@@ -33,10 +33,12 @@ use denote.Triple.Table.{entered, cited}
 use denote.Triple.Walked.{says, Stays, stay-none-slice, walkOf, goes-none-slice, Walks, ends-at, walked, walk-meets}
 use denote.Exit.{yes}
 use Rattle.item_rules.specs.declared.Step.{Step}
+use Rattle.item_rules.specs.Item.{numberOf}
 use Rattle.item_rules.proofs.Step as S
 use Rattle.item_rules.proofs.Step.Laws as S′
 use Rattle.reader.specs.declared.Reader.{Reader}
-use Rattle.reader.specs.Steps.{openedOn, stepOf}
+use Rattle.tag_rules.proofs.Numbers.{first-told}
+use Rattle.reader.specs.Steps.{openedOn, stepOf, toldBy}
 use Rattle.reader.proofs.Reader as T
 use Rattle.reader.proofs.Reader.Laws as T′
 use Rattle.tag.proofs.Answers.{answers}
@@ -95,7 +97,7 @@ module _ {M : Type 1} (𝓤 : URA M) (H : Heap 𝓤) (A : Atoms 𝓤) (W : Given
       qed W (‵ (S.the-row .own t (u ∷ [])) ∷ (‵ (flft κ q) ⊛ ‵ ftrue) ∷ ‵ (Own κ s) ∷ []) ∵
       suffices ! _ (ends-at 𝓤 H A first.ended stayed (first.clauses 𝓤 H A mem run) W
       (((κ, tt), (q, tt), tt, (s, tt), (lentVal s ∷ [], tt)), tt) u t (tt, tt) (tt, tt)) $
-      says ! e $
+      says ! (first-told (now s) t e) $
       move ! (1 ∷ []) $ frame ! $ nothing ! $ move ! (2 ∷ 0 ∷ []) $ fjoin ! $ frame ! $ done !
 
   module _ (C : Calls 𝓤 H) (Λ : Loops 𝓤 H) (fm : FmC 𝓤 H (W .laws) C)
@@ -115,12 +117,12 @@ module _ {M : Type 1} (𝓤 : URA M) (H : Heap 𝓤) (A : Atoms 𝓤) (W : Given
         -- the step
         use2 W (raw (Steps 𝓤 H A mem run .pre (to-step d v))) (step-asked d v) $
         calls-at ! fm (Steps 𝓤 H A mem run) steps (to-step d v) (and-then ! (load ! (from ! (stop !)) (look ! 2 refl)) (no-more !)) (λ u.
-        answers ! tt step.ended (κ, tt) (d, tt) S.the-row (λ (t : Step). t ≡ stepOf d) κ q u (id⊢ 𝓤 _) (λ t e is.
+        answers ! tt step.ended (κ, tt) (d, tt) S.the-row (λ (t : Step). (t ≡ stepOf d) × (numberOf t ≡ toldBy d)) κ q u (id⊢ 𝓤 _) (λ t e is.
         -- [the step; the token; what the packet owns; _2; …; _1; …; room for _0; …]
         land ! (from ! (stop !)) (init ! 7 refl (EL.lawful S.the-type S′.the-laws 𝓤 H A W tt .typed t _ is .0)) $
         returns ! (look ! 7 refl) $ forget ! 3 refl $ forget ! 5 refl $ forget ! 7 refl $
         move ! (7 ∷ 8 ∷ []) $ free1 ! $ move ! (5 ∷ 6 ∷ []) $ free1 ! $ move ! (3 ∷ 4 ∷ []) $ free1 ! $ free0 ! $ by !
-        (exits t u (e ∙ ap stepOf made)))))))))
+        (exits t u (e .0 ∙ ap stepOf made)))))))))
 
 module _ {M : Type 1} (𝓤 : URA M) (H : Heap 𝓤) (A : Atoms 𝓤) (W : Given 𝓤 H A) (mem : Memory → SProp 𝓤) (run : Routine → Fun 𝓤) (𝓣 : Tables 𝓤 H)
     (opens : Triple 𝓤 (𝓣 .C #reader·open) (Opens 𝓤 H A mem run)) (steps : Triple 𝓤 (𝓣 .C #reader·step) (Steps 𝓤 H A mem run)) where

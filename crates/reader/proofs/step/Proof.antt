@@ -29,6 +29,7 @@ use denote.Triple.Table.{entered, cited}
 use denote.Triple.Walked.{says, Stays, stay-none, walkOf, goes-none, Walks, ends-at, walked, walk-meets}
 use denote.Exit.{yes}
 use Rattle.item_rules.specs.declared.Step.{Step}
+use Rattle.item_rules.specs.Item.{numberOf}
 use Rattle.item_rules.proofs.Step as S
 use Rattle.item_rules.proofs.Step.Laws as S′
 use Rattle.tag.proofs.read_at as read
@@ -36,7 +37,7 @@ use Rattle.tag.proofs.read_at.Symbol as read-def
 use Rattle.tag.proofs.read_at.Symbol.{name as #tag·read-at}
 use Rattle.tag.proofs.read_at.Met as read-thm
 use Rattle.reader.specs.declared.Reader.{Reader}
-use Rattle.reader.specs.Steps.{stepOf}
+use Rattle.reader.specs.Steps.{stepOf, toldBy}
 use Rattle.reader.proofs.Reader.Laws as T′
 use Rattle.tag.proofs.Answers.{answers}
 use Rattle.reader.proofs.Held.{Held, shape, laws, Own, fields, spelt, With, apart}
@@ -61,7 +62,7 @@ module _ {M : Type 1} (𝓤 : URA M) (H : Heap 𝓤) (A : Atoms 𝓤) (W : Given
   abbrev to : ReadAt 𝓤 H A mem run .Ghost
   to = (((κ, tt), (q, tt), tt, fields κ d, spelt d), tt)
 
-  exits : (t : Step) (u : Val) → t ≡ stepOf d
+  exits : (t : Step) (u : Val) → (t ≡ stepOf d) × (numberOf t ≡ toldBy d)
       → ent 𝓤 (⋆ 𝓤 H A (‵ (S.the-row .own t (u ∷ [])) ∷ (‵ (flft κ q) ⊛ ‵ ftrue) ∷ ‵ (Own κ d) ∷ [])) (Post u)
   exits t u e =
       qed W (‵ (S.the-row .own t (u ∷ [])) ∷ (‵ (flft κ q) ⊛ ‵ ftrue) ∷ ‵ (Own κ d) ∷ []) ∵
@@ -89,7 +90,7 @@ module _ {M : Type 1} (𝓤 : URA M) (H : Heap 𝓤) (A : Atoms 𝓤) (W : Given
         calls-at ! fm (ReadAt 𝓤 H A mem run) known to
         (and-then ! (load ! (from ! (stop !)) (look ! 6 refl))
         (and-then ! (load ! (from ! (stop !)) (look ! 4 refl)) (and-then ! (load ! (from ! (stop !)) (look ! 2 refl)) (no-more !)))) (λ u.
-        answers ! tt read.ended (κ, tt) (fields κ d) S.the-row (λ (t : Step). t ≡ stepOf d) κ q u (id⊢ 𝓤 _) (λ t e is.
+        answers ! tt read.ended (κ, tt) (fields κ d) S.the-row (λ (t : Step). (t ≡ stepOf d) × (numberOf t ≡ toldBy d)) κ q u (id⊢ 𝓤 _) (λ t e is.
         -- [the step; the token; what the reader owns; _4; …; _3; …; _2; …; _1; …; room for _0; …]
         land ! (from ! (stop !)) (init ! 11 refl (EL.lawful S.the-type S′.the-laws 𝓤 H A W tt .typed t _ is .0)) $
         returns ! (look ! 11 refl) $ forget ! 3 refl $ forget ! 5 refl $ forget ! 7 refl $ forget ! 9 refl $ forget ! 11 refl $

@@ -31,10 +31,11 @@ use denote.Triple.Table.{entered, cited}
 use denote.Triple.Walked.{says, Stays, stay-none, stay-none-slice, walkOf, goes-none, goes-none-slice, Walks, ends-at, walked, walk-meets}
 use denote.Exit.{yes}
 use Rattle.item_rules.specs.declared.Step.{Step}
+use Rattle.item_rules.specs.Item.{numberOf}
 use Rattle.item_rules.proofs.Step as S
 use Rattle.item_rules.proofs.Step.Laws as S′
 use Rattle.reader.specs.declared.Reader.{Reader}
-use Rattle.reader.specs.Steps.{stepOf}
+use Rattle.reader.specs.Steps.{stepOf, toldBy}
 use Rattle.reader.proofs.Reader.Laws as T′
 use Rattle.tag.proofs.Answers.{answers}
 use Rattle.tag.proofs.Lent.{lentVal}
@@ -64,7 +65,7 @@ module _ {M : Type 1} (𝓤 : URA M) (H : Heap 𝓤) (A : Atoms 𝓤) (W : Given
   abbrev to : Steps 𝓤 H A mem run .Ghost
   to = (((κ, tt), (q, tt), tt, (d, tt), (T′.lowered d ∷ [], tt)), tt)
 
-  exits : (t : Step) (u : Val) → t ≡ stepOf d
+  exits : (t : Step) (u : Val) → (t ≡ stepOf d) × (numberOf t ≡ toldBy d)
       → ent 𝓤 (⋆ 𝓤 H A (‵ (S.the-row .own t (u ∷ [])) ∷ (‵ (flft κ q) ⊛ ‵ ftrue) ∷ ‵ (Own κ d) ∷ [])) (Post u)
   exits t u e =
       qed W (‵ (S.the-row .own t (u ∷ [])) ∷ (‵ (flft κ q) ⊛ ‵ ftrue) ∷ ‵ (Own κ d) ∷ []) ∵
@@ -91,7 +92,7 @@ module _ {M : Type 1} (𝓤 : URA M) (H : Heap 𝓤) (A : Atoms 𝓤) (W : Given
         -- the call
         move ! (10 ∷ []) $ use1 W (raw (Steps 𝓤 H A mem run .pre to) ⊛ ‵ (Own κ d)) (together 𝓤 H A W κ q d) $ split ! $
         calls-at ! fm (Steps 𝓤 H A mem run) known to (and-then ! (load ! (from ! (stop !)) (look ! 2 refl)) (no-more !)) (λ u.
-        answers ! tt step.ended (κ, tt) (d, tt) S.the-row (λ (t : Step). t ≡ stepOf d) κ q u (id⊢ 𝓤 _) (λ t e is.
+        answers ! tt step.ended (κ, tt) (d, tt) S.the-row (λ (t : Step). (t ≡ stepOf d) × (numberOf t ≡ toldBy d)) κ q u (id⊢ 𝓤 _) (λ t e is.
         -- [the step; the token; what the reader owns; _4; …; _3; …; _2; …; _1; …; room for _0; …]
         land ! (from ! (stop !)) (init ! 11 refl (EL.lawful S.the-type S′.the-laws 𝓤 H A W tt .typed t _ is .0)) $
         returns ! (look ! 11 refl) $ forget ! 3 refl $ forget ! 5 refl $ forget ! 7 refl $ forget ! 9 refl $ forget ! 11 refl $

@@ -31,25 +31,25 @@ loop-holds c = seen-none _ _ _ _ _ (ap length (c .no-marks .ensures) ∙ length-
 returns : tie.Need-returns Inv-loop μ-loop
 returns c =
     let k = c .before .before .before .before in
-    let e = sym (k .before .before .step-in .ensures) ∙ k .step .given .1 in
+    let e = sym (k .before .before .step-in .ensures .0) ∙ k .step .given .1 in
     check-stops _ _ _ (k .before .before .before .loop .inv) _ e _ _ (c .before .before .slot .ensures .0) (c .before .fault-of .ensures)
     (c .if1 .taken)
 
 add-at : tie.Need-add-at Inv-loop μ-loop
 add-at c =
     let k = c .before .before .before .before .before in
-    let e = sym (k .before .before .step-in .ensures) ∙ k .step .given .1 in
+    let e = sym (k .before .before .step-in .ensures .0) ∙ k .step .given .1 in
     omega (arith, item-begins _ _ _ _ e, item-fits _ _ _ _ e)
 
 loop-less : tie.Need-loop-less Inv-loop μ-loop
 loop-less c =
     let k = c .before .before .before .before .before in
-    omega (arith, falls _ _ _ _ (sym (k .before .before .step-in .ensures) ∙ k .step .given .1))
+    omega (arith, falls _ _ _ _ (sym (k .before .before .step-in .ensures .0) ∙ k .step .given .1))
 
 loop-again : tie.Need-loop-again Inv-loop μ-loop
 loop-again c =
     let k = c .before .before .before .before .before in
-    let e = sym (k .before .before .step-in .ensures) ∙ k .step .given .1 in
+    let e = sym (k .before .before .step-in .ensures .0) ∙ k .step .given .1 in
     let h = c .before .before .before .slot .ensures .0 in
     check-turn _ _ _ (k .before .before .before .loop .inv) _ e _ _ h (c .before .before .fault-of .ensures) (c .before .if1 .left)
 
@@ -57,12 +57,12 @@ enum-told : tie.Need-enum-told Inv-loop μ-loop
 enum-told c = search needs
 
 returns-2 : tie.Need-returns-2 Inv-loop μ-loop
-returns-2 c = check-ends _ _ _ (c .before .before .before .loop .inv) _ (sym (c .before .before .step-in .ensures) ∙ c .enum-told .given .1)
+returns-2 c = check-ends _ _ _ (c .before .before .before .loop .inv) _ (sym (c .before .before .step-in .ensures .0) ∙ c .enum-told .given .1)
 
 returns-3 : tie.Need-returns-3 Inv-loop μ-loop
 returns-3 c =
     let k = c .before in
-    check-refused _ _ _ (k .before .before .before .loop .inv) _ (sym (k .before .before .step-in .ensures) ∙ k .step2 .given .1)
+    check-refused _ _ _ (k .before .before .before .loop .inv) _ (sym (k .before .before .step-in .ensures .0) ∙ k .step2 .given .1)
 
 no-marks-requires : tie.Need-no-marks-requires Inv-loop μ-loop
 no-marks-requires c κs = search needs

@@ -10,7 +10,7 @@ use Rattle.tag.proofs.read_after.Lts as lts
 use Rattle.tag.proofs.read_at.Reads as read-at-reads
 
 add-result : tie.Need-add-result
-add-result c = omega (arith, handed-fits _ _ _ _ (sym (c .before .before .before .before .read-at .ensures) ∙ c .before .before .step .given .1))
+add-result c = omega (arith, handed-fits _ _ _ _ (sym (c .before .before .before .before .read-at .ensures .0) ∙ c .before .before .step .given .1))
 
 enum-told : tie.Need-enum-told
 enum-told c = search needs
@@ -18,13 +18,13 @@ enum-told c = search needs
 returns : tie.Need-returns
 returns c =
     let k = c .before .before in
-    after-is _ _ _ _ (sym (k .before .before .read-at .ensures) ∙ k .step .given .1)
+    after-is _ _ _ _ (sym (k .before .before .read-at .ensures .0) ∙ k .step .given .1)
 
 returns-2 : tie.Need-returns-2
-returns-2 c = after-is _ _ _ _ (sym (c .before .before .read-at .ensures) ∙ c .enum-told .given .1)
+returns-2 c = after-is _ _ _ _ (sym (c .before .before .read-at .ensures .0) ∙ c .enum-told .given .1)
 
 returns-3 : tie.Need-returns-3
-returns-3 c = after-is _ _ _ _ (sym (c .before .before .read-at .ensures) ∙ c .enum-told2 .given .1)
+returns-3 c = after-is _ _ _ _ (sym (c .before .before .read-at .ensures .0) ∙ c .enum-told2 .given .1)
 
 read-at-requires : tie.Need-read-at-requires
 read-at-requires c κs = search needs

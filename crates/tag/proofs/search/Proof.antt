@@ -13,17 +13,17 @@ returns : tie.Need-returns
 unfolding searchCall searchAnswer
 returns c =
     let k = c .before .before in
-    c .found .ensures ∙ sym (ap searchAnswer (sym (k .before .before .locate .ensures) ∙ k .l .given .1))
+    c .found .ensures ∙ sym (ap searchAnswer (sym (k .before .before .locate .ensures .0) ∙ k .l .given .1))
 
 returns-2 : tie.Need-returns-2
 unfolding searchCall searchAnswer
 returns-2 c =
     let k = c .before .before in
-    c .found2 .ensures ∙ sym (ap searchAnswer (sym (k .before .before .locate .ensures) ∙ k .l2 .given .1))
+    c .found2 .ensures ∙ sym (ap searchAnswer (sym (k .before .before .locate .ensures .0) ∙ k .l2 .given .1))
 
 returns-3 : tie.Need-returns-3
 unfolding soughtNumber searchCall searchAnswer
-returns-3 c = sym (ap searchAnswer (sym (c .before .before .before .locate .ensures) ∙ c .before .l3 .given .1))
+returns-3 c = sym (ap searchAnswer (sym (c .before .before .before .locate .ensures .0) ∙ c .before .l3 .given .1))
 
 locate-requires : tie.Need-locate-requires
 locate-requires c κs = search needs

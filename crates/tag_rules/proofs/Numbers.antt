@@ -1,0 +1,120 @@
+-- The number and values of what a reader hands out and of where a name is, by the faults of the packets. Assumes nothing.
+use Prim.Native.Nat.{ℕ, zero, suc}
+use mathlib.Core.Bool.{Bool, true, false, cond, not, _||_}
+use mathlib.Core.List.{List, [], _∷_}
+use mathlib.Core.Path.{_≡_, refl, sym, ap, _∙_}
+use native.Mathlib.Omega.{arith}
+use lib.Dec.{eqb}
+use lib.ListN.{length}
+use borrow.Author.Tests.{eqb-true}
+use Rattle.base_rules.specs.Answer.{granted, answered}
+use Rattle.base_rules.specs.Tests.{first}
+use Rattle.base_rules.proofs.Logic.{either}
+use Rattle.item_rules.specs.declared.Item.{Item}
+use Rattle.item_rules.specs.declared.Step.{Step}
+use Rattle.item_rules.specs.declared.Step.the-variants as step
+use Rattle.item_rules.specs.declared.Found.{Found}
+use Rattle.item_rules.specs.declared.Found.the-variants as found
+use Rattle.item_rules.specs.Item.{stepIn, valuesOf, numberOf, overrunIn, stepValues, stepCall}
+use Rattle.item_rules.specs.Run.{Run, item, padding, refused, firstOf, faultsOf, orElse, hasName, firstValues}
+use Rattle.item_rules.proofs.Numbers.{else-number, step-number}
+use Rattle.item_rules.proofs.Runs.{run-refused}
+use Rattle.item_rules.proofs.Steps.{refused-is}
+use Rattle.tag_rules.specs.declared.Located.{Located}
+use Rattle.tag_rules.specs.declared.Located.the-variants as located
+use Rattle.tag_rules.specs.Find.{wholeRun, checkOf, inPacket, inStanding, locateOf}
+use Rattle.tag_rules.specs.Calls.{readOf, readCall, firstCall, locatedNumber, locateFault, locateValues, locateCall}
+
+-- ---- a reader
+
+module _ (s : List ℕ) (at refusal : ℕ) where
+  -- the number of what a reader hands out is the refusal of its opening, or else that of the packet's fault where it stands
+  pub read-number : numberOf (readOf s at refusal) ≡ readCall s at refusal
+  unfolding readOf readCall stepCall numberOf
+  read-number =
+      else-number numberOf (stepIn s at (length s)) (step.Refused refusal) refusal (overrunIn s at (length s)) (stepValues s at (length s))
+      (step-number s at (length s)) refl
+
+  -- so what is handed out has that number
+  pub read-told : (t : Step) → t ≡ readOf s at refusal → (t ≡ readOf s at refusal) × (numberOf t ≡ readCall s at refusal)
+  read-told t e = (e, ap numberOf e ∙ read-number)
+
+-- where values are granted, no number is due
+none-due : (n : ℕ) (vs ws : List ℕ) → granted ws ≡ answered n vs → n ≡ 0
+unfolding answered
+none-due zero vs ws e = refl
+none-due (suc n) vs ws e = cc
+
+module _ (s : List ℕ) where
+  sound-by : (t : Step) → stepIn s 0 (length s) ≡ t → checkOf s ≡ 0 → overrunIn s 0 (length s) ≡ 0
+  unfolding checkOf faultsOf stepCall numberOf
+  sound-by (step.Item i) e z = none-due _ _ _ (sym (ap numberOf e) ∙ step-number s 0 (length s))
+  sound-by (step.End p) e z = none-due _ _ _ (sym (ap numberOf e) ∙ step-number s 0 (length s))
+  sound-by (step.Refused n) e z =
+      let none : n ≡ 0 = rw (run-refused s 0 (length s) n e) at z in absurd (omega (arith, refused-is s 0 (length s) n e))
+
+  -- in a packet that passes the check the first item does not pass the end
+  checked-first : orElse (checkOf s) (overrunIn s 0 (length s)) ≡ checkOf s
+  checked-first =
+      either (eqb (checkOf s) 0)
+      (λ q. let z = eqb-true (checkOf s) 0 q in simp q (sound-by (stepIn s 0 (length s)) refl z ∙ sym z)) (λ q. simp q)
+
+  -- so the number of what a reader just opened hands out is that of the check
+  pub first-told : (t : Step) → t ≡ readOf s 0 (checkOf s) → (t ≡ readOf s 0 (checkOf s)) × (numberOf t ≡ firstCall s)
+  unfolding firstCall readCall
+  first-told t e =
+      (e, ap numberOf e ∙ read-number s 0 (checkOf s) ∙ ap (λ (n : ℕ). answered n (stepValues s 0 (length s))) checked-first)
+
+-- ---- where a name is
+
+-- whether something was found, and what it tells
+isAt : Found → Bool
+isAt (found.At i) = true
+isAt found.Nothing = false
+
+toldOf : Found → List ℕ
+toldOf (found.At i) = valuesOf i
+toldOf found.Nothing = []
+
+module _ (name : ℕ) where
+  here-by : (b : Bool) (i : Item) (f : Found) → (b || isAt f ≡ isAt (cond b (found.At i) f)) × (cond b (valuesOf i) (toldOf f) ≡ toldOf (cond b (found.At i) f))
+  unfolding isAt toldOf
+  here-by true i f = (refl, refl)
+  here-by false i f = (refl, refl)
+
+  -- a run has the name where it is found in it,
+  has-found : (r : Run) → hasName name r ≡ isAt (firstOf name r)
+  unfolding hasName firstOf isAt
+  has-found (item i r) = rw (has-found r) (here-by (eqb (i .name) name) i (firstOf name r) .0)
+  has-found (padding n) = refl
+  has-found (refused n) = refl
+
+  -- and tells what was found
+  tells-found : (r : Run) → firstValues name r ≡ toldOf (firstOf name r)
+  unfolding firstValues firstOf toldOf
+  tells-found (item i r) = rw (tells-found r) (here-by (eqb (i .name) name) i (firstOf name r) .1)
+  tells-found (padding n) = refl
+  tells-found (refused n) = refl
+
+-- by what is found in each of the two packets
+places-by : (f g : Found)
+    → locatedNumber (inPacket f (inStanding g))
+    ≡ answered (first ((not (isAt f || isAt g), 34) ∷ [])) (cond (isAt f) (0 ∷ toldOf f) (1 ∷ toldOf g))
+unfolding locatedNumber answered first isAt toldOf
+places-by (found.At i) g = refl
+places-by found.Nothing (found.At j) = refl
+places-by found.Nothing found.Nothing = refl
+
+module _ (s t : List ℕ) (name : ℕ) where
+  -- the number of where a name is is the fault of the packet, or else of the standing packet, or else 34
+  pub locate-number : locatedNumber (locateOf s t name) ≡ locateCall s t name
+  unfolding locateOf locateCall locateFault locateValues locatedNumber
+  locate-number =
+      else-number locatedNumber _ (located.Refused (checkOf s)) (checkOf s) _ _
+      (else-number locatedNumber _ (located.Refused (checkOf t)) (checkOf t) _ _
+      (rw (has-found name (wholeRun s), has-found name (wholeRun t), tells-found name (wholeRun s), tells-found name (wholeRun t))
+      (places-by (firstOf name (wholeRun s)) (firstOf name (wholeRun t)))) refl) refl
+
+  -- so an answer that is the defined one has that number
+  pub locate-told : (l : Located) → l ≡ locateOf s t name → (l ≡ locateOf s t name) × (locatedNumber l ≡ locateCall s t name)
+  locate-told l e = (e, ap locatedNumber e ∙ locate-number)
