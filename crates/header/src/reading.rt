@@ -15,7 +15,7 @@ ghost use lib.Dec.{leb};
 ghost use lib.ListN.{length, getD};
 ghost use Rattle.base_rules.specs.Bounds.{place};
 ghost use Rattle.header_rules.specs.Read.{hasFec, hasAddress, addressAt, addressOf, fieldsOf, bodyLength, lengthOf, isShort, badCrc, badLength};
-ghost use Rattle.header_rules.specs.Read.{badAddress, badIndex, badSize, faultOf, parsedOf};
+ghost use Rattle.header_rules.specs.Read.{badAddress, badIndex, badSize, faultOf, parsedOf, numberOf, parseCall};
 ghost use Rattle.weave_rules.specs.Calls.{badCount, badChunk};
 ghost use Rattle.cut_rules.specs.declared.Address.the-variants.{Pair};
 
@@ -219,7 +219,7 @@ fn fault(own: Address, s: &[u8]) -> u8
 
 // Reads the header of a datagram, for a receiver with this address or none.
 pub fn parse(own: Address, s: &[u8]) -> Parsed
-    ensures { λ r. ⌜ r ≡ parsedOf own (now (s .entry)) ⌝ }
+    ensures { λ r. ⌜ (r ≡ parsedOf own (now (s .entry))) × (numberOf r ≡ parseCall own (now (s .entry))) ⌝ }
 {
     let n = fault(own, s);
     if n != 0 {

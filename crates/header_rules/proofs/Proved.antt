@@ -15,7 +15,7 @@ use Rattle.cut_rules.specs.declared.Address.{Address}
 use Rattle.cut_rules.specs.declared.Address.the-variants.{None, Pair}
 use Rattle.header_rules.specs.declared.Header.{Header}
 use Rattle.header_rules.specs.declared.Parsed.the-variants.{Fragment, Refused}
-use Rattle.header_rules.specs.Read.{hasFec, hasAddress, addressAt, addressOf, fieldsOf, addressValues, numberOf, flagsAt}
+use Rattle.header_rules.specs.Read.{hasFec, hasAddress, addressAt, addressOf, fieldsOf, addressValues, headerValues, numberOf, flagsAt}
 use Rattle.header_rules.specs.Claims.{Fitting, Written, ReadsBack, Passes, PassedSound, PayloadStands, HeaderLength, OneParsed}
 use Rattle.header_rules.proofs.Checks.{Passing, passes, passing, index-from, size-from}
 use Rattle.header_rules.proofs.Lays.{fec-length, body-length, address-length, header-length}
@@ -97,7 +97,7 @@ header-one : (h g : Header) → h .number ≡ g .number → h .index ≡ g .inde
 header-one h g e₁ e₂ e₃ e₄ e₅ e₆ e₇ e₈ = cc
 
 pub one-parsed : OneParsed
-unfolding numberOf made
+unfolding numberOf headerValues made
 one-parsed (Fragment h) (Fragment g) e =
     ap Fragment
     (header-one h g (cc) (cc) (cc) (bit-one (h .fec) (g .fec) (cc)) (cc) (cc) (address-one (h .address) (g .address) (cc)) (cc))

@@ -4,7 +4,7 @@ use mathlib.Core.List.{List, [], _∷_}
 use Prim.Native.Nat.{ℕ, _+_, _%_}
 use lib.Dec.{ltb, leb, eqb}
 use lib.ListN.{length, getD, take}
-use Rattle.base_rules.specs.Answer.{Answer, granted, refused}
+use Rattle.base_rules.specs.Answer.{Answer, granted, refused, answered}
 use Rattle.base_rules.specs.Bytes.{numberAt}
 use Rattle.base_rules.specs.Tests.{first, bit}
 use Rattle.crc_rules.specs.Crc.{wordOf}
@@ -110,8 +110,15 @@ unfoldable pub addressValues : Address → List ℕ
 addressValues None = []
 addressValues (Pair source dest) = source ∷ dest ∷ []
 
+-- the values of a header: Pseq, Findex, Fcount, FEC, RSk, RSz, Plen, and the address
+unfoldable pub headerValues : Header → List ℕ
+headerValues h = h .number ∷ h .index ∷ h .count ∷ bit (h .fec) ∷ h .rsk ∷ h .rsz ∷ h .plen ∷ addressValues (h .address)
+
 -- document 01's number and values for each case
 unfoldable pub numberOf : Parsed → Answer
-numberOf (parsed.Fragment h) =
-    granted (h .number ∷ h .index ∷ h .count ∷ bit (h .fec) ∷ h .rsk ∷ h .rsz ∷ h .plen ∷ addressValues (h .address))
+numberOf (parsed.Fragment h) = granted (headerValues h)
 numberOf (parsed.Refused n) = refused n
+
+-- document 01: reading a datagram as number and values: 2 to 8, else the header's values
+unfoldable pub parseCall : Address → List ℕ → Answer
+parseCall own s = answered (faultOf own s) (headerValues (fieldsOf s))

@@ -18,7 +18,7 @@ returns c =
 sub-at : tie.Need-sub-at
 sub-at c =
     let a = c .before .before .before .before .before .before .before .before .before .before .args in
-    let p = header-passed (a .own) (a .datagram .now) (c .before .before .before .before .parse .ensures) (c .before .before .h .given .1) in
+    let p = header-passed (a .own) (a .datagram .now) (c .before .before .before .before .parse .ensures .0) (c .before .before .h .given .1) in
     payload-within (a .own) (a .datagram .now) (p .0) (p .1)
 
 accept-requires : tie.Need-accept-requires
@@ -29,7 +29,7 @@ accept-requires c κs =
     let If1 = c .before .before .before .before .before .before .before .before .if1 in
     let Parse = c .before .before .before .before .before .before .before .parse in
     let a = A in
-    let p = header-passed (a .own) (a .datagram .now) (Parse .ensures) (c .before .before .before .before .before .h .given .1) in
+    let p = header-passed (a .own) (a .datagram .now) (Parse .ensures .0) (c .before .before .before .before .before .h .given .1) in
     let none = sym (Room-fault .ensures) ∙ If1 .left in
     let r = fine-room (a .table) _ _ none in (
       fine-table (a .table) _ _ none,
@@ -45,7 +45,7 @@ returns-2 c =
     let a = A in
     step-header (a .own) (a .table) (a .lent .now) (a .datagram .now) (a .out .now) (Room-fault .ensures)
     (c .before .before .before .before .before .if1 .left)
-    (header-refused (a .own) (a .datagram .now) (c .before .before .before .before .parse .ensures) (c .before .before .m .given .1))
+    (header-refused (a .own) (a .datagram .now) (c .before .before .before .before .parse .ensures .0) (c .before .before .m .given .1))
     (refusal-is _ _ (c .refusal2 .ensures))
 
 returns-3 : tie.Need-returns-3
@@ -57,7 +57,7 @@ returns-3 c =
     let Parse = c .before .before .before .before .before .before .before .before .before .before .before .before .parse in
     let H = c .before .before .before .before .before .before .before .before .before .before .h in
     let a = A in
-    let p = header-passed (a .own) (a .datagram .now) (Parse .ensures) (H .given .1) in
+    let p = header-passed (a .own) (a .datagram .now) (Parse .ensures .0) (H .given .1) in
     step-arrives (a .own) (a .table) (a .lent .now) (a .datagram .now) (a .out .now) (Room-fault .ensures) (If1 .left) _ p
     (c .before .before .before .before .accept .ensures)
 
