@@ -11,7 +11,7 @@ pub use walk_rules::Visit;
 pub use walk_rules::Walked;
 pub use walk_rules::Walker;
 ghost use mathlib.Core.Path.{_≡_};
-ghost use Rattle.walk_rules.specs.Step.{opens, walkStep};
+ghost use Rattle.walk_rules.specs.Step.{opens, walkStep, handedNumber, walkCall};
 
 // Opens a walk: the list of names, four bytes each, and the whole packet with all that its containers hold are checked first.
 pub fn open_walk(packet: &[u8], names: &[u8]) -> Walker
@@ -29,7 +29,8 @@ pub fn open_walk(packet: &[u8], names: &[u8]) -> Walker
 
 // A step of a walk: refused with the walk's own number, or where opening would refuse the list of names.
 pub fn walk_step(packet: &[u8], names: &[u8], w: Walker) -> Walked
-    ensures { λ r. ⌜ r ≡ walkStep (now (packet .entry)) (now (names .entry)) w ⌝ }
+    ensures { λ r. ⌜ (r ≡ walkStep (now (packet .entry)) (now (names .entry)) w)
+        × (handedNumber (r .handed) ≡ walkCall (now (packet .entry)) (now (names .entry)) w) ⌝ }
 {
     let refusal = w.refusal;
     if refusal != 0 {

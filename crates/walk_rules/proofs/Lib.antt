@@ -7,6 +7,7 @@ pub mod PlainWalks
 pub mod LeftOver
 pub mod Order
 pub mod HandedNumbers
+pub mod StepNumbers
 pub mod Inside
 pub mod NoContainers
 pub mod Values

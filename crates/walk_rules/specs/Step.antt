@@ -1,13 +1,13 @@
 -- The step walk: the same items, handed out one after another.
 use mathlib.Core.Bool.{cond, _&&_}
 use mathlib.Core.List.{List, [], _∷_}
-use Prim.Native.Nat.{ℕ, zero, suc, _+_, min}
+use Prim.Native.Nat.{ℕ, zero, suc, _+_, _-_, min}
 use lib.Dec.{eqb, ltb}
 use lib.ListN.{length, getD, set}
-use Rattle.base_rules.specs.Answer.{Answer, granted, refused}
+use Rattle.base_rules.specs.Answer.{Answer, granted, refused, answered}
 use Rattle.base_rules.specs.Tests.{among}
 use Rattle.item_rules.specs.declared.Item.{Item}
-use Rattle.item_rules.specs.Item.{stepIn, valuesOf}
+use Rattle.item_rules.specs.Item.{head, itemAt, stepIn, valuesOf, overrunIn}
 use Rattle.item_rules.specs.Run.{nextOf, onStep, orElse}
 use Rattle.walk_rules.specs.declared.Handed.{Handed}
 use Rattle.walk_rules.specs.declared.Handed.the-variants as handed
@@ -60,3 +60,27 @@ walkStep s l w =
     cond (eqb (stepFault l w) 0)
     (stepFrom s (namesOf l) (w .at) (min (w .depth) deepest) (w .ends))
     (record { handed = handed.Refused (stepFault l w); next = w })
+
+-- ---- a step as document 01's number and values
+
+-- the position and the depth of what a step hands out: from the end of an inner packet it goes on behind the container, one depth up
+unfoldable pub comesTo : List ℕ → ℕ → ℕ → List ℕ → ℕ × ℕ
+comesTo s at zero ends = (at, 0)
+comesTo s at (suc d) ends = cond (ltb (endOf s ends (suc d) - at) head) (comesTo s (endOf s ends (suc d)) d ends) (at, suc d)
+
+-- document 01, 30 OVERRUN: the item there passes the end of its packet
+unfoldable pub overrunAt : List ℕ → List ℕ → ℕ × ℕ → ℕ
+overrunAt s ends p = overrunIn s (p .0) (endOf s ends (p .1))
+
+-- what is told there: the count of outer padding bytes, or the item's depth and what it tells
+unfoldable pub handedValues : List ℕ → List ℕ → ℕ × ℕ → List ℕ
+handedValues s ends p =
+    cond (ltb (endOf s ends (p .1) - p .0) head) ((endOf s ends (p .1) - p .0) ∷ []) (p .1 ∷ valuesOf (itemAt s (p .0)))
+
+-- where the step of a walk comes to
+unfoldable pub placeOf : List ℕ → Walker → ℕ × ℕ
+placeOf s w = comesTo s (w .at) (min (w .depth) deepest) (w .ends)
+
+-- document 01: the number with which it is refused: wherever it stands, else where it comes to; and else its values
+unfoldable pub walkCall : List ℕ → List ℕ → Walker → Answer
+walkCall s l w = answered (orElse (stepFault l w) (overrunAt s (w .ends) (placeOf s w))) (handedValues s (w .ends) (placeOf s w))

@@ -29,14 +29,14 @@ loop-holds c = (omega arith, refl)
 goes-on-requires : tie.Need-goes-on-requires Inv-loop μ-loop
 goes-on-requires c κs =
     let k = c .before in
-    let e = sym (k .before .before .step-in .ensures) ∙ k .step .given .1 in
+    let e = sym (k .before .before .step-in .ensures .0) ∙ k .step .given .1 in
     (omega arith, omega (arith, item-fits _ _ _ _ e, item-begins _ _ _ _ e))
 
 returns : tie.Need-returns Inv-loop μ-loop
 unfolding endOf
 returns c =
     let k = c .before .before in
-    let e = sym (k .before .before .step-in .ensures) ∙ k .step .given .1 in
+    let e = sym (k .before .before .step-in .ensures .0) ∙ k .step .given .1 in
     let l = k .before .before .before .before in
     let a = l .before .before .before .before .args in
     sym (ap (λ (d : ℕ). stepFrom (now (a .s)) (namesOf (now (a .names))) (a .from) d (a .t5)) (sym (l .before .lesser .ensures)) ∙ l .loop .inv .1
@@ -48,7 +48,7 @@ unfolding endOf
 returns-2 c =
     let at-end = c .before in
     let k = at-end .before .before in
-    let e = sym (k .before .before .step-in .ensures) ∙ k .step2 .given .1 in
+    let e = sym (k .before .before .step-in .ensures .0) ∙ k .step2 .given .1 in
     let l = k .before .before .before .before in
     let a = l .before .before .before .before .args in
     c .stays .ensures
@@ -60,7 +60,7 @@ loop-again : tie.Need-loop-again Inv-loop μ-loop
 unfolding endOf
 loop-again c =
     let k = c .before .before in
-    let e = sym (k .before .before .step-in .ensures) ∙ k .step2 .given .1 in
+    let e = sym (k .before .before .step-in .ensures .0) ∙ k .step2 .given .1 in
     let l = k .before .before .before .before in
     let a = l .before .before .before .before .args in (
       omega arith,
@@ -72,7 +72,7 @@ returns-3 : tie.Need-returns-3 Inv-loop μ-loop
 unfolding endOf
 returns-3 c =
     let k = c .before .before in
-    let e = sym (k .before .before .step-in .ensures) ∙ k .step3 .given .1 in
+    let e = sym (k .before .before .step-in .ensures .0) ∙ k .step3 .given .1 in
     let l = k .before .before .before .before in
     let a = l .before .before .before .before .args in
     c .stays2 .ensures

@@ -194,7 +194,7 @@ walk-packet-walk-item-requires : (t : ℕ) → walk-packet-lts.Need-walk-item-re
     (walk-packet-at t) walk-packet.Post walk-packet-Inv-loop walk-packet-μ-loop
 walk-packet-walk-item-requires t c κs =
     let k = c .before .before in
-    let e = sym (k .before .before .step-in .ensures) ∙ k .step .given .1 in
+    let e = sym (k .before .before .step-in .ensures .0) ∙ k .step .given .1 in
     let h = item-fits _ _ _ _ e in
     let b = item-begins _ _ _ _ e in
     let r = k .before .before .before .loop .inv .0 in
@@ -205,7 +205,7 @@ walk-packet-returns : (t : ℕ) → walk-packet-lts.Need-returns (packet-calls t
     (walk-packet-at t) walk-packet.Post walk-packet-Inv-loop walk-packet-μ-loop
 walk-packet-returns t c =
     let k = c .before .before .before .before in
-    walk-stops _ _ _ _ _ _ _ _ (k .before .before .before .loop .inv .1) _ (sym (k .before .before .step-in .ensures) ∙ k .step .given .1) _ _
+    walk-stops _ _ _ _ _ _ _ _ (k .before .before .before .loop .inv .1) _ (sym (k .before .before .step-in .ensures .0) ∙ k .step .given .1) _ _
     (c .before .before .slot .ensures .0) (c .before .walk-item .ensures) (c .if1 .taken)
 
 walk-packet-array-write-marks : (t : ℕ) → walk-packet-lts.Need-array-write-marks (packet-calls t)
@@ -220,20 +220,20 @@ walk-packet-add-at : (t : ℕ) → walk-packet-lts.Need-add-at (packet-calls t)
     (walk-packet-at t) walk-packet.Post walk-packet-Inv-loop walk-packet-μ-loop
 walk-packet-add-at t c =
     let k = c .before .before .before .before .before in
-    let e = sym (k .before .before .step-in .ensures) ∙ k .step .given .1 in
+    let e = sym (k .before .before .step-in .ensures .0) ∙ k .step .given .1 in
     omega (arith, item-fits _ _ _ _ e, item-begins _ _ _ _ e)
 
 walk-packet-loop-less : (t : ℕ) → walk-packet-lts.Need-loop-less (packet-calls t)
     (walk-packet-at t) walk-packet.Post walk-packet-Inv-loop walk-packet-μ-loop
 walk-packet-loop-less t c =
     let k = c .before .before .before .before .before in
-    omega (arith, falls-short _ _ _ _ (sym (k .before .before .step-in .ensures) ∙ k .step .given .1))
+    omega (arith, falls-short _ _ _ _ (sym (k .before .before .step-in .ensures .0) ∙ k .step .given .1))
 
 walk-packet-loop-again : (t : ℕ) → walk-packet-lts.Need-loop-again (packet-calls t)
     (walk-packet-at t) walk-packet.Post walk-packet-Inv-loop walk-packet-μ-loop
 walk-packet-loop-again t c =
     let k = c .before .before .before .before .before in
-    let e = sym (k .before .before .step-in .ensures) ∙ k .step .given .1 in
+    let e = sym (k .before .before .step-in .ensures .0) ∙ k .step .given .1 in
     let v = k .before .before .before .loop .inv in
     let b = item-begins _ _ _ _ e in (
       omega (arith, v .0),
@@ -247,7 +247,7 @@ walk-packet-enum-told t c = search needs
 
 walk-packet-returns-2 : (t : ℕ) → walk-packet-lts.Need-returns-2 (packet-calls t)
     (walk-packet-at t) walk-packet.Post walk-packet-Inv-loop walk-packet-μ-loop
-walk-packet-returns-2 t c = walk-ends _ _ _ _ _ _ _ _ (c .before .before .before .loop .inv .1) _ (sym (c .before .before .step-in .ensures)
+walk-packet-returns-2 t c = walk-ends _ _ _ _ _ _ _ _ (c .before .before .before .loop .inv .1) _ (sym (c .before .before .step-in .ensures .0)
     ∙ c .enum-told .given .1)
 
 walk-packet-enum-known-step-2 : (t : ℕ) → walk-packet-lts.Need-enum-known-step-2 (packet-calls t)
@@ -258,7 +258,7 @@ walk-packet-returns-3 : (t : ℕ) → walk-packet-lts.Need-returns-3 (packet-cal
     (walk-packet-at t) walk-packet.Post walk-packet-Inv-loop walk-packet-μ-loop
 walk-packet-returns-3 t c =
     let k = c .before in
-    walk-refused _ _ _ _ _ _ _ _ (k .before .before .before .loop .inv .1) _ (sym (k .before .before .step-in .ensures) ∙ k .step2 .given .1)
+    walk-refused _ _ _ _ _ _ _ _ (k .before .before .before .loop .inv .1) _ (sym (k .before .before .step-in .ensures .0) ∙ k .step2 .given .1)
 
 walk-value-add-walk-packet : (t : ℕ) → walk-value-lts.Need-add-walk-packet (value-calls t) (walk-value-at t) walk-value.Post
 walk-value-add-walk-packet t c = search needs
