@@ -22,21 +22,21 @@ loop-less : tie.Need-loop-less Inv-loop μ-loop
 loop-less c =
     let item = c .before .before .before .before .before .before in
     let step = item .before .before in
-    turn _ _ _ _ _ _ _ (step .before .before .loop .inv) _ (step .walk-step .ensures) _ (item .handed .given .1) _ _
+    turn _ _ _ _ _ _ _ (step .before .before .loop .inv) _ (step .walk-step .ensures .0) _ (item .handed .given .1) _ _
     (c .before .before .before .item-line .ensures) .1
 
 loop-again : tie.Need-loop-again Inv-loop μ-loop
 loop-again c =
     let item = c .before .before .before .before .before .before in
     let step = item .before .before in
-    turn _ _ _ _ _ _ _ (step .before .before .loop .inv) _ (step .walk-step .ensures) _ (item .handed .given .1) _ _
+    turn _ _ _ _ _ _ _ (step .before .before .loop .inv) _ (step .walk-step .ensures .0) _ (item .handed .given .1) _ _
     (c .before .before .before .item-line .ensures) .0
 
 returns : tie.Need-returns Inv-loop μ-loop
 returns c =
     let last = c .before .before .before .before .before .before in
     let step = last .before .before in
-    end _ _ _ _ _ _ _ (step .before .before .loop .inv) _ (step .walk-step .ensures) _ (last .handed2 .given .1) _ _
+    end _ _ _ _ _ _ _ (step .before .before .loop .inv) _ (step .walk-step .ensures .0) _ (last .handed2 .given .1) _ _
     (c .before .before .number-line .ensures)
 
 same-length : tie.Need-same-length Inv-loop μ-loop
@@ -48,12 +48,12 @@ enum-told c = search needs
 same-length-2 : tie.Need-same-length-2 Inv-loop μ-loop
 same-length-2 c =
     let step = c .before .before in
-    absurd (never _ _ _ _ _ _ _ (step .before .before .loop .inv) _ (step .walk-step .ensures) _ (c .enum-told .given .1))
+    absurd (never _ _ _ _ _ _ _ (step .before .before .loop .inv) _ (step .walk-step .ensures .0) _ (c .enum-told .given .1))
 
 returns-2 : tie.Need-returns-2 Inv-loop μ-loop
 returns-2 c =
     let step = c .before .before in
-    absurd (never _ _ _ _ _ _ _ (step .before .before .loop .inv) _ (step .walk-step .ensures) _ (c .enum-told .given .1))
+    absurd (never _ _ _ _ _ _ _ (step .before .before .loop .inv) _ (step .walk-step .ensures .0) _ (c .enum-told .given .1))
 
 slice-aggregate-walk-step : tie.Need-slice-aggregate-walk-step Inv-loop μ-loop
 slice-aggregate-walk-step c = search needs

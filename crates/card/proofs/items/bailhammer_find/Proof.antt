@@ -1,6 +1,4 @@
 -- `bailhammer_find` meets its contract: what is told is where the name is. Assumes nothing.
-use mathlib.Core.Path.{ap}
-use Rattle.tag_rules.specs.Calls.{locatedNumber, locateCall}
 use Rattle.card_rules.specs.Items.{found-widths}
 use Rattle.card_rules.proofs.ToldLaws.{told-as}
 use borrow.Author.Needs.{needs}
@@ -8,12 +6,11 @@ use Rattle.card.proofs.items.bailhammer_find.Statement.{statement}
 use Rattle.card.proofs.items.bailhammer_find.Tie as tie
 
 returns : tie.Need-returns
-unfolding locateCall
 returns c =
     let told = c .before .before in
     let found = told .before .before in
     let before = found .before .before .before .before .args .told .now in
-    told-as found-widths before (ap locatedNumber (found .locate .ensures)) (told .tell-found .ensures)
+    told-as found-widths before (found .locate .ensures .1) (told .tell-found .ensures)
 
 locate-requires : tie.Need-locate-requires
 locate-requires c κs = search needs

@@ -32,7 +32,7 @@ returns-3 c =
     let a = sized .before .before .before .before .before .args in
     step-on (a .packet .now) (a .names .now) (a .walker .now) (a .told .now) (stepped .walk-step .result) (sized .if1 .left)
     (omega (arith, fits .if2 .left))
-    (stepped .walk-step .ensures ∙ ap (walkStep (a .packet .now) (a .names .now)) (read .walker-from .ensures))
+    (stepped .walk-step .ensures .0 ∙ ap (walkStep (a .packet .now) (a .names .now)) (read .walker-from .ensures))
     (told .tell-step .ensures)
     (tested .if3 .taken)
     (written .write-walker .ensures)
@@ -48,7 +48,7 @@ returns-4 c =
     let a = sized .before .before .before .before .before .args in
     step-not (a .packet .now) (a .names .now) (a .walker .now) (a .told .now) (stepped .walk-step .result) (sized .if1 .left)
     (omega (arith, fits .if2 .left))
-    (stepped .walk-step .ensures ∙ ap (walkStep (a .packet .now) (a .names .now)) (read .walker-from .ensures))
+    (stepped .walk-step .ensures .0 ∙ ap (walkStep (a .packet .now) (a .names .now)) (read .walker-from .ensures))
     (told .tell-step .ensures)
     (c .if3 .left)
 
