@@ -49,8 +49,8 @@ put-fragment-requires c κs =
     let Loop-test = c .before .loop-test in
     let a = A in
     let inv = L .inv in
-    let room = run.run-room (a .g) (a .packet .now) (a .p) (P .0) (a .number) (a .out .now) (P .2) (L .i) (L .at) (L .out) (Loop-test .taken)
-    (inv .1) (inv .2) in
+    let room = run.run-room (a .g) (a .packet .now) (a .p) (P .0) (a .number) (a .out .now) (P .2) (L .i) (L .at) (L .out)
+    (Loop-test .taken) (inv .1) (inv .2) in
     (P .0, P .1, omega (arith, Loop-test .taken, figures.is-f (a .g) (a .packet .now) (a .p) (P .0)), room)
 
 add-at : tie.Need-add-at Inv-loop μ-loop
@@ -87,8 +87,8 @@ loop-again c =
     let Loop-test = c .before .before .before .before .loop-test in
     let a = A in
     let inv = L .inv in
-    let more = run.run-more (a .g) (a .packet .now) (a .p) (P .0) (a .number) (a .out .now) (P .2) (L .i) (L .at) (L .out) (Loop-test .taken)
-    (inv .1) (inv .2) _ (c .before .before .put-fragment .ensures) in
+    let more = run.run-more (a .g) (a .packet .now) (a .p) (P .0) (a .number) (a .out .now) (P .2) (L .i) (L .at) (L .out)
+    (Loop-test .taken) (inv .1) (inv .2) _ (c .before .before .put-fragment .ensures) in
     (omega (arith, Loop-test .taken), omega (arith, inv .1), more)
 
 same-length : tie.Need-same-length Inv-loop μ-loop
