@@ -8,4 +8,5 @@ pub mod Splice
 pub mod Answers
 pub mod Tables
 pub mod ByteLaws
+pub mod Parts
 pub mod Numbers

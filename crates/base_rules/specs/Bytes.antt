@@ -12,6 +12,10 @@ Bytes (x ∷ s) = (x < 256) × Bytes s
 unfoldable pub splice : List ℕ → ℕ → List ℕ → List ℕ
 splice d at s = take at d ++ (s ++ drop (at + length s) d)
 
+-- part i of s, cut into parts of n bytes each; the last may be shorter
+unfoldable pub partOf : List ℕ → ℕ → ℕ → List ℕ
+partOf s n i = take n (drop (i * n) s)
+
 -- the number that stands in the w bytes of s from i on; past the end of s there are zeros
 unfoldable pub numberAt : ℕ → List ℕ → ℕ → ℕ
 numberAt zero s i = 0

@@ -11,10 +11,11 @@ ghost use mathlib.Core.Path.{_≡_};
 ghost use Prim.Native.Nat.{_+_, _≤_, _<_};
 ghost use lib.ListN.{length, take, drop};
 ghost use Rattle.base_rules.specs.Bounds.{parity};
+ghost use Rattle.base_rules.specs.Bytes.{partOf};
 ghost use Rattle.code_rules.specs.inner.Words.{table-size};
 ghost use Rattle.code_rules.specs.inner.Kernel.{Made, Multiples, rootsList};
 ghost use Rattle.code_rules.specs.inner.Sharing.{Shared};
-ghost use Rattle.code_rules.specs.inner.Block.{part, answerOf, SameTest, Ready, AfterTurn, AfterClass};
+ghost use Rattle.code_rules.specs.inner.Block.{answerOf, SameTest, Ready, AfterTurn, AfterClass};
 
 // Whether the parts at a and at b of the mask are the same. All bytes are compared, with no way out early, so that many go at a time.
 fn same_mask(mask: &[u8], a: usize, b: usize, n: usize) -> bool
@@ -60,7 +61,7 @@ fn fill_if_same(
     j: usize,
 )
     requires { ⌜ Ready k (now mask) (length (now ans)) (now block) × (from < length (now ans)) × (j < length (now ans)) ⌝ }
-    requires { ⌜ Shared (now t) (now rk) (now q) (now sc) (part (k + parity) from (now mask)) miss k ⌝ }
+    requires { ⌜ Shared (now t) (now rk) (now q) (now sc) (partOf (now mask) (k + parity) from) miss k ⌝ }
     ensures { λ _. ⌜ AfterTurn k from j (now (mask .entry)) (now (block .entry)) (now (ans .entry)) (now (block .exit)) (now (ans .exit)) ⌝ }
 {
     if 1 < ans[j] {

@@ -9,13 +9,15 @@ use native.Mathlib.Omega.{arith}
 use borrow.Rule.Slice.PartMut.{putMid}
 use lib.ListN.{length, take, drop, getD, set, replicate, length-set, getD-replicate, drop-of-length-le}
 use lib.Seq.{length-take-le, getD-take, getD-set-same, getD-set-other}
+use Rattle.base_rules.specs.Bytes.{partOf}
+use Rattle.base_rules.proofs.Parts.{length-putMid, part-same, part-other, mid-part, by-parts}
 use Rattle.codeword.specs.Erasure.{marks, erase}
 use Rattle.codeword.proofs.Erasure.{length-erase}
 use Rattle.code_rules.specs.Fill.{Agrees}
-use Rattle.code_rules.specs.inner.Block.{part, Ready, ChunkTried, answerOf, ChunkStatus, BlockStatus}
+use Rattle.code_rules.specs.inner.Block.{Ready, ChunkTried, answerOf, ChunkStatus, BlockStatus}
 use Rattle.code_rules.specs.inner.Block.{Later, AllDone, SomeLeft, AfterTurn, BlockFailed}
 use Rattle.code_rules.proofs.FillLaws.{erase-twice}
-use Rattle.code_rules.proofs.PartLaws.{length-putMid, part-same, part-other, mid-part, by-parts, part-erase}
+use Rattle.code_rules.proofs.PartLaws.{part-erase}
 
 -- ---- one chunk more has its answer
 
@@ -74,21 +76,21 @@ module _ (k j v : ℕ) (mask blk ans new : List ℕ) (r : Bool) (ready : Ready k
         done = λ e. one-done;
       }
     where
-      here : ChunkTried k (part n j mask) (part n j blk) new r
+      here : ChunkTried k (partOf mask n j) (partOf blk n j) new r
       here =
-          subst (λ (m : List ℕ). ChunkTried k m (part n j blk) new r) (mid-part n j mask)
+          subst (λ (m : List ℕ). ChunkTried k m (partOf blk n j) new r) (mid-part n j mask)
           (subst (λ (b : List ℕ). ChunkTried k (take (j * n + n - j * n) (drop (j * n) mask)) b new r) (mid-part n j blk) tried)
 
-      at-j : (old : List ℕ) → BlockStatus k mask old blk ans → ChunkStatus k (part n j mask) (part n j old) (part n j blk') (getD (set ans j v) j 0)
+      at-j : (old : List ℕ) → BlockStatus k mask old blk ans → ChunkStatus k (partOf mask n j) (partOf old n j) (partOf blk' n j) (getD (set ans j v) j 0)
       at-j old p =
           rw (part-same n (length ans) j blk new (ready .chunks) hj size, getD-set-same ans j v 0 hj, ev)
-          (status-by k (part n j mask) (part n j old) (part n j blk) new r
-          (open-by k (part n j mask) (part n j old) (part n j blk) _ unset (p .each j hj)) here)
+          (status-by k (partOf mask n j) (partOf old n j) (partOf blk n j) new r
+          (open-by k (partOf mask n j) (partOf old n j) (partOf blk n j) _ unset (p .each j hj)) here)
 
       go : (old : List ℕ) → BlockStatus k mask old blk ans → (i : ℕ) → i < length ans → Dec (i ≡ j)
-          → ChunkStatus k (part n i mask) (part n i old) (part n i blk') (getD (set ans j v) i 0)
+          → ChunkStatus k (partOf mask n i) (partOf old n i) (partOf blk' n i) (getD (set ans j v) i 0)
       go old p i b (yes q) =
-          subst (λ (i : ℕ). ChunkStatus k (part n i mask) (part n i old) (part n i blk') (getD (set ans j v) i 0)) (sym q) (at-j old p)
+          subst (λ (i : ℕ). ChunkStatus k (partOf mask n i) (partOf old n i) (partOf blk' n i) (getD (set ans j v) i 0)) (sym q) (at-j old p)
       go old p i b (no q) = rw (part-other n (length ans) j blk new (ready .chunks) hj size i b q, getD-set-other ans j i v 0 q) (p .each i b)
 
 -- ---- later and later
@@ -182,8 +184,8 @@ module _ (k : ℕ) (mask : List ℕ) (c : ℕ) (old blk new ans : List ℕ) (rea
         let l : j < c = omega (arith, size) in
         let e : _≡_ {A = ℕ} (getD (take c (replicate 256 3)) j 0) 3 =
         getD-take c (replicate 256 3) j 0 l ∙ getD-replicate 256 j 3 0 (omega (arith, ready .some)) in
-        by-open k (part (k + 48) j mask) (part (k + 48) j old) (part (k + 48) j blk) (getD (take c (replicate 256 3)) j 0) (omega arith)
-        (ap (part (k + 48) j) cleared ∙ part-erase (k + 48) j mask old);
+        by-open k (partOf mask (k + 48) j) (partOf old (k + 48) j) (partOf blk (k + 48) j) (getD (take c (replicate 256 3)) j 0) (omega arith)
+        (ap (λ (x : List ℕ). partOf x (k + 48) j) cleared ∙ part-erase (k + 48) j mask old);
   }
 
   filled : BlockStatus k mask old new ans
@@ -194,17 +196,17 @@ module _ (k : ℕ) (mask : List ℕ) (c : ℕ) (old blk new ans : List ℕ) (rea
 
   -- each answer is that the chunk is filled in
   pub block-found : ((j : ℕ) → j < length ans → getD ans j 0 ≡ 0) → (j : ℕ) → j < c
-      → Agrees k (part (k + 48) j mask) (part (k + 48) j old) (part (k + 48) j new)
+      → Agrees k (partOf mask (k + 48) j) (partOf old (k + 48) j) (partOf new (k + 48) j)
   block-found z j h =
       let l : j < length ans = omega (arith, answers) in
-      found-by k (part (k + 48) j mask) (part (k + 48) j old) (part (k + 48) j new) (getD ans j 0) (z j l) (filled .each j l)
+      found-by k (partOf mask (k + 48) j) (partOf old (k + 48) j) (partOf new (k + 48) j) (getD ans j 0) (z j l) (filled .each j l)
 
   same : erase (marks mask) new ≡ erase (marks mask) old
   same =
       by-parts (k + 48) c (erase (marks mask) new) (erase (marks mask) old)
       (λ j h.
       part-erase (k + 48) j mask new
-      ∙ keeps-by k (part (k + 48) j mask) (part (k + 48) j old) (part (k + 48) j new) _ (filled .each j (omega (arith, answers)))
+      ∙ keeps-by k (partOf mask (k + 48) j) (partOf old (k + 48) j) (partOf new (k + 48) j) _ (filled .each j (omega (arith, answers)))
       ∙ sym (part-erase (k + 48) j mask old))
       (none-behind new (step .size ∙ ap length cleared ∙ length-erase (marks mask) old) ∙ sym (none-behind old refl))
     where
@@ -218,7 +220,7 @@ module _ (k : ℕ) (mask : List ℕ) (c : ℕ) (old blk new ans : List ℕ) (rea
       record {
         at = some .at;
         below = omega (arith, answers, some .below);
-        none = none-by k (part (k + 48) (some .at) mask) (part (k + 48) (some .at) old) (part (k + 48) (some .at) new)
+        none = none-by k (partOf mask (k + 48) (some .at)) (partOf old (k + 48) (some .at)) (partOf new (k + 48) (some .at))
             (getD ans (some .at) 0) (done (some .at) (some .below)) (some .left) (filled .each (some .at) (some .below));
         zeros = e ∙ same;
       }

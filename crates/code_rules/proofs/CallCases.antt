@@ -3,16 +3,15 @@ use mathlib.Core.Path.{_≡_, refl, sym, ap, ap₂, _∙_, subst}
 use mathlib.Core.Bool.{Bool, true, false, not, _||_}
 use mathlib.Core.List.{List, [], _∷_, _++_, append-nil}
 use Prim.Native.Nat.{ℕ, zero, suc, _+_, _-_, _*_, _≤_, _<_}
-use native.Mathlib.Nat.{zero-mul, suc-mul, add-comm}
 use native.Mathlib.Omega.{arith}
 use borrow.Author.Tests.{ltb-false, lt-ltb, le-ltb}
 use lib.Dec.{ltb, eqb, lit<, eqb→eq}
 use lib.ListN.{length, take, drop, replicate, length-replicate, length-drop, length-append}
 use lib.ListN.{take-append-drop, replicate-append-replicate, drop-of-length-le}
-use lib.Seq.{take-at, drop-at, take-append-add, drop-drop}
+use lib.Seq.{take-at, drop-at, take-append-add}
 use Rattle.base_rules.specs.Answer.{granted, refused, answered, Outcome, outcome, settled}
 use Rattle.base_rules.specs.Bounds.{badK, place, parity}
-use Rattle.base_rules.specs.Bytes.{splice}
+use Rattle.base_rules.specs.Bytes.{splice, partOf}
 use Rattle.base_rules.specs.Tests.{first}
 use Rattle.base_rules.specs.Written.{numberOf, putFault, putOf}
 use Rattle.base_rules.specs.declared.Written.{Written}
@@ -21,17 +20,17 @@ use Rattle.base_rules.proofs.Answers.{grants, refuses, writes, leaves, put-is}
 use Rattle.base_rules.proofs.Firsts.{due, skip, none-due}
 use Rattle.base_rules.proofs.Logic.{or-left, or-right}
 use Rattle.base_rules.proofs.Splice.{splice-next}
+use Rattle.base_rules.proofs.Parts.{part-first, part-next, part-whole}
 use Rattle.cut_rules.specs.Block.{padded, wordOf, blockOf}
 use Rattle.cut_rules.proofs.Blocks.{length-block, length-padded}
 use Rattle.codeword.proofs.Encoder.{length-parity}
 use Rattle.codeword.specs.Erasure.{marks, count}
-use Rattle.code_rules.specs.inner.Block.{part, Encoded, Ready, BlockTried}
+use Rattle.code_rules.specs.inner.Block.{Encoded, Ready, BlockTried}
 use Rattle.code_rules.specs.Fill.{Agrees}
 use Rattle.codeword.specs.Code.{parityOf, encode}
 use Rattle.code_rules.specs.Calls.{parityFault, parityCall, overPlace, misfits, encodeFault, encodeCall, badPair, chunkFault, ChunkFilled}
 use Rattle.code_rules.specs.Calls as calls
 use Rattle.code_rules.specs.declared.Filled.the-variants.{Done, Nothing, NotEnough, Refused}
-use Rattle.code_rules.proofs.PartLaws.{part-whole}
 
 -- ---- what the tests tell
 
@@ -112,18 +111,11 @@ pad-take packet n m h q =
 
 module _ (k c : ℕ) (src out : List ℕ) where
   head : suc c * k ≤ length src → length out ≡ suc c * (k + 48) → Encoded k (suc c) src out → take (k + 48) out ≡ wordOf parityOf (take k src)
-  unfolding part wordOf encode
-  head hs e d =
-      ap (λ (x : ℕ). take (k + 48) (drop x out)) (sym (zero-mul (k + 48)))
-      ∙ d .each 0 (omega arith)
-      ∙ ap (λ (x : ℕ). encode (take k (drop x src))) (zero-mul k)
+  unfolding wordOf encode
+  head hs e d = sym (part-first (k + 48) out) ∙ d .each 0 (omega arith) ∙ ap encode (part-first k src)
 
   behind : Encoded k (suc c) src out → Encoded k c (drop k src) (drop (k + 48) out)
-  unfolding part
-  behind d = record { each = λ j h. past (k + 48) j out ∙ d .each (suc j) (omega arith) ∙ ap encode (sym (past k j src)) }
-    where
-      past : (n j : ℕ) (l : List ℕ) → take n (drop (j * n) (drop n l)) ≡ take n (drop (suc j * n) l)
-      past n j l = ap (take n) (drop-drop (j * n) n l ∙ ap (λ (x : ℕ). drop x l) (add-comm n (j * n) ∙ sym (suc-mul j n)))
+  behind d = record { each = λ j h. part-next (k + 48) j out ∙ d .each (suc j) (omega arith) ∙ ap encode (sym (part-next k j src)) }
 
 -- chunks that are right one by one are the block
 pub block-is : (k c : ℕ) (src out : List ℕ) → c * k ≤ length src → length out ≡ c * (k + 48) → Encoded k c src out → out ≡ blockOf parityOf src k c
@@ -250,14 +242,14 @@ module _ (k : ℕ) (mask c : List ℕ) where
             chunks = omega (arith, pair-chunk);
             few = λ j h.
                 let z : j ≡ 0 = omega arith in
-                subst (λ (m : List ℕ). count (marks m) ≤ 48) (sym (ap (λ (i : ℕ). part (k + 48) i mask) z ∙ part-whole (k + 48) mask pair-mask)) few;
+                subst (λ (m : List ℕ). count (marks m) ≤ 48) (sym (ap (λ (i : ℕ). partOf mask (k + 48) i) z ∙ part-whole (k + 48) mask pair-mask)) few;
           }
 
       -- the block is filled in, and so is the chunk
       pub chunk-done : (after : List ℕ) → length after ≡ length c → BlockTried k mask 1 c after true → ChunkFilled k mask c after Done
       unfolding calls.numberOf
       chunk-done after e m =
-          let whole : Agrees k (part (k + 48) 0 mask) (part (k + 48) 0 c) (part (k + 48) 0 after) = m 0 (omega arith) in
+          let whole : Agrees k (partOf mask (k + 48) 0) (partOf c (k + 48) 0) (partOf after (k + 48) 0) = m 0 (omega arith) in
           let full = part-whole (k + 48) after (e ∙ pair-chunk) in
           record {
             number = grants _ _ none;

@@ -12,7 +12,7 @@ use lib.ListN.{length, take, drop, getD, length-append, length-drop, take-append
 use lib.Seq.{ext-getD, length-take-le, take-append-le, drop-append-le, drop-at}
 use Rattle.base_rules.specs.Bounds.{parity}
 use Rattle.base_rules.specs.Table.{table}
-use Rattle.base_rules.specs.Bytes.{splice}
+use Rattle.base_rules.specs.Bytes.{splice, partOf}
 use Rattle.base_rules.specs.Tests.{first, bit}
 use Rattle.base_rules.specs.Answer.{granted, refused}
 use Rattle.base_rules.proofs.Answers.{grants, refuses}
@@ -20,20 +20,19 @@ use Rattle.base_rules.proofs.Firsts.{due, skip, none-due, clear, clear-rest}
 use Rattle.base_rules.proofs.Logic.{clash, bit-one}
 use Rattle.base_rules.proofs.Splice.{splice-next}
 use Rattle.base_rules.proofs.Tables.{length-table, at-table, table-add}
-use Rattle.cut_rules.specs.Block.{chunkOf}
+use Rattle.base_rules.proofs.Parts.{part-room, length-part, part-at}
 use Rattle.cut_rules.specs.Missing.{gone, missing, suffice}
 use Rattle.cut_rules.specs.Sizes.{receivedC}
 use Rattle.cut_rules.proofs.Sufficing.{suffice-no}
 use Rattle.weave_rules.specs.Calls.{badCount, tooMuch, badChunk, notKept, enoughFault, enoughOf}
 use Rattle.codeword.specs.Erasure.{marks, erase, count}
 use Rattle.code_rules.specs.Fill.{Agrees}
-use Rattle.code_rules.specs.inner.Block.{part, Ready, BlockTried}
+use Rattle.code_rules.specs.inner.Block.{Ready, BlockTried}
 use Rattle.code_rules.specs.Calls.{numberOf, lostCells, fillFault, BlockFilled}
 use Rattle.code_rules.specs.inner.Standing.{Standing, Holds}
 use Rattle.code_rules.specs.declared.Filled.the-variants.{Done, Nothing, NotEnough, Refused}
 use Rattle.code_rules.proofs.CallCases.{granted-by, refused-by}
 use Rattle.code_rules.proofs.MaskLaws.{length-marks}
-use Rattle.code_rules.proofs.PartLaws.{room, length-part, part-at}
 
 -- ---- a row: one cell of each fragment
 
@@ -75,22 +74,22 @@ module _ (kept : List Bool) (f : ℕ) where
   count-lost a (suc n) = one-lost (gone (notKept kept) f a) (marks (lostCells kept f (suc a) n)) _ (count-lost (suc a) n)
 
   -- the masks of one chunk
-  pub part-lost : (n c j : ℕ) → j < c → part n j (lostCells kept f 0 (c * n)) ≡ lostCells kept f (j * n) n
+  pub part-lost : (n c j : ℕ) → j < c → partOf (lostCells kept f 0 (c * n)) n j ≡ lostCells kept f (j * n) n
   unfolding lostCells
   part-lost n c j h =
       let rule : ℕ → ℕ = λ q. bit (gone (notKept kept) f q) in
-      let size : length (part n j (table rule 0 (c * n))) ≡ n = length-part n c j (table rule 0 (c * n)) (length-table rule 0 (c * n)) h in
-      ext-getD 0 (part n j (table rule 0 (c * n))) (table rule (j * n) n) (size ∙ sym (length-table rule (j * n) n))
+      let size : length (partOf (table rule 0 (c * n)) n j) ≡ n = length-part n c j (table rule 0 (c * n)) (omega (arith, length-table rule 0 (c * n))) h in
+      ext-getD 0 (partOf (table rule 0 (c * n)) n j) (table rule (j * n) n) (size ∙ sym (length-table rule (j * n) n))
       (λ i l. let b : i < n = omega (arith, size) in
       part-at n j i (table rule 0 (c * n)) b
-      ∙ at-table rule 0 (c * n) (j * n + i) (omega (arith, room n c j h)) ∙ ap rule (zero-add (j * n + i)) ∙ sym (at-table rule (j * n) n i b))
+      ∙ at-table rule 0 (c * n) (j * n + i) (omega (arith, part-room n c j h)) ∙ ap rule (zero-add (j * n + i)) ∙ sym (at-table rule (j * n) n i b))
 
   as-missing : (n j : ℕ) → count (marks (lostCells kept f (j * n) n)) ≡ missing (notKept kept) f n j
   unfolding missing
   as-missing n j = count-lost (j * n) n
 
   -- no chunk misses more than 48, where the fragments kept suffice
-  pub few-lost : (n c : ℕ) → suffice (notKept kept) f n c ≡ true → (j : ℕ) → j < c → count (marks (part n j (lostCells kept f 0 (c * n)))) ≤ 48
+  pub few-lost : (n c : ℕ) → suffice (notKept kept) f n c ≡ true → (j : ℕ) → j < c → count (marks (partOf (lostCells kept f 0 (c * n)) n j)) ≤ 48
   few-lost n c e j l =
       subst (λ (x : ℕ). x ≤ 48) (sym (ap (λ m. count (marks m)) (part-lost n c j l) ∙ taken)) (go (decLt parity (missing (notKept kept) f n j)))
     where
@@ -122,11 +121,11 @@ module _ (kept : List Bool) (f k c : ℕ) (mask : List ℕ) (em : mask ≡ lostC
 
 -- ---- the call
 
-part-front : (n c j : ℕ) (a b : List ℕ) → length a ≡ c * n → j < c → part n j a ≡ chunkOf (a ++ b) n j
-unfolding part chunkOf
+part-front : (n c j : ℕ) (a b : List ℕ) → length a ≡ c * n → j < c → partOf a n j ≡ partOf (a ++ b) n j
+unfolding partOf
 part-front n c j a b e h =
-    sym (ap (take n) (drop-append-le (j * n) a b (omega (arith, room n c j h)))
-    ∙ take-append-le n (drop (j * n) a) b (omega (arith, length-drop (j * n) a, room n c j h)))
+    sym (ap (take n) (drop-append-le (j * n) a b (omega (arith, part-room n c j h)))
+    ∙ take-append-le n (drop (j * n) a) b (omega (arith, length-drop (j * n) a, part-room n c j h)))
 
 erase-front : (ms : List Bool) (a b : List ℕ) → length ms ≡ length a → erase ms (a ++ b) ≡ erase ms a ++ b
 unfolding erase
@@ -174,10 +173,10 @@ module _ (kept : List Bool) (f s k : ℕ) (block : List ℕ) (enough : Bool) (st
     unfolding all front
     length-front = length-take-le (f * s / (k + 48) * (k + 48)) block whole
 
-    front-is : (j : ℕ) → j < c → part (k + 48) j front ≡ chunkOf block (k + 48) j
+    front-is : (j : ℕ) → j < c → partOf front (k + 48) j ≡ partOf block (k + 48) j
     unfolding all front c
     front-is j h =
-        part-front (k + 48) c j front (drop all block) length-front h ∙ ap (λ (l : List ℕ). chunkOf l (k + 48) j) (take-append-drop all block)
+        part-front (k + 48) c j front (drop all block) length-front h ∙ ap (λ (l : List ℕ). partOf l (k + 48) j) (take-append-drop all block)
 
     module _ (new after : List ℕ) (size : length new ≡ f * s / (k + 48) * (k + 48))
         (is : after ≡ new ++ drop (f * s / (k + 48) * (k + 48)) block) (yes-enough : enough ≡ true) where
@@ -193,11 +192,11 @@ module _ (kept : List Bool) (f s k : ℕ) (block : List ℕ) (enough : Bool) (st
           record {
             size = ap length is ∙ length-append new (drop all block) ∙ omega (arith, length-drop all block);
             each = λ j h.
-                subst (λ (x : List ℕ). Agrees k x (chunkOf block (k + 48) j) (chunkOf after (k + 48) j)) (part-lost kept f (k + 48) c j h)
-                (subst (λ (x : List ℕ). Agrees k (part (k + 48) j (lostCells kept f 0 all)) x (chunkOf after (k + 48) j))
+                subst (λ (x : List ℕ). Agrees k x (partOf block (k + 48) j) (partOf after (k + 48) j)) (part-lost kept f (k + 48) c j h)
+                (subst (λ (x : List ℕ). Agrees k (partOf (lostCells kept f 0 all) (k + 48) j) x (partOf after (k + 48) j))
                 (front-is j h)
-                (subst (λ (x : List ℕ). Agrees k (part (k + 48) j (lostCells kept f 0 all)) (part (k + 48) j front) x)
-                (part-front (k + 48) c j new (drop all block) size h ∙ ap (λ (l : List ℕ). chunkOf l (k + 48) j) (sym is))
+                (subst (λ (x : List ℕ). Agrees k (partOf (lostCells kept f 0 all) (k + 48) j) (partOf front (k + 48) j) x)
+                (part-front (k + 48) c j new (drop all block) size h ∙ ap (λ (l : List ℕ). partOf l (k + 48) j) (sym is))
                 (m j h)));
             behind = ap (drop all) is ∙ drop-at new (drop all block) all size;
           },
@@ -218,7 +217,7 @@ module _ (kept : List Bool) (f s k : ℕ) (block : List ℕ) (enough : Bool) (st
             below = m .below;
             none = λ w g.
                 m .none w
-                (subst (λ (x : List ℕ). Agrees k x (part (k + 48) (m .at) front) w) (sym (part-lost kept f (k + 48) c (m .at) (m .below)))
+                (subst (λ (x : List ℕ). Agrees k x (partOf front (k + 48) (m .at)) w) (sym (part-lost kept f (k + 48) c (m .at) (m .below)))
                 (subst (λ (x : List ℕ). Agrees k (lostCells kept f (m .at * (k + 48)) (k + 48)) x w)
                 (sym (front-is (m .at) (m .below)))
                 g));

@@ -5,13 +5,14 @@ use Prim.Native.Nat.{ℕ, _+_, _-_, _*_, _≤_, _<_}
 use native.Mathlib.Omega.{arith}
 use lib.ListN.{length, take, drop, getD, length-drop}
 use lib.Seq.{length-take-le, ext-getD, getD-take, getD-drop}
+use Rattle.base_rules.specs.Bytes.{partOf}
+use Rattle.base_rules.proofs.Parts.{part-room, length-part, mid-part}
 use Rattle.codeword.specs.Erasure.{marks, count}
 use Rattle.code_rules.specs.inner.Kernel.{Made, Multiples, rootsList}
 use Rattle.code_rules.specs.inner.Patterns.{Pattern}
 use Rattle.code_rules.specs.inner.Sharing.{locs, Shared}
 use Rattle.code_rules.specs.inner.Solving.{PatternMade, locatorsBy}
-use Rattle.code_rules.specs.inner.Block.{part, Ready}
-use Rattle.code_rules.proofs.PartLaws.{room, length-part, mid-part}
+use Rattle.code_rules.specs.inner.Block.{Ready}
 use Rattle.code_rules.proofs.SolvingLaws.{pattern-by, locators-by}
 
 -- ---- two masks compared
@@ -38,22 +39,22 @@ module _ (l : List ℕ) (a b n : ℕ) where
 
 -- the chunk j ends before the masks do,
 pub in-mask : {k c : ℕ} {mask blk : List ℕ} (j : ℕ) → Ready k mask c blk → j < c → j * (k + 48) + (k + 48) ≤ length mask
-in-mask {k} {c} j r h = omega (arith, room (k + 48) c j h, r .masks)
+in-mask {k} {c} j r h = omega (arith, part-room (k + 48) c j h, r .masks)
 
 -- and before the block does
 pub in-block : {k c : ℕ} {mask blk : List ℕ} (j : ℕ) → Ready k mask c blk → j < c → j * (k + 48) + (k + 48) ≤ length blk
-in-block {k} {c} j r h = omega (arith, room (k + 48) c j h, r .chunks)
+in-block {k} {c} j r h = omega (arith, part-room (k + 48) c j h, r .chunks)
 
 -- its length
 pub chunk-long : {k c : ℕ} {mask blk : List ℕ} (j : ℕ) → Ready k mask c blk → j < c
     → length (take (j * (k + 48) + (k + 48) - j * (k + 48)) (drop (j * (k + 48)) blk)) ≡ k + 48
-chunk-long {k} {c} {mask} {blk} j r h = ap length (mid-part (k + 48) j blk) ∙ length-part (k + 48) c j blk (r .chunks) h
+chunk-long {k} {c} {mask} {blk} j r h = ap length (mid-part (k + 48) j blk) ∙ length-part (k + 48) c j blk (omega (arith, r .chunks)) h
 
 -- what its class shares is right for it
-pub shared-same : {t rk q sc : List ℕ} {e k : ℕ} (mask : List ℕ) (i j : ℕ) → Shared t rk q sc (part (k + 48) i mask) e k
+pub shared-same : {t rk q sc : List ℕ} {e k : ℕ} (mask : List ℕ) (i j : ℕ) → Shared t rk q sc (partOf mask (k + 48) i) e k
     → take (k + 48) (drop (i * (k + 48)) mask) ≡ take (k + 48) (drop (j * (k + 48)) mask)
     → Shared t rk q sc (take (j * (k + 48) + (k + 48) - j * (k + 48)) (drop (j * (k + 48)) mask)) e k
-unfolding part
+unfolding partOf
 shared-same {t} {rk} {q} {sc} {e} {k} mask i j s same = subst (λ (m : List ℕ). Shared t rk q sc m e k) (same ∙ sym (mid-part (k + 48) j mask)) s
 
 -- no more than 48 bytes of it are missing
@@ -65,12 +66,12 @@ class-few {k} {mask = mask} i r h counted = omega (arith, counted ∙ ap (λ (l 
 shared-by : {k c : ℕ} {mask blk : List ℕ} (i e : ℕ) (t rk q sc xs : List ℕ) → Ready k mask c blk → i < c → Made t 12288 → Multiples rootsList rk
     → e ≡ count (marks (take (i * (k + 48) + (k + 48) - i * (k + 48)) (drop (i * (k + 48)) mask)))
     → xs ≡ locs k (take (i * (k + 48) + (k + 48) - i * (k + 48)) (drop (i * (k + 48)) mask)) → Pattern xs q sc
-    → Shared t rk q sc (part (k + 48) i mask) e k
+    → Shared t rk q sc (partOf mask (k + 48) i) e k
 shared-by {k} {c} {mask} i e t rk q sc xs r h table roots counted located found =
     let m = mid-part (k + 48) i mask in
     record {
       short = r .short;
-      masked = length-part (k + 48) c i mask (r .masks) h;
+      masked = length-part (k + 48) c i mask (omega (arith, r .masks)) h;
       few = class-few i r h counted;
       counted = counted ∙ ap (λ (l : List ℕ). count (marks l)) m;
       table = table;
@@ -82,11 +83,11 @@ shared-by {k} {c} {mask} i e t rk q sc xs r h table roots counted located found 
 pub shared-with : {k c : ℕ} {mask blk : List ℕ} (i e : ℕ) (t rk q₀ q sc x : List ℕ) → Ready k mask c blk → i < c → Made t 12288
     → Multiples rootsList rk → e ≡ count (marks (take (i * (k + 48) + (k + 48) - i * (k + 48)) (drop (i * (k + 48)) mask)))
     → x ≡ locatorsBy k (take (i * (k + 48) + (k + 48) - i * (k + 48)) (drop (i * (k + 48)) mask)) → length x ≡ 48 → length q₀ ≡ 2304
-    → PatternMade x e q₀ q sc → Shared t rk q sc (part (k + 48) i mask) e k
+    → PatternMade x e q₀ q sc → Shared t rk q sc (partOf mask (k + 48) i) e k
 shared-with {k} {c} {mask} i e t rk q₀ q sc x r h table roots counted is-x size-x size-q made =
     let m : List ℕ = take (i * (k + 48) + (k + 48) - i * (k + 48)) (drop (i * (k + 48)) mask) in
     let few : e ≤ 48 = class-few i r h counted in
-    let size : length m ≡ k + 48 = ap length (mid-part (k + 48) i mask) ∙ length-part (k + 48) c i mask (r .masks) h in
+    let size : length m ≡ k + 48 = ap length (mid-part (k + 48) i mask) ∙ length-part (k + 48) c i mask (omega (arith, r .masks)) h in
     let found = locators-by k m (r .short) size (subst (λ (n : ℕ). n ≤ 48) counted few) in
     let located = ap₂ take counted is-x ∙ found in
     shared-by i e t rk q sc (take e x) r h table roots counted located (pattern-by x q₀ q sc e few size-x size-q made)

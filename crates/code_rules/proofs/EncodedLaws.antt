@@ -7,10 +7,11 @@ use native.Mathlib.Decide.{ℕ-discrete}
 use native.Mathlib.Omega.{arith}
 use borrow.Rule.Slice.PartMut.{putMid}
 use lib.ListN.{length, take, drop}
+use Rattle.base_rules.specs.Bytes.{partOf}
+use Rattle.base_rules.proofs.Parts.{length-part, length-putMid, part-same, part-other, mid-part}
 use Rattle.codeword.specs.Code.{encode}
 use Rattle.codeword.proofs.Encoder.{length-encode}
-use Rattle.code_rules.specs.inner.Block.{part, Encoded, EncSized, OneEncoded}
-use Rattle.code_rules.proofs.PartLaws.{length-part, length-putMid, part-same, part-other, mid-part}
+use Rattle.code_rules.specs.inner.Block.{Encoded, EncSized, OneEncoded}
 
 -- the chunk j made in its place
 pub one-encoded : (k c j : ℕ) (src out new : List ℕ) → EncSized k c src out → j < c
@@ -23,18 +24,18 @@ one-encoded k c j src out new z h e =
       others = λ i b d. part-other (k + 48) c j out new (z .chunks) h ln i b d;
     }
   where
-    en : new ≡ encode (part k j src)
+    en : new ≡ encode (partOf src k j)
     en = e ∙ ap encode (mid-part k j src)
 
     ln : length new ≡ k + 48
-    ln = ap length en ∙ length-encode (part k j src) ∙ ap (λ n. n + 48) (length-part k c j src (z .datas) h)
+    ln = ap length en ∙ length-encode (partOf src k j) ∙ ap (λ n. n + 48) (length-part k c j src (omega (arith, z .datas)) h)
 
 -- one chunk more is made
 pub encoded-more : (k c j : ℕ) (src out out' : List ℕ) → j < c → Encoded k j src out → OneEncoded k c j src out out' → Encoded k (j + 1) src out'
 encoded-more k c j src out out' h p o = record { each = λ i b. go i b (ℕ-discrete i j) }
   where
-    go : (i : ℕ) → i < j + 1 → Dec (i ≡ j) → part (k + 48) i out' ≡ encode (part k i src)
-    go i b (yes w) = subst (λ i. part (k + 48) i out' ≡ encode (part k i src)) (sym w) (o .made)
+    go : (i : ℕ) → i < j + 1 → Dec (i ≡ j) → partOf out' (k + 48) i ≡ encode (partOf src k i)
+    go i b (yes w) = subst (λ i. partOf out' (k + 48) i ≡ encode (partOf src k i)) (sym w) (o .made)
     go i b (no w) = o .others i (omega arith) w ∙ p .each i (omega arith)
 
 -- none is made at the start

@@ -4,26 +4,25 @@ use mathlib.Core.Bool.{Bool, true, false}
 use mathlib.Core.List.{List, [], _∷_}
 use Prim.Native.Nat.{ℕ, _+_, _*_, _≤_, _<_}
 use native.Mathlib.Omega.{arith}
+use Rattle.base_rules.specs.Bytes.{partOf}
 use Rattle.base_rules.proofs.Logic.{clash}
 use lib.Dec.{ltb}
-use lib.ListN.{length, drop}
+use lib.ListN.{length}
 use Rattle.base_rules.specs.Answer.{granted, refused, answered}
 use Rattle.base_rules.specs.Bounds.{parity}
 use Rattle.base_rules.proofs.ChunkSize.{k-most}
 use Rattle.base_rules.proofs.Firsts.{clear, clear-rest}
-use Rattle.cut_rules.specs.Block.{chunkOf}
+use Rattle.base_rules.proofs.Parts.{by-parts}
 use Rattle.cut_rules.specs.Missing.{suffice}
 use Rattle.cut_rules.specs.Sizes.{receivedC}
 use Rattle.weave_rules.specs.Calls.{badCount, tooMuch, badChunk, notKept}
 use Rattle.weave_rules.proofs.CallCases.{chunk-some}
 use Rattle.codeword.specs.Erasure.{marks, count}
-use Rattle.code_rules.specs.inner.Block.{part}
 use Rattle.code_rules.specs.Fill.{Agrees}
 use Rattle.code_rules.specs.Calls.{numberOf, valuesOf, badPair, chunkFault, ChunkFilled, lostCells, fillFault, BlockFilled}
 use Rattle.code_rules.specs.declared.Filled.{Filled}
 use Rattle.code_rules.specs.declared.Filled.the-variants.{Done, Nothing, NotEnough, Refused}
 use Rattle.code_rules.proofs.CallCases.{granted-by, refused-by, pair-size, pair-mask}
-use Rattle.code_rules.proofs.PartLaws.{by-parts}
 use Rattle.code_rules.proofs.FillLaws.{one-filling}
 use Rattle.code_rules.proofs.CellLaws.{length-lost, part-lost, few-lost}
 
@@ -90,12 +89,6 @@ module _ (k : ℕ) (mask c v w : List ℕ) where
   one-chunk-filled (Refused n) (Refused m) a b =
       (one-filled (Refused n) (Refused m) (one-number _ _ _ _ _ (a .number) (b .number)), a .left ∙ sym (b .left))
 
--- ---- lists that have the same chunks, and the same behind them
-
-by-chunks : (n c : ℕ) (v w : List ℕ) → ((j : ℕ) → j < c → chunkOf v n j ≡ chunkOf w n j) → drop (c * n) v ≡ drop (c * n) w → v ≡ w
-unfolding chunkOf part
-by-chunks n c v w h e = by-parts n c v w h e
-
 -- ---- a block
 
 module _ (kept : List Bool) (f s k : ℕ) (block v w : List ℕ) where
@@ -109,12 +102,12 @@ module _ (kept : List Bool) (f s k : ℕ) (block v w : List ℕ) where
 
   -- at most one chunk of the code has the cells kept
   same-chunk : 0 ≡ fillFault f s k (length block) → suffice (notKept kept) f (k + parity) (receivedC f s k) ≡ true → (j : ℕ) → j < receivedC f s k
-      → Agrees k (lostCells kept f (j * (k + parity)) (k + parity)) (chunkOf block (k + parity) j) (chunkOf v (k + parity) j)
-      → Agrees k (lostCells kept f (j * (k + parity)) (k + parity)) (chunkOf block (k + parity) j) (chunkOf w (k + parity) j)
-      → chunkOf v (k + parity) j ≡ chunkOf w (k + parity) j
+      → Agrees k (lostCells kept f (j * (k + parity)) (k + parity)) (partOf block (k + parity) j) (partOf v (k + parity) j)
+      → Agrees k (lostCells kept f (j * (k + parity)) (k + parity)) (partOf block (k + parity) j) (partOf w (k + parity) j)
+      → partOf v (k + parity) j ≡ partOf w (k + parity) j
   same-chunk fine enough j l a b =
-      one-filling k (lostCells kept f (j * (k + parity)) (k + parity)) (chunkOf block (k + parity) j)
-      (chunkOf v (k + parity) j) (chunkOf w (k + parity) j)
+      one-filling k (lostCells kept f (j * (k + parity)) (k + parity)) (partOf block (k + parity) j)
+      (partOf v (k + parity) j) (partOf w (k + parity) j)
       (short fine) (length-lost kept f (j * (k + parity)) (k + parity))
       (subst (λ (m : List ℕ). count (marks m) ≤ 48) (part-lost kept f (k + parity) (receivedC f s k) j l)
       (few-lost kept f (k + parity) (receivedC f s k) enough j l)) a b
@@ -125,15 +118,15 @@ module _ (kept : List Bool) (f s k : ℕ) (block v w : List ℕ) where
   one-block-filled Done Done a b =
       let fine : 0 ≡ fillFault f s k (length block) = granted-by _ _ _ (a .number) .0 in (
         refl,
-        by-chunks (k + parity) (receivedC f s k) v w
+        by-parts (k + parity) (receivedC f s k) v w
             (λ j l. same-chunk fine (a .left .0) j l (a .left .1 .each j l) (b .left .1 .each j l)) (a .left .1 .behind ∙ sym (b .left .1 .behind)),
       )
   one-block-filled Done Nothing a b =
-      absurd (b .left .1 .none (chunkOf v (k + parity) (b .left .1 .at)) (a .left .1 .each (b .left .1 .at) (b .left .1 .below)))
+      absurd (b .left .1 .none (partOf v (k + parity) (b .left .1 .at)) (a .left .1 .each (b .left .1 .at) (b .left .1 .below)))
   one-block-filled Done NotEnough a b = clash (a .left .0) (b .left .0)
   one-block-filled Done (Refused n) a b = absurd (not-both _ _ _ _ _ (a .number) (b .number))
   one-block-filled Nothing Done a b =
-      absurd (a .left .1 .none (chunkOf w (k + parity) (a .left .1 .at)) (b .left .1 .each (a .left .1 .at) (a .left .1 .below)))
+      absurd (a .left .1 .none (partOf w (k + parity) (a .left .1 .at)) (b .left .1 .each (a .left .1 .at) (a .left .1 .below)))
   one-block-filled Nothing Nothing a b = (refl, a .left .1 .zeros ∙ sym (b .left .1 .zeros))
   one-block-filled Nothing NotEnough a b = clash (a .left .0) (b .left .0)
   one-block-filled Nothing (Refused n) a b = absurd (not-both _ _ _ _ _ (a .number) (b .number))

@@ -8,9 +8,9 @@ use lib.ListN.{length, drop}
 use Rattle.base_rules.specs.Bounds.{badK, place, parity}
 use Rattle.base_rules.specs.Tests.{first, bit}
 use Rattle.base_rules.specs.Answer.{Answer, granted, refused, answered, Outcome, settled}
-use Rattle.base_rules.specs.Bytes.{splice}
+use Rattle.base_rules.specs.Bytes.{splice, partOf}
 use Rattle.base_rules.specs.Table.{table}
-use Rattle.cut_rules.specs.Block.{padded, chunkOf, blockOf}
+use Rattle.cut_rules.specs.Block.{padded, blockOf}
 use Rattle.cut_rules.specs.Missing.{gone, suffice}
 use Rattle.cut_rules.specs.Sizes.{receivedC}
 use Rattle.weave_rules.specs.Calls.{badCount, tooMuch, badChunk, notKept}
@@ -84,15 +84,15 @@ fillFault f s k room =
 -- clause 7.4.4: each of c chunks is one of the code that has the cells kept; what is behind them is as it was
 pub record BlockDone (kept : List Bool) (f k c : ℕ) (block after : List ℕ) : Type 0 where
   pub size : length after ≡ length block
-  pub each : (j : ℕ) → j < c → Agrees k (lostCells kept f (j * (k + parity)) (k + parity)) (chunkOf block (k + parity) j)
-      (chunkOf after (k + parity) j)
+  pub each : (j : ℕ) → j < c → Agrees k (lostCells kept f (j * (k + parity)) (k + parity)) (partOf block (k + parity) j)
+      (partOf after (k + parity) j)
   pub behind : drop (c * (k + parity)) after ≡ drop (c * (k + parity)) block
 
 -- clause 7.4.4: no chunk of the code has the cells kept of one of c chunks; 0 for each missing cell of all of them, and all else as it was
 pub record BlockNothing (kept : List Bool) (f k c : ℕ) (block after : List ℕ) : Type 0 where
   pub at : ℕ
   pub below : at < c
-  pub none : (w : List ℕ) → Agrees k (lostCells kept f (at * (k + parity)) (k + parity)) (chunkOf block (k + parity) at) w → ⊥
+  pub none : (w : List ℕ) → Agrees k (lostCells kept f (at * (k + parity)) (k + parity)) (partOf block (k + parity) at) w → ⊥
   pub zeros : after ≡ erase (marks (lostCells kept f 0 (c * (k + parity)))) block
 
 -- clause 7.4.4: the block of c chunks, and what stands in its place after, by the answer; "enough" as weave's call answers it

@@ -2,12 +2,14 @@
 use mathlib.Core.Path.{_≡_, sym, ap, ap₂, _∙_}
 use mathlib.Core.List.{List, _++_}
 use Prim.Native.Nat.{ℕ, zero, suc, _+_, _*_, _≤_, _<_}
-use native.Mathlib.Nat.{suc-mul, zero-mul, not-suc-le-zero, le-of-suc-le-suc, add-comm}
+use native.Mathlib.Nat.{zero-mul, not-suc-le-zero, le-of-suc-le-suc}
 use native.Mathlib.Omega.{arith}
 use lib.ListN.{length, take, drop, replicate, length-append, length-drop, length-replicate}
-use lib.Seq.{take-at, drop-at, drop-drop, length-take-le, take-append-seam}
+use lib.Seq.{take-at, drop-at, length-take-le, take-append-seam}
 use Rattle.base_rules.specs.Bounds.{parity}
-use Rattle.cut_rules.specs.Block.{padded, chunkOf, wordOf, blockOf}
+use Rattle.base_rules.specs.Bytes.{partOf}
+use Rattle.base_rules.proofs.Parts.{part-first, part-next}
+use Rattle.cut_rules.specs.Block.{padded, wordOf, blockOf}
 
 module _ (parityOf : List ℕ → List ℕ) (k : ℕ) (full : (xs : List ℕ) → length xs ≡ k → length (parityOf xs) ≡ parity) where
   length-word : (xs : List ℕ) → k ≤ length xs → length (wordOf parityOf (take k xs)) ≡ k + parity
@@ -26,26 +28,21 @@ module _ (parityOf : List ℕ → List ℕ) (k : ℕ) (full : (xs : List ℕ) �
 
   -- the k + 48 bytes of a block from j (k + 48) on are chunk j and its parity
   pub window : (xs : List ℕ) (c j : ℕ) → c * k ≤ length xs → j < c
-      → take (k + parity) (drop (j * (k + parity)) (blockOf parityOf xs k c)) ≡ wordOf parityOf (chunkOf xs k j)
-  unfolding blockOf chunkOf
+      → partOf (blockOf parityOf xs k c) (k + parity) j ≡ wordOf parityOf (partOf xs k j)
+  unfolding blockOf
   window xs zero j h l = absurd (not-suc-le-zero l)
   window xs (suc c) zero h l =
-      let w : length (wordOf parityOf (take k xs)) ≡ k + parity = length-word xs (omega arith) in
-      ap (λ (x : ℕ). take (k + parity) (drop x (wordOf parityOf (take k xs) ++ blockOf parityOf (drop k xs) k c))) (zero-mul (k + parity))
-      ∙ take-at (wordOf parityOf (take k xs)) (blockOf parityOf (drop k xs) k c) (k + parity) w
-      ∙ ap (λ (x : ℕ). wordOf parityOf (take k (drop x xs))) (sym (zero-mul k))
+      part-first (k + parity) (wordOf parityOf (take k xs) ++ blockOf parityOf (drop k xs) k c)
+      ∙ take-at (wordOf parityOf (take k xs)) (blockOf parityOf (drop k xs) k c) (k + parity) (length-word xs (omega arith))
+      ∙ ap (wordOf parityOf) (sym (part-first k xs))
   window xs (suc c) (suc j) h l =
       let n : ℕ = k + parity in
-      let w : length (wordOf parityOf (take k xs)) ≡ n = length-word xs (omega arith) in
       let block = wordOf parityOf (take k xs) ++ blockOf parityOf (drop k xs) k c in
-      let past : drop (suc j * n) block ≡ drop (j * n) (blockOf parityOf (drop k xs) k c) =
-      ap (λ (x : ℕ). drop x block) (suc-mul j n ∙ add-comm (j * n) n)
-      ∙ sym (drop-drop (j * n) n block)
-      ∙ ap (λ (ys : List ℕ). drop (j * n) ys) (drop-at (wordOf parityOf (take k xs)) (blockOf parityOf (drop k xs) k c) n w) in
-      ap (λ (ys : List ℕ). take n ys) past
+      sym (part-next n j block)
+      ∙ ap (λ (ys : List ℕ). partOf ys n j)
+      (drop-at (wordOf parityOf (take k xs)) (blockOf parityOf (drop k xs) k c) n (length-word xs (omega arith)))
       ∙ window (drop k xs) c j (omega (arith, length-drop k xs)) (le-of-suc-le-suc l)
-      ∙ ap (λ (ys : List ℕ). wordOf parityOf (take k ys)) (drop-drop (j * k) k xs
-      ∙ ap (λ (x : ℕ). drop x xs) (add-comm k (j * k) ∙ sym (suc-mul j k)))
+      ∙ ap (wordOf parityOf) (part-next k j xs)
 
 -- the packet again, off its zeros
 pub unpadded : (packet : List ℕ) (z : ℕ) → take (length packet) (padded packet z) ≡ packet

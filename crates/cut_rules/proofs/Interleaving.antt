@@ -1,14 +1,15 @@
 -- Interleaving: cells and fragments are one to one, and a place that holds the fragments has the block's bytes. Assumes nothing.
 use mathlib.Core.Path.{_≡_, sym, ap, _∙_}
 use mathlib.Core.List.{List}
-use Prim.Native.Nat.{ℕ, _+_, _-_, _*_, _/_, _%_, _<_, min}
+use Prim.Native.Nat.{ℕ, _+_, _*_, _/_, _%_, _<_}
 use native.Mathlib.Nat.{zero-add, mod-add-div, div-add-mod', div-lt-iff-lt-mul, mod-lt}
 use native.Mathlib.Omega.{arith}
 use lib.Arith.{digits-lt, digits-div, digits-mod}
-use lib.ListN.{length, getD, take, drop, length-take, length-drop}
-use lib.Seq.{getD-take, getD-drop}
+use lib.ListN.{length, getD}
+use Rattle.base_rules.specs.Bytes.{partOf}
 use Rattle.base_rules.proofs.Tables.{length-table, at-table}
-use Rattle.cut_rules.specs.Cells.{fragmentOf, partOf, cellOf}
+use Rattle.base_rules.proofs.Parts.{part-at}
+use Rattle.cut_rules.specs.Cells.{fragmentOf, cellOf}
 use Rattle.cut_rules.specs.Claims.{Woven, Joined}
 
 -- each fragment of a block has s bytes, however long the block is
@@ -50,11 +51,10 @@ module _ (f s : ℕ) (some : 0 < f) where
     join : getD (fragmentOf block f s (q % f)) (q / f) 0 ≡ getD block q 0
     join = byte block f s (q % f) (q / f) (offset q h) ∙ ap (λ (x : ℕ). getD block x 0) (mod-add-div q f)
 
-    held : (place : List ℕ) → take s (drop (q % f * s) place) ≡ fragmentOf block f s (q % f) → cellOf place f s q ≡ getD block q 0
+    held : (place : List ℕ) → partOf place s (q % f) ≡ fragmentOf block f s (q % f) → cellOf place f s q ≡ getD block q 0
     unfolding cellOf
     held place e =
-        let read : getD (take s (drop (q % f * s) place)) (q / f) 0 ≡ getD place (q % f * s + q / f) 0 =
-        getD-take s (drop (q % f * s) place) (q / f) 0 (offset q h) ∙ getD-drop (q % f * s) place (q / f) 0 in
+        let read : getD (partOf place s (q % f)) (q / f) 0 ≡ getD place (q % f * s + q / f) 0 = part-at s (q % f) (q / f) place (offset q h) in
         sym read ∙ ap (λ (xs : List ℕ). getD xs (q / f) 0) e ∙ join
 
     -- byte q of the block stands in fragment q mod f, and in cell q of a place that holds that fragment
@@ -70,12 +70,4 @@ cell-at place f s o r low = rw (digits-mod o low, digits-div o low)
 
 -- the byte at q is in part q / s at q % s
 pub part-byte : (packet : List ℕ) (s q : ℕ) → 0 < s → getD (partOf packet s (q / s)) (q % s) 0 ≡ getD packet q 0
-unfolding partOf
-part-byte packet s q some =
-    getD-take s (drop (q / s * s) packet) (q % s) 0 (mod-lt q some) ∙ getD-drop (q / s * s) packet (q % s) 0
-    ∙ ap (λ (x : ℕ). getD packet x 0) (div-add-mod' q s)
-
--- a part has s bytes, or what is left
-pub length-part : (packet : List ℕ) (s i : ℕ) → length (partOf packet s i) ≡ min s (length packet - i * s)
-unfolding partOf
-length-part packet s i = length-take s (drop (i * s) packet) ∙ ap (λ (x : ℕ). min s x) (length-drop (i * s) packet)
+part-byte packet s q some = part-at s (q / s) (q % s) packet (mod-lt q some) ∙ ap (λ (x : ℕ). getD packet x 0) (div-add-mod' q s)

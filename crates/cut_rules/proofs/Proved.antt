@@ -8,7 +8,8 @@ use native.Mathlib.Omega.{arith}
 use lib.ListN.{length}
 use Rattle.base_rules.specs.Bounds.{parity}
 use Rattle.base_rules.specs.Round.{ceil}
-use Rattle.cut_rules.specs.Cells.{partOf}
+use Rattle.base_rules.specs.Bytes.{partOf}
+use Rattle.base_rules.proofs.Parts.{length-left}
 use Rattle.cut_rules.specs.Claims.{Taken, C2, C3, C4, C5, C6, C6m, AssuresM, AnyThree, NoFour, Parted}
 use Rattle.cut_rules.specs.Edge.{Row, rows, fec}
 use Rattle.cut_rules.specs.Missing.{losses, missing, worst}
@@ -16,7 +17,7 @@ use Rattle.cut_rules.specs.Sizes as size
 use Rattle.cut_rules.specs.declared.Settings.{Settings}
 use Rattle.cut_rules.proofs.Bearing as bearing
 use Rattle.cut_rules.proofs.Blocks.{window}
-use Rattle.cut_rules.proofs.Interleaving.{woven, joined, part-byte, length-part}
+use Rattle.cut_rules.proofs.Interleaving.{woven, joined, part-byte}
 use Rattle.cut_rules.proofs.LossCounts.{most, fewest, firsts-lost, firsts-take, worst-more}
 use Rattle.cut_rules.proofs.PlanCases.{within, L-plain}
 use Rattle.cut_rules.proofs.Sufficing.{suffice-from, suffice-no}
@@ -44,11 +45,11 @@ parted g packet taken plain =
       byte = λ q. part-byte packet s q (bearing.s-some g l in-bounds);
       full = λ i (h : i + 1 < f).
           let far : (i + 1) * s ≤ (f - 1) * s = mul-le-mul-right s (omega arith) in
-          omega (arith, far, length-part packet s i, sure .last-held, cut);
+          omega (arith, far, length-left packet s i, sure .last-held, cut);
       last = λ i (e : i + 1 ≡ f).
           let here : i * s ≡ (f - 1) * s = ap (λ (x : ℕ). x * s) (omega arith) in
           let full = bearing.s-some g l in-bounds in
-          (omega (arith, here, length-part packet s i, sure .last-held, cut), omega (arith, length-part packet s i));
+          (omega (arith, here, length-left packet s i, sure .last-held, cut), omega (arith, length-left packet s i));
     }
 
 -- each byte of a block or packet has one fragment and offset, and each chunk its own cells of the block

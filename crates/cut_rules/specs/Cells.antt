@@ -2,16 +2,12 @@
 -- floor(q / f); cells left over are zero.
 use mathlib.Core.List.{List}
 use Prim.Native.Nat.{ℕ, _+_, _*_, _/_, _%_}
-use lib.ListN.{getD, take, drop}
+use lib.ListN.{getD}
 use Rattle.base_rules.specs.Table.{table}
 
 -- document 01: the s bytes of fragment i; at offset t stands byte i + f t of the block, and past its end 0
 unfoldable pub fragmentOf : List ℕ → ℕ → ℕ → ℕ → List ℕ
 fragmentOf block f s i = table (λ t. getD block (i + f * t) 0) 0 s
-
--- document 01: without FEC fragment i holds the bytes from i s on, s of them, and the last fragment what is left
-unfoldable pub partOf : List ℕ → ℕ → ℕ → List ℕ
-partOf packet s i = take s (drop (i * s) packet)
 
 -- clause 7.4.3: cell q of a place that holds fragment i from i s on
 unfoldable pub cellOf : List ℕ → ℕ → ℕ → ℕ → ℕ

@@ -3,10 +3,11 @@ use mathlib.Core.Path.{_≡_}
 use mathlib.Core.Bool.{Bool, true, false}
 use mathlib.Core.List.{List}
 use Prim.Native.Nat.{ℕ, _+_, _-_, _*_, _/_, _%_, _≤_, _<_}
-use lib.ListN.{length, getD, take, drop}
+use lib.ListN.{length, getD}
 use Rattle.base_rules.specs.Bounds.{most-k, place, parity}
-use Rattle.cut_rules.specs.Block.{chunkOf, wordOf, blockOf}
-use Rattle.cut_rules.specs.Cells.{fragmentOf, cellOf, partOf}
+use Rattle.base_rules.specs.Bytes.{partOf}
+use Rattle.cut_rules.specs.Block.{wordOf, blockOf}
+use Rattle.cut_rules.specs.Cells.{fragmentOf, cellOf}
 use Rattle.cut_rules.specs.Edge.{fec}
 use Rattle.cut_rules.specs.Missing.{losses, missing, suffice, worst, firsts}
 use Rattle.cut_rules.specs.Plan.{planFault}
@@ -46,13 +47,13 @@ pub record Woven (f s : ℕ) : Type 0 where
 -- byte q of the block stands in fragment q mod f at floor(q / f); so a place that holds that fragment has the byte in cell q,
 pub record Joined (block : List ℕ) (f s q : ℕ) : Type 0 where
   pub byte : getD (fragmentOf block f s (q % f)) (q / f) 0 ≡ getD block q 0
-  pub held : (place : List ℕ) → take s (drop (q % f * s) place) ≡ fragmentOf block f s (q % f) → cellOf place f s q ≡ getD block q 0
+  pub held : (place : List ℕ) → partOf place s (q % f) ≡ fragmentOf block f s (q % f) → cellOf place f s q ≡ getD block q 0
 
 -- and the n cells of chunk j are the chunk and its parity
 abbrev pub Windows : Type 0
 Windows = (parityOf : List ℕ → List ℕ) (k : ℕ) → ((xs : List ℕ) → length xs ≡ k → length (parityOf xs) ≡ parity)
     → (xs : List ℕ) (c j : ℕ) → c * k ≤ length xs → j < c
-    → take (k + parity) (drop (j * (k + parity)) (blockOf parityOf xs k c)) ≡ wordOf parityOf (chunkOf xs k j)
+    → partOf (blockOf parityOf xs k c) (k + parity) j ≡ wordOf parityOf (partOf xs k j)
 
 -- without FEC byte q stands in fragment floor(q / s) at q mod s; each has s bytes, and the last 1 to s
 pub record Parted (packet : List ℕ) (f s : ℕ) : Type 0 where

@@ -3,7 +3,7 @@ use mathlib.Core.Bool.{true, false}
 use mathlib.Core.List.{List, [], _∷_}
 use Prim.Native.Nat.{ℕ, _-_, _*_}
 use lib.ListN.{length, replicate}
-use Rattle.cut_rules.specs.Cells.{partOf}
+use Rattle.base_rules.specs.Bytes.{partOf}
 use Rattle.cut_rules.specs.Plan.{houseOf}
 use Rattle.cut_rules.specs.Sizes as size
 use Rattle.cut_rules.specs.declared.Address.the-variants.{None}

@@ -7,13 +7,14 @@ use native.Mathlib.Nat.{zero-mul, mul-le-mul-right, mod-lt, div-add-mod', div-lt
 use native.Mathlib.Omega.{arith}
 use lib.Dec.{eqb}
 use lib.ListN.{length, getD, take, drop, replicate, take-append-drop}
-use lib.Seq.{ext-getD, getD-take, getD-drop, take-take, take-all, drop-at, length-take-le}
+use lib.Seq.{ext-getD, getD-take, take-take, take-all, drop-at, length-take-le}
 use Rattle.base_rules.specs.Bounds.{most-k, parity}
 use Rattle.base_rules.proofs.ByteLaws.{bytes-append, bytes-take, bytes-drop, bytes-zeros}
-use Rattle.base_rules.specs.Bytes.{Bytes}
+use Rattle.base_rules.specs.Bytes.{Bytes, partOf}
 use Rattle.base_rules.specs.Tests.{bit}
 use Rattle.base_rules.proofs.Tables.{at-table}
-use Rattle.cut_rules.specs.Block.{padded, chunkOf, wordOf, blockOf}
+use Rattle.base_rules.proofs.Parts.{part-room, length-part, part-at, parts-same}
+use Rattle.cut_rules.specs.Block.{padded, wordOf, blockOf}
 use Rattle.cut_rules.specs.Cells.{cellOf}
 use Rattle.cut_rules.specs.Missing.{gone, suffice}
 use Rattle.cut_rules.specs.Sizes.{receivedC}
@@ -29,12 +30,11 @@ use Rattle.code_rules.specs.Calls.{lostCells, BlockDone, BlockNothing}
 use Rattle.code_rules.proofs.CellLaws.{length-lost, part-lost, few-lost}
 use Rattle.code_rules.proofs.FillLaws.{one-filling}
 use Rattle.code_rules.proofs.MaskLaws.{erase-at}
-use Rattle.code_rules.proofs.PartLaws as parts
 use Rattle.af_rules.proofs.Checks.{passing}
 use Rattle.places_rules.specs.declared.Place.{Place}
 use Rattle.form_rules.specs.Agree.{Fills, Agrees}
 use Rattle.form_rules.specs.inner.Proposals.{dataOf}
-use Rattle.form_rules.proofs.Chunks.{chunk-at, length-chunk, chunks-same, length-data, chunk-data, bytes-data, block-data}
+use Rattle.form_rules.proofs.Chunks.{length-data, chunk-data, bytes-data, block-data}
 
 -- the first f s cells are those of a place
 abbrev pub Laid : ℕ → ℕ → List ℕ → List ℕ → Type 0
@@ -109,58 +109,57 @@ module _ (f s k z : ℕ) (lost : ℕ → Bool) (held P : List ℕ) (fills : Fill
 
   module _ (j : ℕ) (below : j < receivedC f s k) where
     -- each chunk of the packet with its z zeros has k data bytes
-    pub length-data-chunk : length (chunkOf (padded P z) k j) ≡ k
-    length-data-chunk = length-chunk k (receivedC f s k) j (padded P z) long below
+    pub length-data-chunk : length (partOf (padded P z) k j) ≡ k
+    length-data-chunk = length-part k (receivedC f s k) j (padded P z) long below
 
-    bytes-chunk : Bytes (chunkOf (padded P z) k j)
-    unfolding chunkOf padded
+    bytes-chunk : Bytes (partOf (padded P z) k j)
+    unfolding partOf padded
     bytes-chunk = bytes-take k (drop (j * k) (padded P z))
         (bytes-drop (j * k) (padded P z) (bytes-append P (replicate z 0) (fills .bytes) (bytes-zeros z)))
 
     -- chunk j with its parity is a word of the code
-    coded : k ≤ most-k → Coded k (encode (chunkOf (padded P z) k j))
+    coded : k ≤ most-k → Coded k (encode (partOf (padded P z) k j))
     coded small =
-        subst (λ (x : ℕ). Coded x (encode (chunkOf (padded P z) k j))) length-data-chunk
-        (r1 .coded (chunkOf (padded P z) k j) (omega (arith, length-data-chunk)) bytes-chunk)
+        subst (λ (x : ℕ). Coded x (encode (partOf (padded P z) k j))) length-data-chunk
+        (r1 .coded (partOf (padded P z) k j) (omega (arith, length-data-chunk)) bytes-chunk)
 
     -- and stands in the block
     word-at : (i : ℕ) → i < k + parity
-        → getD (encode (chunkOf (padded P z) k j)) i 0 ≡ getD (blockOf parityOf (padded P z) k (receivedC f s k)) (j * (k + parity) + i) 0
+        → getD (encode (partOf (padded P z) k j)) i 0 ≡ getD (blockOf parityOf (padded P z) k (receivedC f s k)) (j * (k + parity) + i) 0
     unfolding wordOf encode
     word-at i h =
         sym (ap (λ (w : List ℕ). getD w i 0) (window parityOf k (λ d e. r1 .size d) (padded P z) (receivedC f s k) j long below))
-        ∙ getD-take (k + parity) (drop (j * (k + parity)) (blockOf parityOf (padded P z) k (receivedC f s k))) i 0 h
-        ∙ getD-drop (j * (k + parity)) (blockOf parityOf (padded P z) k (receivedC f s k)) i 0
+        ∙ part-at (k + parity) j i (blockOf parityOf (padded P z) k (receivedC f s k)) h
 
 -- its words have the kept bytes of the cells
 module _ (f s k z : ℕ) (kept : List Bool) (held cells : List ℕ) (laid : Laid f s held cells) (room : f * s ≤ length cells) (small : k ≤ most-k)
     (P : List ℕ) (fills : Fills f s k z (notKept kept) held P) (j : ℕ) (below : j < receivedC f s k) where
   -- chunk j with its parity is a word of the code, and has every kept byte of chunk j of the cells
-  pub word-agrees : chunk.Agrees k (lostCells kept f (j * (k + parity)) (k + parity)) (chunkOf cells (k + parity) j)
-      (encode (chunkOf (padded P z) k j))
+  pub word-agrees : chunk.Agrees k (lostCells kept f (j * (k + parity)) (k + parity)) (partOf cells (k + parity) j)
+      (encode (partOf (padded P z) k j))
   word-agrees =
       let n : ℕ = k + parity in
-      let w : List ℕ = encode (chunkOf (padded P z) k j) in
+      let w : List ℕ = encode (partOf (padded P z) k j) in
       let is-coded : Coded k w = coded f s k z (notKept kept) held P fills j below small in
       record {
         coded = is-coded;
         keeps =
-            erased-same kept f (j * n) n w (chunkOf cells n j) (is-coded .size)
-            (length-chunk n (receivedC f s k) j cells (omega (arith, within f s k)) below)
+            erased-same kept f (j * n) n w (partOf cells n j) (is-coded .size)
+            (length-part n (receivedC f s k) j cells (omega (arith, within f s k)) below)
             (λ i (h : i < n) g.
-            let inside : j * n + i < receivedC f s k * n = omega (arith, parts.room n (receivedC f s k) j below) in
+            let inside : j * n + i < receivedC f s k * n = omega (arith, part-room n (receivedC f s k) j below) in
             word-at f s k z (notKept kept) held P fills j below i h
             ∙ sym (fills .cells (j * n + i) inside g)
             ∙ sym (laid (j * n + i) (omega (arith, within f s k)))
-            ∙ sym (chunk-at n j i cells h));
+            ∙ sym (part-at n j i cells h));
       }
 
   -- and no other word of the code has them, where no chunk misses more than 48 bytes
   pub word-only : suffice (notKept kept) f (k + parity) (receivedC f s k) ≡ true → (w : List ℕ)
-      → chunk.Agrees k (lostCells kept f (j * (k + parity)) (k + parity)) (chunkOf cells (k + parity) j) w
-      → encode (chunkOf (padded P z) k j) ≡ w
+      → chunk.Agrees k (lostCells kept f (j * (k + parity)) (k + parity)) (partOf cells (k + parity) j) w
+      → encode (partOf (padded P z) k j) ≡ w
   word-only enough w a =
-      one-filling k (lostCells kept f (j * (k + parity)) (k + parity)) (chunkOf cells (k + parity) j) (encode (chunkOf (padded P z) k j)) w small
+      one-filling k (lostCells kept f (j * (k + parity)) (k + parity)) (partOf cells (k + parity) j) (encode (partOf (padded P z) k j)) w small
       (length-lost kept f (j * (k + parity)) (k + parity))
       (subst (λ (m : List ℕ). count (marks m) ≤ parity) (part-lost kept f (k + parity) (receivedC f s k) j below)
       (few-lost kept f (k + parity) (receivedC f s k) enough j below))
@@ -172,7 +171,7 @@ module _ (f s k z : ℕ) (kept : List Bool) (held cells after : List ℕ) (laid 
     (small : k ≤ most-k) (zeros : z < k) where
   -- where one chunk has no filling, no packet agrees
   pub none : BlockNothing kept f k (receivedC f s k) cells after → (P : List ℕ) → Fills f s k z (notKept kept) held P → ⊥
-  none left P fills = left .none (encode (chunkOf (padded P z) k (left .at)))
+  none left P fills = left .none (encode (partOf (padded P z) k (left .at)))
       (word-agrees f s k z kept held cells laid room small P fills (left .at) (left .below))
 
   -- the chunks stand in what is left
@@ -184,10 +183,10 @@ module _ (f s k z : ℕ) (kept : List Bool) (held cells after : List ℕ) (laid 
       → take (receivedC f s k * k) (padded P z) ≡ dataOf after k (receivedC f s k)
   same-data enough done P fills =
       let c : ℕ = receivedC f s k in
-      chunks-same k c (padded P z) (dataOf after k c)
+      parts-same k c (padded P z) (dataOf after k c)
       (λ j (below : j < c).
-      sym (encode-keeps (chunkOf (padded P z) k j) k (length-data-chunk f s k z (notKept kept) held P fills j below))
-      ∙ ap (take k) (word-only f s k z kept held cells laid room small P fills j below enough (chunkOf after (k + parity) j) (done .each j below))
+      sym (encode-keeps (partOf (padded P z) k j) k (length-data-chunk f s k z (notKept kept) held P fills j below))
+      ∙ ap (take k) (word-only f s k z kept held cells laid room small P fills j below enough (partOf after (k + parity) j) (done .each j below))
       ∙ sym (chunk-data k after c j (after-room done) below))
       ∙ take-all (c * k) (dataOf after k c) (omega (arith, length-data after k c (after-room done)))
 
@@ -208,11 +207,11 @@ module _ (f s k z : ℕ) (kept : List Bool) (held cells after : List ℕ) (laid 
       let is : j * n + i ≡ q = div-add-mod' q n in
       let below : j < c = div-lt-iff-lt-mul {k = k + parity} (omega arith) .1 h in
       let low : i < n = mod-lt q (omega arith) in
-      ap (λ (x : ℕ). getD after x 0) (sym is) ∙ sym (chunk-at n j i after low)
-      ∙ kept-same kept f (j * n) n (chunkOf after n j) (chunkOf cells n j)
-      (length-chunk n c j after (after-room done) below) (length-chunk n c j cells (omega (arith, within f s k)) below)
+      ap (λ (x : ℕ). getD after x 0) (sym is) ∙ sym (part-at n j i after low)
+      ∙ kept-same kept f (j * n) n (partOf after n j) (partOf cells n j)
+      (length-part n c j after (after-room done) below) (length-part n c j cells (omega (arith, within f s k)) below)
       (done .each j below .keeps) i low (ap (gone (notKept kept) f) is ∙ g)
-      ∙ chunk-at n j i cells low ∙ ap (λ (x : ℕ). getD cells x 0) is
+      ∙ part-at n j i cells low ∙ ap (λ (x : ℕ). getD cells x 0) is
 
   -- the data without the zeros agree where zeros stand behind them
   pub fits : BlockDone kept f k (receivedC f s k) cells after → drop (receivedC f s k * k - z) (dataOf after k (receivedC f s k)) ≡ replicate z 0

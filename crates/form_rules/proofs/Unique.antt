@@ -7,9 +7,11 @@ use native.Mathlib.Nat.{zero-add}
 use native.Mathlib.Omega.{arith}
 use lib.ListN.{length, take}
 use Rattle.base_rules.specs.Bounds.{most-k, parity}
+use Rattle.base_rules.specs.Bytes.{partOf}
 use Rattle.base_rules.proofs.Logic.{either}
 use Rattle.base_rules.proofs.Tables.{length-table, at-table}
-use Rattle.cut_rules.specs.Block.{padded, chunkOf}
+use Rattle.base_rules.proofs.Parts.{parts-same}
+use Rattle.cut_rules.specs.Block.{padded}
 use Rattle.cut_rules.specs.Cells.{cellOf, cellsOf}
 use Rattle.cut_rules.specs.Missing.{suffice}
 use Rattle.cut_rules.specs.Sizes.{receivedC}
@@ -19,7 +21,6 @@ use Rattle.codeword.proofs.Encoder.{encode-keeps}
 use Rattle.places_rules.specs.declared.Place.{Place}
 use Rattle.form_rules.specs.Agree.{enough, enoughIn, Fills}
 use Rattle.form_rules.specs.Claims.{OnePacket}
-use Rattle.form_rules.proofs.Chunks.{chunks-same}
 use Rattle.form_rules.proofs.Mending.{Laid, from-chunks, length-data-chunk, word-agrees, word-only}
 
 -- all cells of a place
@@ -35,21 +36,21 @@ laid-all held f s q h = at-table (cellOf held f s) 0 (f * s) q h ∙ ap (cellOf 
 module _ (f s k z : ℕ) (kept : List Bool) (held : List ℕ) (small : k ≤ most-k)
     (enough-kept : suffice (notKept kept) f (k + parity) (receivedC f s k) ≡ true)
     (P Q : List ℕ) (a : Fills f s k z (notKept kept) held P) (b : Fills f s k z (notKept kept) held Q) where
-  same-chunk : (j : ℕ) → j < receivedC f s k → chunkOf (padded P z) k j ≡ chunkOf (padded Q z) k j
+  same-chunk : (j : ℕ) → j < receivedC f s k → partOf (padded P z) k j ≡ partOf (padded Q z) k j
   same-chunk j below =
       let cells : List ℕ = cellsOf held f s in
       let room : f * s ≤ length (cellsOf held f s) = omega (arith, length-cells held f s) in
-      let word : encode (chunkOf (padded P z) k j) ≡ encode (chunkOf (padded Q z) k j) =
-      word-only f s k z kept held cells (laid-all held f s) room small P a j below enough-kept (encode (chunkOf (padded Q z) k j))
+      let word : encode (partOf (padded P z) k j) ≡ encode (partOf (padded Q z) k j) =
+      word-only f s k z kept held cells (laid-all held f s) room small P a j below enough-kept (encode (partOf (padded Q z) k j))
       (word-agrees f s k z kept held cells (laid-all held f s) room small Q b j below) in
-      sym (encode-keeps (chunkOf (padded P z) k j) k (length-data-chunk f s k z (notKept kept) held P a j below))
+      sym (encode-keeps (partOf (padded P z) k j) k (length-data-chunk f s k z (notKept kept) held P a j below))
       ∙ ap (take k) word
-      ∙ encode-keeps (chunkOf (padded Q z) k j) k (length-data-chunk f s k z (notKept kept) held Q b j below)
+      ∙ encode-keeps (partOf (padded Q z) k j) k (length-data-chunk f s k z (notKept kept) held Q b j below)
 
   one-filled : P ≡ Q
   one-filled =
       sym (from-chunks f s k z (notKept kept) held P a)
-      ∙ ap (take (receivedC f s k * k - z)) (chunks-same k (receivedC f s k) (padded P z) (padded Q z) same-chunk)
+      ∙ ap (take (receivedC f s k * k - z)) (parts-same k (receivedC f s k) (padded P z) (padded Q z) same-chunk)
       ∙ from-chunks f s k z (notKept kept) held Q b
 
 -- with FEC the fragments held suffice just where no chunk misses more than 48 bytes

@@ -9,7 +9,7 @@ use borrow.Author.Tests.{not-false}
 use lib.Dec.{leb}
 use lib.ListN.{length, getD, take, drop}
 use Rattle.base_rules.specs.Bounds.{parity}
-use Rattle.base_rules.specs.Bytes.{Bytes}
+use Rattle.base_rules.specs.Bytes.{Bytes, partOf}
 use Rattle.cut_rules.specs.declared.Settings.{Settings}
 use Rattle.cut_rules.specs.Block.{padded, blockOf}
 use Rattle.cut_rules.specs.Cells.{fragmentOf, cellOf}
@@ -53,7 +53,8 @@ module _ (g : Settings) (n : ℕ) (packet : List ℕ) (passed : packetFault g pa
 
   module _ (came : ℕ → Bool) (i : ℕ) (p : Place) (b : List ℕ) (full : Full g n packet came i p b) (sized : SizeKnown g packet p) where
     here : (j : ℕ) → j < count g packet → came j ≡ true
-        → take (sizeOf g packet) (drop (j * sizeOf g packet) (bytesAt b i)) ≡ fragmentOf (blockFor packet) (count g packet) (sizeOf g packet) j
+        → partOf (bytesAt b i) (sizeOf g packet) j ≡ fragmentOf (blockFor packet) (count g packet) (sizeOf g packet) j
+    unfolding partOf
     here j h e =
         ap₂ (λ (x y : ℕ). take x (drop y (bytesAt b i))) (sym (size-fec g packet fec j)) (sym (offset-not g packet passed j (no-last j)))
         ∙ stands g n packet came i p b full j h e ∙ payload-fec g packet fec j

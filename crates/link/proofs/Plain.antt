@@ -3,16 +3,17 @@ use mathlib.Core.Path.{_≡_, refl, sym, ap, ap₂, _∙_}
 use mathlib.Core.Bool.{Bool, true, false, not, _&&_}
 use mathlib.Core.List.{List, _++_}
 use Prim.Native.Nat.{ℕ, zero, suc, _+_, _-_, _*_, _≤_, _<_}
-use native.Mathlib.Nat.{zero-mul, suc-mul}
+use native.Mathlib.Nat.{zero-mul}
 use native.Mathlib.Omega.{arith}
 use borrow.Author.Tests.{eqb-true, le-leb, lt-leb, not-false}
 use lib.Dec.{leb}
 use lib.ListN.{length, take, drop, length-drop, take-append-drop}
-use lib.Seq.{take-add, take-all}
+use lib.Seq.{take-all}
 use Rattle.base_rules.specs.Bounds.{place}
 use Rattle.base_rules.specs.Tests.{bit}
+use Rattle.base_rules.specs.Bytes.{partOf}
+use Rattle.base_rules.proofs.Parts.{parts-same}
 use Rattle.cut_rules.specs.declared.Settings.{Settings}
-use Rattle.cut_rules.specs.Cells.{partOf}
 use Rattle.cut_rules.specs.Missing.{losses}
 use Rattle.cut_rules.specs.Missing as missing
 use Rattle.cut_rules.proofs.PlanCases.{L-plain}
@@ -45,8 +46,7 @@ module _ (g : Settings) (n : ℕ) (packet : List ℕ) (passed : packetFault g pa
   not-last : (j : ℕ) → j + 1 < count g packet → lastIs g packet j ≡ false
   not-last j e = ap (λ (v : Bool). not v && leb (count g packet) (j + 1)) plain ∙ lt-leb _ _ e
 
-  part-is : (j : ℕ) → payloadFor g packet j ≡ take (sizeOf g packet) (drop (j * sizeOf g packet) packet)
-  unfolding partOf
+  part-is : (j : ℕ) → payloadFor g packet j ≡ partOf packet (sizeOf g packet) j
   part-is j = payload-plain g packet plain j
 
   module _ (came : ℕ → Bool) (i : ℕ) (p : Place) (b : List ℕ) (full : Full g n packet came i p b) (enough-came : suffices g packet came ≡ true) where
@@ -61,19 +61,15 @@ module _ (g : Settings) (n : ℕ) (packet : List ℕ) (passed : packetFault g pa
     here : (j : ℕ) → j < count g packet → take (length (payloadFor g packet j)) (drop (offset g packet j) (bytesAt b i)) ≡ payloadFor g packet j
     here j h = stands g n packet came i p b full j h (all-came j h)
 
-    row : (j : ℕ) → j + 1 < count g packet → take (sizeOf g packet) (drop (j * sizeOf g packet) (bytesAt b i)) ≡ take (sizeOf g packet)
-        (drop (j * sizeOf g packet) packet)
+    row : (j : ℕ) → j + 1 < count g packet → partOf (bytesAt b i) (sizeOf g packet) j ≡ partOf packet (sizeOf g packet) j
+    unfolding partOf
     row j h =
         ap₂ (λ (x y : ℕ). take x (drop y (bytesAt b i))) (sym (full-size g packet passed j (not-last j h)))
         (sym (offset-not g packet passed j (not-last j h)))
         ∙ here j (omega arith) ∙ part-is j
 
     rows : (k : ℕ) → k + 1 ≤ count g packet → take (k * sizeOf g packet) (bytesAt b i) ≡ take (k * sizeOf g packet) packet
-    rows zero h = ap (λ (x : ℕ). take x (bytesAt b i)) (zero-mul (sizeOf g packet)) ∙ sym (ap (λ (x : ℕ). take x packet) (zero-mul (sizeOf g packet)))
-    rows (suc k) h =
-        ap (λ (x : ℕ). take x (bytesAt b i)) (suc-mul k (sizeOf g packet)) ∙ take-add (k * sizeOf g packet) (sizeOf g packet) (bytesAt b i)
-        ∙ ap₂ (λ (u v : List ℕ). u ++ v) (rows k (omega arith)) (row k (omega arith))
-        ∙ sym (take-add (k * sizeOf g packet) (sizeOf g packet) packet) ∙ sym (ap (λ (x : ℕ). take x packet) (suc-mul k (sizeOf g packet)))
+    rows k h = parts-same (sizeOf g packet) k (bytesAt b i) packet (λ j (l : j < k). row j (omega arith))
 
     -- the last fragment
     f : ℕ
@@ -84,6 +80,7 @@ module _ (g : Settings) (n : ℕ) (packet : List ℕ) (passed : packetFault g pa
     f-one = omega (arith, f-some g packet passed)
 
     last-part : payloadFor g packet f ≡ drop (f * sizeOf g packet) packet
+    unfolding partOf
     last-part =
         let all : (f + 1) * sizeOf g packet ≡ count g packet * sizeOf g packet = ap (λ (x : ℕ). x * sizeOf g packet) f-one in
         part-is f

@@ -3,7 +3,7 @@ use mathlib.Core.Path.{refl, ap}
 use mathlib.Core.List.{List, [], _∷_, _++_}
 use Prim.Native.Nat.{ℕ, zero, suc, _+_, _*_, _<_}
 use lib.ListN.{length, getD, take, drop}
-use Rattle.base_rules.specs.Bytes.{Bytes, bytesOf}
+use Rattle.base_rules.specs.Bytes.{Bytes, bytesOf, partOf}
 use Rattle.base_rules.specs.Table.{table}
 use Rattle.base_rules.proofs.ByteLaws.{bytes-at, bytes-append, bytes-take, bytes-drop, bytes-zeros}
 use Rattle.base_rules.proofs.Logic.{either}
@@ -14,7 +14,7 @@ use Rattle.cut_rules.specs.declared.Address.{Address}
 use Rattle.cut_rules.specs.declared.Address.the-variants.{None, Pair}
 use Rattle.cut_rules.specs.declared.Settings.{Settings}
 use Rattle.cut_rules.specs.Block as block
-use Rattle.cut_rules.specs.Cells.{fragmentOf, partOf}
+use Rattle.cut_rules.specs.Cells.{fragmentOf}
 use Rattle.cut_rules.specs.Sizes as cut
 use Rattle.header_rules.specs.declared.Header.{Header}
 use Rattle.header_rules.specs.Header.{sync, flagsOf, fecPart, addressPart, frontOf, bodyOf, headerBytes}

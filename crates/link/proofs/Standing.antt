@@ -10,7 +10,7 @@ use lib.Dec.{leb}
 use lib.ListN.{length, getD, take, drop, set}
 use lib.Seq.{getD-set-other, drop-drop}
 use Rattle.base_rules.specs.Bounds.{place}
-use Rattle.base_rules.specs.Bytes.{Bytes, splice}
+use Rattle.base_rules.specs.Bytes.{Bytes, splice, partOf}
 use Rattle.base_rules.proofs.Logic.{either}
 use Rattle.base_rules.proofs.Splice.{splice-here}
 use Rattle.header_rules.specs.declared.Header.{Header}
@@ -63,17 +63,17 @@ module _ {k : Call} {es : List Call} {p : Place} {b : List ℕ} {i n j : ℕ} (z
 
   -- and where the figures of the place say
   pub part-there : partIn p (bytesAt b i) j ≡ payloadOf (k .datagram)
-  unfolding partIn
+  unfolding partIn partOf
   part-there =
       either (isLast f)
       (λ e.
-      ap (λ (v : Bool). cond v (take (p .last) (drop (place - p .last) (bytesAt b i))) (take (p .size) (drop (j * p .size) (bytesAt b i))))
+      ap (λ (v : Bool). cond v (take (p .last) (drop (place - p .last) (bytesAt b i))) (partOf (bytesAt b i) (p .size) j))
       (last-told ∙ e)
       ∙ ap (λ (x : ℕ). take x (drop (place - x) (bytesAt b i))) (z .fits .last e)
       ∙ ap (λ (x : ℕ). take (f .plen) (drop x (bytesAt b i))) (offset-last f refl e)
       ∙ stands-there)
       (λ e.
-      ap (λ (v : Bool). cond v (take (p .last) (drop (place - p .last) (bytesAt b i))) (take (p .size) (drop (j * p .size) (bytesAt b i))))
+      ap (λ (v : Bool). cond v (take (p .last) (drop (place - p .last) (bytesAt b i))) (partOf (bytesAt b i) (p .size) j))
       (last-told ∙ e)
       ∙ ap₂ (λ (x y : ℕ). take x (drop (y * x) (bytesAt b i))) (z .fits .size e) (sym (z .index))
       ∙ ap (λ (x : ℕ). take (f .plen) (drop x (bytesAt b i))) (offset-other f refl e)

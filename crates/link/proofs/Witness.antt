@@ -7,14 +7,13 @@ use native.Mathlib.Omega.{arith}
 use lib.Dec.{ltb, lit<}
 use lib.ListN.{length, getD, take, replicate, length-replicate}
 use Rattle.base_rules.specs.Bounds.{most-l, most-f}
-use Rattle.base_rules.specs.Bytes.{splice, bytesOf}
+use Rattle.base_rules.specs.Bytes.{splice, bytesOf, partOf}
 use Rattle.base_rules.specs.Round.{ceil}
 use Rattle.base_rules.proofs.Firsts.{skip, none-due}
 use Rattle.base_rules.proofs.Splice.{splice-start}
 use Rattle.base_rules.proofs.Logic.{same}
 use Rattle.cut_rules.specs.declared.Address.the-variants.{None}
 use Rattle.cut_rules.specs.declared.Settings.{Settings}
-use Rattle.cut_rules.specs.Cells.{partOf}
 use Rattle.cut_rules.specs.Plan.{fit}
 use Rattle.cut_rules.specs.Sizes as cut
 use Rattle.af_rules.specs.Packet.{headerOf, closed, packetOf, payloadOf}

@@ -6,6 +6,7 @@ use Prim.Native.Nat.{ℕ, _+_, _-_, _*_, _≤_, _<_}
 use lib.Dec.{leb}
 use lib.ListN.{length, getD, take, drop}
 use Rattle.base_rules.specs.Bounds.{place}
+use Rattle.base_rules.specs.Bytes.{partOf}
 use Rattle.header_rules.specs.Read.{fieldsOf}
 use Rattle.places_rules.specs.declared.Place.{Place}
 use Rattle.places_rules.specs.Places.{four, free, open-now, delivered, spoiled, placeAt, holds, openAt, offsetOf}
@@ -54,7 +55,7 @@ unfoldable pub partIn : Place → List ℕ → ℕ → List ℕ
 partIn p held j =
     cond (not (p .fec) && leb (p .count) (j + 1))
     (take (p .last) (drop (place - p .last) held))
-    (take (p .size) (drop (j * p .size) held))
+    (partOf held (p .size) j)
 
 -- the call e is among these, the last one first, and from it on place i held the number n
 pub data HeldSince (i n : ℕ) (e : Call) : List Call → Type 0 where

@@ -7,13 +7,15 @@ use native.Mathlib.Nat.{add-zero, zero-add, suc-add, le-mul-of-pos-right, mul-le
 use native.Mathlib.Omega.{arith}
 use lib.ListN.{length, length-append}
 use Rattle.base_rules.specs.Bounds.{place}
+use Rattle.base_rules.specs.Bytes.{partOf}
 use Rattle.base_rules.proofs.Logic.{either}
-use Rattle.cut_rules.specs.Cells.{fragmentOf, partOf}
+use Rattle.base_rules.proofs.Parts.{length-left}
+use Rattle.cut_rules.specs.Cells.{fragmentOf}
 use Rattle.cut_rules.specs.Claims.{Sized}
 use Rattle.cut_rules.specs.Sizes.{h, L, f, s}
 use Rattle.cut_rules.specs.declared.Settings.{Settings}
 use Rattle.cut_rules.proofs.Bearing as bearing
-use Rattle.cut_rules.proofs.Interleaving.{length-fragment, length-part}
+use Rattle.cut_rules.proofs.Interleaving.{length-fragment}
 use Rattle.cut_rules.proofs.PlanCases.{L-plain}
 use Rattle.header_rules.specs.Header.{headerBytes}
 use Rattle.header_rules.proofs.Proved.{header-lengths}
@@ -52,7 +54,7 @@ module _ (g : Settings) (packet : List ℕ) where
 
   -- without FEC a payload has s bytes, or what is left of the packet where that is less
   pub size-plain : g .fec ≡ false → (i : ℕ) → length (payloadFor g packet i) ≡ min (s g (length packet)) (length packet - i * s g (length packet))
-  size-plain e i = ap length (payload-plain e i) ∙ length-part packet (s g (length packet)) i
+  size-plain e i = ap length (payload-plain e i) ∙ length-left packet (s g (length packet)) i
 
   -- ---- one behind the other
 

@@ -7,7 +7,7 @@ use native.Mathlib.Nat.{zero-mul, suc-mul, add-comm}
 use native.Mathlib.Omega.{arith}
 use lib.ListN.{length, getD, take, drop}
 use lib.Seq.{take-all, take-add, drop-drop}
-use Rattle.cut_rules.specs.Cells.{partOf}
+use Rattle.base_rules.specs.Bytes.{partOf}
 use Rattle.cut_rules.specs.Sizes.{c, n, f, s}
 use Rattle.cut_rules.specs.declared.Settings.{Settings}
 use Rattle.cut_rules.proofs.PlanCases.{L-fec, L-plain}

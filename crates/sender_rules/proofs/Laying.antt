@@ -9,13 +9,13 @@ use lib.ListN.{length, take, drop, length-take, length-drop, drop-of-length-le}
 use lib.Seq.{length-take-le, take-all, take-take, take-length, drop-drop}
 use Rattle.base_rules.specs.Answer.{Answer, granted, outcome, settled}
 use Rattle.base_rules.specs.Bounds.{most-f, badK, place, parity}
-use Rattle.base_rules.specs.Bytes.{splice}
+use Rattle.base_rules.specs.Bytes.{splice, partOf}
 use Rattle.base_rules.specs.Written.{putFault, putOf}
 use Rattle.base_rules.proofs.Answers.{writes}
 use Rattle.base_rules.proofs.ChunkSize.{k-fits}
 use Rattle.base_rules.proofs.Firsts.{skip, none-due}
 use Rattle.base_rules.proofs.Splice.{splice-length, splice-next, splice-start}
-use Rattle.cut_rules.specs.Cells.{fragmentOf, partOf}
+use Rattle.cut_rules.specs.Cells.{fragmentOf}
 use Rattle.cut_rules.specs.Sizes.{c, k, z, n, h, L, f, s}
 use Rattle.cut_rules.specs.declared.Settings.{Settings}
 use Rattle.cut_rules.specs.declared.Figures.{Figures}

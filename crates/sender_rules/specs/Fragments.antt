@@ -3,11 +3,12 @@ use mathlib.Core.Bool.{cond}
 use mathlib.Core.List.{List, [], _++_}
 use Prim.Native.Nat.{ℕ, zero, suc}
 use lib.ListN.{length}
+use Rattle.base_rules.specs.Bytes.{partOf}
 use Rattle.cut_rules.specs.declared.Settings.{Settings}
 use Rattle.cut_rules.specs.Sizes.{c, k, z, f, s}
 use Rattle.cut_rules.specs.Plan.{withFec}
 use Rattle.cut_rules.specs.Block.{padded, blockOf}
-use Rattle.cut_rules.specs.Cells.{fragmentOf, partOf}
+use Rattle.cut_rules.specs.Cells.{fragmentOf}
 use Rattle.codeword.specs.Code.{parityOf}
 use Rattle.header_rules.specs.declared.Header.{Header}
 use Rattle.header_rules.specs.Header.{headerBytes}

@@ -3,15 +3,12 @@ use mathlib.Core.Path.{_≡_}
 use mathlib.Core.Bool.{Bool, true, false}
 use mathlib.Core.List.{List}
 use Prim.Native.Nat.{ℕ, zero, suc, _+_, _*_, _/_, _≤_, _<_}
-use lib.ListN.{length, take, drop, getD}
+use lib.ListN.{length, getD}
 use Rattle.base_rules.specs.Bounds.{most-k, place, parity}
+use Rattle.base_rules.specs.Bytes.{partOf}
 use Rattle.codeword.specs.Code.{encode, Coded}
 use Rattle.codeword.specs.Erasure.{marks, erase, count}
 use Rattle.code_rules.specs.Fill.{Agrees}
-
--- the part j of those of n members each
-unfoldable pub part : ℕ → ℕ → List ℕ → List ℕ
-part n j l = take n (drop (j * n) l)
 
 -- c chunks and their masks, of which none marks more than 48 bytes
 pub record Ready (k : ℕ) (mask : List ℕ) (c : ℕ) (block : List ℕ) : Type 0 where
@@ -19,7 +16,7 @@ pub record Ready (k : ℕ) (mask : List ℕ) (c : ℕ) (block : List ℕ) : Type
   pub some : c ≤ place / parity
   pub masks : length mask ≡ c * (k + parity)
   pub chunks : length block ≡ c * (k + parity)
-  pub few : (j : ℕ) → j < c → count (marks (part (k + parity) j mask)) ≤ parity
+  pub few : (j : ℕ) → j < c → count (marks (partOf mask (k + parity) j)) ≤ parity
 
 -- the missing bytes of c, which are 0, are put in; they were not found, since no chunk of the code has the others (clause 7.4.4)
 pub record ChunkFailed (k : ℕ) (mask c after : List ℕ) : Type 0 where
@@ -44,7 +41,7 @@ ChunkStatus k m a b (suc (suc x)) = b ≡ erase (marks m) a
 
 -- each number of ans says what became of its chunk of `old`
 pub record BlockStatus (k : ℕ) (mask old new ans : List ℕ) : Type 0 where
-  pub each : (j : ℕ) → j < length ans → ChunkStatus k (part (k + parity) j mask) (part (k + parity) j old) (part (k + parity) j new) (getD ans j 0)
+  pub each : (j : ℕ) → j < length ans → ChunkStatus k (partOf mask (k + parity) j) (partOf old (k + parity) j) (partOf new (k + parity) j) (getD ans j 0)
 
 -- from one state of the block to a later one
 pub record Later (k : ℕ) (mask blk ans blk' ans' : List ℕ) : Type 0 where
@@ -93,17 +90,17 @@ pub record AfterClasses (k : ℕ) (mask blk ans blk' ans' : List ℕ) (r : Bool)
 pub record BlockFailed (k : ℕ) (mask : List ℕ) (c : ℕ) (old new : List ℕ) : Type 0 where
   pub at : ℕ
   pub below : at < c
-  pub none : (w : List ℕ) → Agrees k (part (k + parity) at mask) (part (k + parity) at old) w → ⊥
+  pub none : (w : List ℕ) → Agrees k (partOf mask (k + parity) at) (partOf old (k + parity) at) w → ⊥
   pub zeros : new ≡ erase (marks mask) old
 
 -- whether all c chunks are filled in
 abbrev pub BlockTried : ℕ → List ℕ → ℕ → List ℕ → List ℕ → Bool → Type 0
-BlockTried k mask c old new true = (j : ℕ) → j < c → Agrees k (part (k + parity) j mask) (part (k + parity) j old) (part (k + parity) j new)
+BlockTried k mask c old new true = (j : ℕ) → j < c → Agrees k (partOf mask (k + parity) j) (partOf old (k + parity) j) (partOf new (k + parity) j)
 BlockTried k mask c old new false = BlockFailed k mask c old new
 
 -- c chunks of the data: the first n are made (clause 7.3.1)
 pub record Encoded (k n : ℕ) (src out : List ℕ) : Type 0 where
-  pub each : (j : ℕ) → j < n → part (k + parity) j out ≡ encode (part k j src)
+  pub each : (j : ℕ) → j < n → partOf out (k + parity) j ≡ encode (partOf src k j)
 
 -- room for c chunks of the data (clause 7.3.1)
 pub record EncSized (k c : ℕ) (src out : List ℕ) : Type 0 where
@@ -114,5 +111,5 @@ pub record EncSized (k c : ℕ) (src out : List ℕ) : Type 0 where
 -- chunk j is made, and no other is touched (clause 7.3.1)
 pub record OneEncoded (k c j : ℕ) (src out out' : List ℕ) : Type 0 where
   pub size : length out' ≡ length out
-  pub made : part (k + parity) j out' ≡ encode (part k j src)
-  pub others : (i : ℕ) → i < c → (i ≡ j → ⊥) → part (k + parity) i out' ≡ part (k + parity) i out
+  pub made : partOf out' (k + parity) j ≡ encode (partOf src k j)
+  pub others : (i : ℕ) → i < c → (i ≡ j → ⊥) → partOf out' (k + parity) i ≡ partOf out (k + parity) i

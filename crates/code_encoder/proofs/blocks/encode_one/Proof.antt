@@ -4,8 +4,8 @@ use Prim.Native.Nat.{_+_, _-_, _*_, _≤_}
 use native.Mathlib.Omega.{arith}
 use borrow.Author.Needs.{needs}
 use lib.ListN.{length, take, drop}
+use Rattle.base_rules.proofs.Parts.{part-room, length-part, mid-part}
 use Rattle.code_rules.proofs.EncodedLaws.{one-encoded}
-use Rattle.code_rules.proofs.PartLaws.{room, length-part, mid-part}
 use Rattle.code_encoder.proofs.blocks.encode_one.Statement.{statement}
 use Rattle.code_encoder.proofs.blocks.encode_one.Tie as tie
 
@@ -16,7 +16,7 @@ ends : (c : tie.After-slice-known)
 ends c =
     let A = c .before .before .args in
     let P = c .before .before .pre in
-    (omega (arith, room (A .k) (A .c) (A .j) (P .1), P .0 .datas), omega (arith, room (A .k + 48) (A .c) (A .j) (P .1), P .0 .chunks))
+    (omega (arith, part-room (A .k) (A .c) (A .j) (P .1), P .0 .datas), omega (arith, part-room (A .k + 48) (A .c) (A .j) (P .1), P .0 .chunks))
 
 mul-a : tie.Need-mul-a
 mul-a c = omega (arith, ends c)
@@ -43,9 +43,9 @@ encode-chunk-requires c κs =
     let k = A .k in
     let j = A .j in
     let E : length (take (j * k + k - j * k) (drop (j * k) (A .src .now))) ≡ k =
-    ap length (mid-part k j (A .src .now)) ∙ length-part k (A .c) j (A .src .now) (P .0 .datas) (P .1) in
+    ap length (mid-part k j (A .src .now)) ∙ length-part k (A .c) j (A .src .now) (omega (arith, P .0 .datas)) (P .1) in
     let G : length (take (j * (k + 48) + (k + 48) - j * (k + 48)) (drop (j * (k + 48)) (A .out .now))) ≡ k + 48 =
-    ap length (mid-part (k + 48) j (A .out .now)) ∙ length-part (k + 48) (A .c) j (A .out .now) (P .0 .chunks) (P .1) in
+    ap length (mid-part (k + 48) j (A .out .now)) ∙ length-part (k + 48) (A .c) j (A .out .now) (omega (arith, P .0 .chunks)) (P .1) in
     (omega (arith, E, P .0 .short), G ∙ ap (λ n. n + 48) (sym E), P .2)
 
 returns : tie.Need-returns
