@@ -148,14 +148,14 @@ module _ (own : Address) (datagram : List ℕ) (before after : Held) (r : ℕ) (
 
   -- a receiving that fits the promise of `receive`, packed again and told, fits that of the call for C
   pub received-there : (o : Address) (v : Written) (t : Table) (a : Received) → w ≡ Done → o ≡ own
-      → Step o (record { table = x; bytes = before .lent }) datagram (before .out) (promise.outcome a t (after .lent) (after .out))
+      → Step o (record { table = x; bytes = before .lent }) datagram (before .out) (promise.reception a t (after .lent) (after .out))
       → TypedTable t → outcome (numberOf v) (after .record-bytes) ≡ packCall t (before .record-bytes)
       → bytesFor receipt-widths ≤ length (before .told)
       → (r ≡ promise.numberOf a .0) × (after .told ≡ toldAfter a (before .told)) → CardReceived own datagram before after r
   unfolding CardReceived
   received-there o v t a done is-own step typed packed room said =
       let s : List ℕ = before .record-bytes in
-      let y : promise.Outcome = promise.outcome a t (after .lent) (after .out) in
+      let y : promise.Reception = promise.reception a t (after .lent) (after .out) in
       let there : after .record-bytes ≡ packedOf t =
       packed-there t s (after .record-bytes) v (packed-length t typed) (long-record s (good-record s w x e done .0)) packed in
       let with-record : ReceivedWith own datagram before after r x = record {

@@ -24,7 +24,7 @@ use Rattle.receiver_rules.specs.Promise.{State, roomFault, Settled, waits, deli
 use Rattle.receiver_rules.specs.Claims.{dueFor}
 use Rattle.receiver_rules.specs.declared.Received.{Received}
 use Rattle.receiver_rules.specs.declared.Received.the-variants.{Kept, Delivered, Damaged, Refused}
-use Rattle.receiver_rules.proofs.Proved.{one-outcome, one-received, delivery-writes, count-told}
+use Rattle.receiver_rules.proofs.Proved.{one-reception, one-received, delivery-writes, count-told}
 use Rattle.receiver_rules.proofs.Unique.{step-settled, step-refused}
 use Rattle.card_rules.specs.Told.{refusalIn, inWidths, bytesFor, tooShort}
 use Rattle.card_rules.specs.Receiving.{onRecord, receiptTold, receipt-widths, toldAfter, shortFault}
@@ -127,17 +127,17 @@ same-held h k a b c d =
 
 module _ (own : Address) (datagram : List ℕ) (before after after′ : Held) (r r′ : ℕ) (t : Table) where
   one-with : ReceivedWith own datagram before after r t → ReceivedWith own datagram before after′ r′ t → (after ≡ after′) × (r ≡ r′)
-  unfolding promise.outcome
+  unfolding promise.reception
   one-with p q =
-      let y : promise.Outcome = promise.outcome (p .answer) (p .table) (after .lent) (after .out) in
-      let z : promise.Outcome = promise.outcome (q .answer) (q .table) (after′ .lent) (after′ .out) in
-      let same : y ≡ z = one-outcome own (record { table = t; bytes = before .lent }) datagram (before .out) y z (p .step) (q .step) in
-      let answers : p .answer ≡ q .answer = one-received (p .answer) (q .answer) (ap (λ (o : promise.Outcome). o .answer) same) in (
+      let y : promise.Reception = promise.reception (p .answer) (p .table) (after .lent) (after .out) in
+      let z : promise.Reception = promise.reception (q .answer) (q .table) (after′ .lent) (after′ .out) in
+      let same : y ≡ z = one-reception own (record { table = t; bytes = before .lent }) datagram (before .out) y z (p .step) (q .step) in
+      let answers : p .answer ≡ q .answer = one-received (p .answer) (q .answer) (ap (λ (o : promise.Reception). o .answer) same) in (
         same-held after after′
-            (p .packed ∙ ap (λ (o : promise.Outcome). packedOf (o .table)) same ∙ sym (q .packed))
-            (ap (λ (o : promise.Outcome). o .bytes) same)
+            (p .packed ∙ ap (λ (o : promise.Reception). packedOf (o .table)) same ∙ sym (q .packed))
+            (ap (λ (o : promise.Reception). o .bytes) same)
             (p .told ∙ ap (λ (a : Received). toldAfter a (before .told)) answers ∙ sym (q .told))
-            (ap (λ (o : promise.Outcome). o .out) same),
+            (ap (λ (o : promise.Reception). o .out) same),
         p .number ∙ ap (λ (a : Received). promise.numberOf a .0) answers ∙ sym (q .number),
       )
 
@@ -155,9 +155,9 @@ one-receipt own datagram before after after′ r r′ p q =
     (with-record own datagram before after′ r′ q good room))
 
 -- what settles is answered with 0 or 13
-settles : {t : Table} {i : ℕ} {d : Displaced} {b out : List ℕ} {y : promise.Outcome} → Settled t i d b out y → (y .answer .0 ≡ 0 → ⊥)
+settles : {t : Table} {i : ℕ} {d : Displaced} {b out : List ℕ} {y : promise.Reception} → Settled t i d b out y → (y .answer .0 ≡ 0 → ⊥)
     → (y .answer .0 ≡ 13 → ⊥) → ⊥
-unfolding promise.outcome promise.numberOf
+unfolding promise.reception promise.numberOf
 settles (waits e) p q = p refl
 settles (delivers P e a) p q = p refl
 settles (damaged e a) p q = q refl
@@ -168,24 +168,24 @@ module _ (own : Address) (datagram : List ℕ) (before after : Held) (r : ℕ) (
   state : State
   state = record { table = tableFrom (before .record-bytes); bytes = before .lent }
 
-  left : promise.Outcome
-  left = promise.outcome (p .answer) (p .table) (after .lent) (after .out)
+  left : promise.Reception
+  left = promise.reception (p .answer) (p .table) (after .lent) (after .out)
 
   due : ℕ
   due = dueFor own state datagram (before .out)
 
-  refused-as : left ≡ promise.outcome (Refused due) (tableFrom (before .record-bytes)) (before .lent) (before .out) → after ≡ before
-  unfolding promise.outcome left toldAfter
+  refused-as : left ≡ promise.reception (Refused due) (tableFrom (before .record-bytes)) (before .lent) (before .out) → after ≡ before
+  unfolding promise.reception left toldAfter
   refused-as same =
-      let answer : p .answer ≡ Refused due = one-received (p .answer) (Refused due) (ap (λ (o : promise.Outcome). o .answer) same) in
+      let answer : p .answer ≡ Refused due = one-received (p .answer) (Refused due) (ap (λ (o : promise.Reception). o .answer) same) in
       same-held after before
-      (p .packed ∙ ap (λ (o : promise.Outcome). packedOf (o .table)) same ∙ packs (before .record-bytes) bytes none)
-      (ap (λ (o : promise.Outcome). o .bytes) same)
+      (p .packed ∙ ap (λ (o : promise.Reception). packedOf (o .table)) same ∙ packs (before .record-bytes) bytes none)
+      (ap (λ (o : promise.Reception). o .bytes) same)
       (p .told ∙ ap (λ (a : Received). toldAfter a (before .told)) answer)
-      (ap (λ (o : promise.Outcome). o .out) same)
+      (ap (λ (o : promise.Reception). o .out) same)
 
   unchanged : (r ≡ 0 → ⊥) → (r ≡ 13 → ⊥) → after ≡ before
-  unfolding promise.outcome left due state
+  unfolding promise.reception left due state
   unchanged p0 p13 =
       either (eqb due 0)
       (λ e. absurd (settles (step-settled own state datagram (before .out) (eqb-true due 0 e) (p .step)) (λ z. p0 (p .number ∙ z))
@@ -223,22 +223,22 @@ module _ (own : Address) (datagram : List ℕ) (before after : Held) (r : ℕ) (
     shown = shown;
   }
 
-  settled-says : {t : Table} {i : ℕ} {d : Displaced} {b : List ℕ} {y : promise.Outcome} → Settled t i d b (before .out) y
-      → y ≡ promise.outcome (p .answer) (p .table) (after .lent) (after .out) → Said before after
-  unfolding promise.outcome toldAfter
+  settled-says : {t : Table} {i : ℕ} {d : Displaced} {b : List ℕ} {y : promise.Reception} → Settled t i d b (before .out) y
+      → y ≡ promise.reception (p .answer) (p .table) (after .lent) (after .out) → Said before after
+  unfolding promise.reception toldAfter
   settled-says {d = d} (waits e) is =
-      says 0 0 0 d (Kept d) (one-received (p .answer) (Kept d) (sym (ap (λ (o : promise.Outcome). o .answer) is))) refl
-      (only-kept (sym (ap (λ (o : promise.Outcome). o .out) is)))
+      says 0 0 0 d (Kept d) (one-received (p .answer) (Kept d) (sym (ap (λ (o : promise.Reception). o .answer) is))) refl
+      (only-kept (sym (ap (λ (o : promise.Reception). o .out) is)))
   settled-says {d = d} (delivers P e a) is =
-      says 1 (length P) _ d (Delivered (length P) _ d) (one-received (p .answer) (Delivered (length P) _ d) (sym (ap (λ (o : promise.Outcome). o .answer) is)))
+      says 1 (length P) _ d (Delivered (length P) _ d) (one-received (p .answer) (Delivered (length P) _ d) (sym (ap (λ (o : promise.Reception). o .answer) is)))
       refl
-      (handed-out P (sym (ap (λ (o : promise.Outcome). o .out) is)))
+      (handed-out P (sym (ap (λ (o : promise.Reception). o .out) is)))
   settled-says {d = d} (damaged e a) is =
-      says 0 0 0 d (Damaged d) (one-received (p .answer) (Damaged d) (sym (ap (λ (o : promise.Outcome). o .answer) is))) refl
-      (only-kept (sym (ap (λ (o : promise.Outcome). o .out) is)))
+      says 0 0 0 d (Damaged d) (one-received (p .answer) (Damaged d) (sym (ap (λ (o : promise.Reception). o .answer) is))) refl
+      (only-kept (sym (ap (λ (o : promise.Reception). o .out) is)))
 
   said : (r ≡ 0) ⊎ (r ≡ 13) → Said before after
-  unfolding promise.outcome promise.numberOf
+  unfolding promise.reception promise.numberOf
   said given =
       let state : State = record { table = t; bytes = before .lent } in
       let due : ℕ = dueFor own state datagram (before .out) in
@@ -246,7 +246,7 @@ module _ (own : Address) (datagram : List ℕ) (before after : Held) (r : ℕ) (
       (λ e. settled-says (step-settled own state datagram (before .out) (eqb-true due 0 e) (p .step)) refl)
       (λ e.
       let some = eqb-false due 0 e in
-      let is = ap (λ (o : promise.Outcome). o .answer .0) (step-refused own state datagram (before .out) some (p .step)) in
+      let is = ap (λ (o : promise.Reception). o .answer .0) (step-refused own state datagram (before .out) some (p .step)) in
       refusal (p .number ∙ is) some (receive-other own t (length (before .lent)) datagram (length (before .out))) given)
 
 -- a receiving that gives 0 or 13 had room to tell in and told what it did
@@ -264,14 +264,14 @@ no-silence own datagram before after r p given =
 
 -- a delivery tells a length of at most 8,192, and at most 256 fragments not held
 pub receipt-whole : ReceiptWhole
-unfolding promise.outcome
+unfolding promise.reception
 receipt-whole own s datagram out y step l m d q =
     let due : ℕ = dueFor own s datagram out in (
       delivery-writes own s datagram out y step l m d q .most,
       either (eqb due 0)
           (λ e. omega (arith, count-told own s datagram out y step l m d q .0, missing-few own s datagram out (eqb-true due 0 e)))
           (λ e.
-          let is = ap (λ (o : promise.Outcome). o .answer) (step-refused own s datagram out (eqb-false due 0 e) step) in
+          let is = ap (λ (o : promise.Reception). o .answer) (step-refused own s datagram out (eqb-false due 0 e) step) in
           let same : Refused due ≡ Delivered l m d = one-received (Refused due) (Delivered l m d) (sym is ∙ q) in
           let z : _≡_ {A = ℕ} 0 1 = cc in
           absurd (omega arith)),

@@ -14,7 +14,7 @@ use Rattle.sender_rules.specs.Calls.{fragmentCall, fragmentsCall}
 use Rattle.packed_rules.specs.Packed.{table-bytes, unpackCall}
 use Rattle.places_rules.specs.Places.{freshTable}
 use Rattle.places_rules.specs.declared.Displaced.{Displaced}
-use Rattle.receiver_rules.specs.Promise.{numberOf, Outcome, State, Step}
+use Rattle.receiver_rules.specs.Promise.{numberOf, Reception, State, Step}
 use Rattle.receiver_rules.specs.declared.Received.the-variants.{Delivered}
 use Rattle.item_rules.specs.declared.Item.{Item}
 use Rattle.item_rules.specs.Item.{head}
@@ -99,7 +99,7 @@ NoSilence =
 -- card.h, "its length (2), how many of its fragments are not held (2)": at most 8,192 and 256, neither is cut off
 abbrev pub ReceiptWhole : Type 0
 ReceiptWhole =
-    (own : Address) (s : State) (datagram out : List ℕ) (y : Outcome) → Step own s datagram out y
+    (own : Address) (s : State) (datagram out : List ℕ) (y : Reception) → Step own s datagram out y
     → (l m : ℕ) (d : Displaced) → y .answer ≡ numberOf (Delivered l m d)
     → (l ≤ most-l) × (m ≤ most-f)
 

@@ -17,7 +17,7 @@ use Rattle.places_rules.specs.declared.Displaced.the-variants.{None, Number}
 use Rattle.places_rules.specs.Places.{free, freshTable, placeAt, keyIn}
 use Rattle.places_rules.specs.Faults.{badTable}
 use Rattle.packed_rules.specs.Packed.{packedOf, tableFrom, unpackFault, unpackCall}
-use Rattle.receiver_rules.specs.Promise.{numberOf, outcome, roomFault, Step}
+use Rattle.receiver_rules.specs.Promise.{numberOf, reception, roomFault, Step}
 use Rattle.receiver_rules.specs.declared.Received.{Received}
 use Rattle.receiver_rules.specs.declared.Received.the-variants.{Kept, Delivered, Damaged, Refused}
 use Rattle.card_rules.specs.Told.{inWidths, tooShort}
@@ -90,7 +90,7 @@ pub record Held : Type 0 where
 pub record ReceivedWith (own : Address) (datagram : List ℕ) (before after : Held) (r : ℕ) (t : Table) : Type 0 where
   pub answer : Received
   pub table : Table
-  pub step : Step own (record { table = t; bytes = before .lent }) datagram (before .out) (outcome answer table (after .lent) (after .out))
+  pub step : Step own (record { table = t; bytes = before .lent }) datagram (before .out) (reception answer table (after .lent) (after .out))
   pub packed : after .record-bytes ≡ packedOf table
   -- card.h, "Both are as the last call left them": the next call reads that record back
   pub read-back : unpackCall (after .record-bytes) ≡ (granted [], table)

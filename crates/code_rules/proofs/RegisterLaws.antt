@@ -11,7 +11,6 @@ use Rattle.field_rules.specs.Field.{_⊕_, _⊗_}
 use Rattle.field_rules.proofs.Sums.{add-assoc, add-comm, add-left-comm, add-0-l, add-0-r}
 use Rattle.field_rules.proofs.Products.{mul-assoc, mul-add-l, mul-add-r, mul-0-l}
 use Rattle.codeword.specs.Code.{generator, plus, step, run}
-use Rattle.code_rules.specs.inner.Words.{first}
 use Rattle.codeword.proofs.Poly.{length-plus, plus-at}
 use Rattle.codeword.proofs.Encoder.{length-generator, length-snoc, snoc-at, length-step, step-at, length-run}
 use Rattle.code_rules.specs.inner.Kernel.{shift, back, power}
@@ -46,7 +45,7 @@ unfolding back
 back-one s = refl
 
 -- a step is a shift and a multiple of the generator
-pub step-is : (s : List ℕ) (b : ℕ) → length s ≡ 48 → step s b ≡ plus (first s ⊕ b) generator (shift s)
+pub step-is : (s : List ℕ) (b : ℕ) → length s ≡ 48 → step s b ≡ plus (getD s 0 0 ⊕ b) generator (shift s)
 unfolding step shift
 step-is [] b e = absurd (suc-ne-zero 47 (sym e))
 step-is (c ∷ ss) b e = refl
@@ -100,12 +99,12 @@ unfolding run
 power-run m zero = ap power (sym (add-zero m))
 power-run m (suc n) = ap (λ s. run s (replicate n 0)) (power-s m) ∙ power-run (suc m) n ∙ ap power (omega arith)
 
-run-cons : (s : List ℕ) (b : ℕ) (bs : List ℕ) → length s ≡ 48 → run s (b ∷ bs) ≡ plus (first s ⊕ b) (power (length bs)) (run (shift s) bs)
+run-cons : (s : List ℕ) (b : ℕ) (bs : List ℕ) → length s ≡ 48 → run s (b ∷ bs) ≡ plus (getD s 0 0 ⊕ b) (power (length bs)) (run (shift s) bs)
 unfolding run power
 run-cons s b bs e =
     ap (λ t. run t bs) (step-is s b e)
-    ∙ run-plus (first s ⊕ b) generator (shift s) bs length-generator (length-shift s ∙ e)
-    ∙ ap (λ p. plus (first s ⊕ b) p (run (shift s) bs)) (power-run 0 (length bs) ∙ ap power (zero-add (length bs)))
+    ∙ run-plus (getD s 0 0 ⊕ b) generator (shift s) bs length-generator (length-shift s ∙ e)
+    ∙ ap (λ p. plus (getD s 0 0 ⊕ b) p (run (shift s) bs)) (power-run 0 (length bs) ∙ ap power (zero-add (length bs)))
 
 -- ---- eight bytes
 

@@ -14,7 +14,7 @@ use Rattle.places_rules.specs.declared.Displaced.{Displaced}
 use Rattle.places_rules.specs.declared.Displaced.the-variants as displaced
 use Rattle.places_rules.specs.Places.{four, open-now, placeAt, keyIn, keyOf, holds, heldAt, openAt, displacedAt, turned}
 use Rattle.receiver_rules.specs.declared.Received.the-variants.{Refused}
-use Rattle.receiver_rules.specs.Promise.{displacedValues, numberOf, Outcome, outcome, State, keepAt}
+use Rattle.receiver_rules.specs.Promise.{displacedValues, numberOf, Reception, reception, State, keepAt}
 use Rattle.link.specs.Run.{Call, after, Made, Reached, Holds, ShownOpen}
 use Rattle.link.specs.Demand.{Names, by-kept, by-delivered, by-damaged, NamesGone}
 use Rattle.link.proofs.Basic.{same-or-not, held-absent, held-none, holds-yes, holds-other}
@@ -64,10 +64,10 @@ module _ (s : State) (c : Reached s) (e : Call) (made : Made s e) (n : ℕ) (nam
   unfolding code
   its-code = names-code (displaced.Number n) (e .left .answer) names
 
-  refused-none : (x : ℕ) → e .left ≡ outcome (Refused x) (s .table) (s .bytes) (e .lent) → ⊥
-  unfolding outcome numberOf namedIn
+  refused-none : (x : ℕ) → e .left ≡ reception (Refused x) (s .table) (s .bytes) (e .lent) → ⊥
+  unfolding reception numberOf namedIn
   refused-none x q =
-      let z : 0 ≡ n + 1 = sym (ap (λ (y : Outcome). namedIn (y .answer .1)) q) ∙ its-code in
+      let z : 0 ≡ n + 1 = sym (ap (λ (y : Reception). namedIn (y .answer .1)) q) ∙ its-code in
       omega (arith, z)
 
   gone : View (e .own) s (e .datagram) (e .lent) (e .left) → ShownOpen s n × (Holds (after e) n → ⊥)

@@ -16,7 +16,7 @@ use Rattle.places_rules.specs.Places.{four, free, open-now, placeAt, keyIn, key
 use Rattle.places_rules.proofs.Proved.{opens-in-turn}
 use Rattle.receiver_rules.specs.declared.Received.{Received}
 use Rattle.receiver_rules.specs.declared.Received.the-variants.{Kept, Delivered, Damaged, Refused}
-use Rattle.receiver_rules.specs.Promise.{numberOf, Outcome, outcome, State, keepAt, all-places}
+use Rattle.receiver_rules.specs.Promise.{numberOf, Reception, reception, State, keepAt, all-places}
 use Rattle.receiver_rules.proofs.Proved.{one-received}
 use Rattle.link.specs.Run.{Call, Made, Run, start, next, freshWith, Holds, numberIn, come}
 use Rattle.link.specs.Demand.{keyFor, Names, by-kept, by-delivered, by-damaged, enoughAfter}
@@ -117,7 +117,7 @@ module _ {lent : List ℕ} (all : length lent ≡ all-places) {ls : List Line} {
 
   -- it is refused by its header
   unheard-answer : hears (l .0) ≡ false → (e .left .answer ≡ numberOf (Refused (faultAt (l .0)))) × (e .left .out ≡ e .lent)
-  unfolding outcome
+  unfolding reception
   unheard-answer h = go seen
     where
       wrong : faultOf (e .own) (e .datagram) ≡ 0 → ⊥
@@ -125,7 +125,7 @@ module _ {lent : List ℕ} (all : length lent ≡ all-places) {ls : List Line} {
 
       go : View (e .own) s (e .datagram) (e .lent) (e .left) → (e .left .answer ≡ numberOf (Refused (faultAt (l .0)))) × (e .left .out ≡ e .lent)
       go (unheard f q) =
-          (ap (λ (y : Outcome). y .answer) q ∙ ap (λ (n : ℕ). numberOf (Refused n)) (fault-is k), ap (λ (y : Outcome). y .out) q)
+          (ap (λ (y : Reception). y .answer) q ∙ ap (λ (n : ℕ). numberOf (Refused n)) (fault-is k), ap (λ (y : Reception). y .out) q)
       go (refuses passes low f q) = absurd (wrong passes)
       go (keeps passes low f z) = absurd (wrong passes)
       go (opens passes high z) = absurd (wrong passes)
@@ -133,9 +133,9 @@ module _ {lent : List ℕ} (all : length lent ≡ all-places) {ls : List Line} {
   -- ---- what is displaced
 
   module _ {d : Displaced} (names : Names d (e .left .answer)) where
-    not-refused : (n : ℕ) → e .left ≡ outcome (Refused n) (s .table) (s .bytes) (e .lent) → ⊥
-    unfolding outcome
-    not-refused n q = names-not-refused n names (ap (λ (y : Outcome). y .answer) q)
+    not-refused : (n : ℕ) → e .left ≡ reception (Refused n) (s .table) (s .bytes) (e .lent) → ⊥
+    unfolding reception
+    not-refused n q = names-not-refused n names (ap (λ (y : Reception). y .answer) q)
 
     -- where the number is held, or a place is free, none is
     names-none : (four ≤ heldAt (s .table) (numberIn e) → displacedAt (s .table) (openAt (s .table)) ≡ None) → Names None (e .left .answer)

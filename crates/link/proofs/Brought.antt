@@ -21,7 +21,7 @@ use Rattle.places_rules.specs.Places.{four, delivered, placeAt, withPlace, keyO
 use Rattle.places_rules.specs.Places.{keptIn, inCondition}
 use Rattle.places_rules.specs.Faults.{placeFault}
 use Rattle.receiver_rules.specs.declared.Received.the-variants.{Delivered, Refused}
-use Rattle.receiver_rules.specs.Promise.{numberOf, Outcome, outcome, State, payloadOf, keepAt, closedAt, Settled, SettledAfter}
+use Rattle.receiver_rules.specs.Promise.{numberOf, Reception, reception, State, payloadOf, keepAt, closedAt, Settled, SettledAfter}
 use Rattle.receiver_rules.proofs.Ranges.{written-place}
 use Rattle.sender_rules.specs.Fragments.{payloadFor, headerFor}
 use Rattle.link.specs.Run.{Call, after, Made, come, lost}
@@ -174,10 +174,10 @@ module _ (g : Settings) (n : ℕ) (packet : List ℕ) (takes : Takes g n packet)
       (e .left)) (b .payload)
       (subst (λ (h : Header). SettledAfter (keepAt u at (p h) d h (s .bytes) (payloadOf (e .datagram))) (e .lent) (e .left)) (b .fields) z)
 
-  refused-answer : (x y : ℕ) → e .left ≡ outcome (Refused x) (s .table) (s .bytes) (e .lent) → x ≡ y
+  refused-answer : (x y : ℕ) → e .left ≡ reception (Refused x) (s .table) (s .bytes) (e .lent) → x ≡ y
       → (e .left .answer ≡ numberOf (Refused y)) × (e .left .out ≡ e .lent)
-  unfolding outcome
-  refused-answer x y q is = (ap (λ (z : Outcome). z .answer) q ∙ ap (λ (k : ℕ). numberOf (Refused k)) is, ap (λ (z : Outcome). z .out) q)
+  unfolding reception
+  refused-answer x y q is = (ap (λ (z : Reception). z .answer) q ∙ ap (λ (k : ℕ). numberOf (Refused k)) is, ap (λ (z : Reception). z .out) q)
 
   -- ---- where nothing of it came
 
@@ -266,7 +266,7 @@ module _ (g : Settings) (n : ℕ) (packet : List ℕ) (takes : Takes g n packet)
         (sym (enough-is g packet (takes .passed) n es) ∙ yet)
 
     done-step : View (e .own) s (e .datagram) (e .lent) (e .left) → Next g n packet es e i
-    unfolding outcome
+    unfolding reception
     done-step (unheard fault q) = absurd (fault (b .passes))
     done-step (refuses passes low fault q) =
         record {
@@ -277,7 +277,7 @@ module _ (g : Settings) (n : ℕ) (packet : List ℕ) (takes : Takes g n packet)
                 delivered = λ c f. clash yet c;
                 late = λ f. refused-answer _ 11 q done-fault;
               };
-          stage = done-at at (subst (λ (y : Outcome). DoneAt g n packet (leftBy y) at) (sym q) o) still;
+          stage = done-at at (subst (λ (y : Reception). DoneAt g n packet (leftBy y) at) (sym q) o) still;
         }
     done-step (keeps passes low fault z) = absurd (omega (arith, fault, done-fault))
     done-step (opens passes high z) = absurd (omega (arith, high, done-at-is, o .low))

@@ -26,7 +26,7 @@ use Rattle.places_rules.proofs.Checks.{bad-3}
 use Rattle.places_rules.proofs.Keys.{key-opened, key-kept, key-closed}
 use Rattle.places_rules.proofs.Ranges.{InRange, range-from, range-to}
 use Rattle.places_rules.proofs.Proved.{fresh-in-range, kept-in-range, opened-in-range}
-use Rattle.receiver_rules.specs.Promise.{Outcome, outcome, State, all-places, payloadOf, keepAt, closedAt, Settled, waits, delivers, damaged}
+use Rattle.receiver_rules.specs.Promise.{Reception, reception, State, all-places, payloadOf, keepAt, closedAt, Settled, waits, delivers, damaged}
 use Rattle.receiver_rules.specs.Promise.{SettledAfter}
 use Rattle.receiver_rules.proofs.Ranges.{turn-fine, place-fine, opens-below, written-place}
 use Rattle.receiver_rules.proofs.Offsets.{offset-fits}
@@ -35,14 +35,14 @@ use Rattle.link.proofs.Basic.{same-or-not, less-or-not, spared-before, 
 use Rattle.link.proofs.Basic.{other-place}
 use Rattle.link.proofs.View.{Good, View, unheard, refuses, keeps, opens, view}
 
--- the state that an outcome leaves
-abbrev pub leftBy : Outcome → State
+-- the state that a reception leaves
+abbrev pub leftBy : Reception → State
 leftBy y = record { table = y .table; bytes = y .bytes }
 
 -- ---- what settling leaves
 
 -- the place with at most another condition
-pub record Closed (u : Table) (j : ℕ) (p : Place) (y : Outcome) : Type 0 where
+pub record Closed (u : Table) (j : ℕ) (p : Place) (y : Reception) : Type 0 where
   pub condition : ℕ
   pub some : condition ≡ free → ⊥
   pub known : condition ≤ spoiled
@@ -64,17 +64,17 @@ module _ (u : Table) (j : ℕ) (p : Place) (below : j < four) (size : length (u 
   as-before = refl
 
   -- however it settles, the table is the one that keeping left, but for the condition of place j
-  pub settled-place : {d : Displaced} {b o : List ℕ} {y : Outcome} → (p .condition ≡ free → ⊥) → p .condition ≤ spoiled
+  pub settled-place : {d : Displaced} {b o : List ℕ} {y : Reception} → (p .condition ≡ free → ⊥) → p .condition ≤ spoiled
       → Settled (withPlace u j p) j d b o y → Closed u j p y
-  unfolding outcome
+  unfolding reception
   settled-place some known (waits e) = record { condition = p .condition; some = some; known = known; table = as-before }
   settled-place some known (delivers P e a) = record
       { condition = delivered; some = λ z. omega arith; known = omega arith; table = closed-again delivered }
   settled-place some known (damaged e a) = record { condition = spoiled; some = λ z. omega arith; known = omega arith; table = closed-again spoiled }
 
 -- however it settles, the lent bytes are those that keeping left
-pub settled-bytes : {t : Table} {j : ℕ} {d : Displaced} {b o : List ℕ} {y : Outcome} → Settled t j d b o y → y .bytes ≡ b
-unfolding outcome
+pub settled-bytes : {t : Table} {j : ℕ} {d : Displaced} {b o : List ℕ} {y : Reception} → Settled t j d b o y → y .bytes ≡ b
+unfolding reception
 settled-bytes (waits e) = refl
 settled-bytes (delivers P e a) = refl
 settled-bytes (damaged e a) = refl
@@ -93,7 +93,7 @@ fine-table t below fine = sym (bad-3 t below (fine 0 (omega arith)) (fine 1 (ome
 -- ---- a call that kept a fragment in place j of the table u
 
 -- place j has the fragment's number; the other places and their bytes are as before; the state is good
-pub record Wrote (s : State) (u : Table) (h : Header) (j : ℕ) (y : Outcome) : Type 0 where
+pub record Wrote (s : State) (u : Table) (h : Header) (j : ℕ) (y : Reception) : Type 0 where
   pub below : j < four
   -- what stands in the place after it, held by the fragment's number
   pub place-now : Place
@@ -126,7 +126,7 @@ module _ (own : Address) (s : State) (r : Good s) (d o : List ℕ) (bytes : Byte
   payload-long = length-drop (lengthOf d) d ∙ omega (arith, payload-stands own d heard)
 
   module _ (u : Table) (same : Same s u) (j : ℕ) (low : j < four) (p : Place) (some : p .condition ≡ free → ⊥) (is-number : keyIn p ≡ keyOf h)
-      (fine : badPlace (keptIn p h) ≡ false) (l : Displaced) (y : Outcome) where
+      (fine : badPlace (keptIn p h) ≡ false) (l : Displaced) (y : Reception) where
     abbrev kept : Place
     kept = keptIn p h
 
@@ -218,7 +218,7 @@ turned-same s r =
     choice true p q = p
     choice false p q = q
 
-module _ (own : Address) (s : State) (r : Good s) (d o : List ℕ) (bytes : Bytes d) (heard : faultOf own d ≡ 0) (y : Outcome) where
+module _ (own : Address) (s : State) (r : Good s) (d o : List ℕ) (bytes : Bytes d) (heard : faultOf own d ≡ 0) (y : Reception) where
   -- a fragment that is not refused by the place that holds its number is kept there
   pub wrote-held : (j : ℕ) → j ≡ heldAt (s .table) (keyOf (fieldsOf d)) → j < four → placeFault (placeAt (s .table) j) (fieldsOf d) ≡ 0
       → SettledAfter (keepAt (s .table) j (placeAt (s .table) j) None (fieldsOf d) (s .bytes) (payloadOf d)) o y → Wrote s (s .table) (fieldsOf d) j y
@@ -243,11 +243,11 @@ module _ (own : Address) (s : State) (r : Good s) (d o : List ℕ) (bytes : Byte
 -- ---- a place that a call leaves alone
 
 -- the record of place i and its 12,288 bytes are as they were before the call
-pub record Spared (s : State) (i : ℕ) (y : Outcome) : Type 0 where
+pub record Spared (s : State) (i : ℕ) (y : Reception) : Type 0 where
   pub kept-place : placeAt (y .table) i ≡ placeAt (s .table) i
   pub kept-bytes : (a n : ℕ) → i * place ≤ a → a + n ≤ i * place + place → take n (drop a (y .bytes)) ≡ take n (drop a (s .bytes))
 
-module _ {s : State} {u : Table} {h : Header} {j : ℕ} {y : Outcome} (w : Wrote s u h j y) where
+module _ {s : State} {u : Table} {h : Header} {j : ℕ} {y : Reception} (w : Wrote s u h j y) where
   -- a call that keeps a fragment in one place leaves each other place alone
   pub wrote-spares : (i : ℕ) → (i ≡ j → ⊥) → Spared s i y
   wrote-spares i n =
@@ -270,9 +270,9 @@ module _ {s : State} {u : Table} {h : Header} {j : ℕ} {y : Outcome} (w : Wrote
 -- ---- every reached state is good
 
 good-view : (s : State) → Good s → (e : Call) → Bytes (e .datagram) → View (e .own) s (e .datagram) (e .lent) (e .left) → Good (after e)
-unfolding outcome
-good-view s r e b (unheard n q) = subst (λ (y : Outcome). Good (leftBy y)) (sym q) r
-good-view s r e b (refuses heard low f q) = subst (λ (y : Outcome). Good (leftBy y)) (sym q) r
+unfolding reception
+good-view s r e b (unheard n q) = subst (λ (y : Reception). Good (leftBy y)) (sym q) r
+good-view s r e b (refuses heard low f q) = subst (λ (y : Reception). Good (leftBy y)) (sym q) r
 good-view s r e b (keeps heard low f z) = wrote-held (e .own) s r (e .datagram) (e .lent) b heard (e .left) _ refl low f z .good
 good-view s r e b (opens heard high z) = wrote-opened (e .own) s r (e .datagram) (e .lent) b heard (e .left) _ z .good
 

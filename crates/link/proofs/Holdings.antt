@@ -22,7 +22,7 @@ use Rattle.places_rules.specs.Faults.{placeFault}
 use Rattle.places_rules.proofs.Checks as checks
 use Rattle.places_rules.proofs.Ranges.{InRange, Belongs, range-from, belongs, belongs-opened, range-kept, range-opened}
 use Rattle.places_rules.proofs.Keys.{key-opened}
-use Rattle.receiver_rules.specs.Promise.{Outcome, outcome, State, payloadOf, keepAt, SettledAfter}
+use Rattle.receiver_rules.specs.Promise.{Reception, reception, State, payloadOf, keepAt, SettledAfter}
 use Rattle.receiver_rules.proofs.Ranges.{place-fine, opens-below}
 use Rattle.link.specs.Run.{Call, after, Made, Run, start, next, Reached}
 use Rattle.link.specs.Reached.{HeldCame, Stays, displaced, stays, StaysKept}
@@ -159,11 +159,11 @@ module _ (e : Call) (es : List Call) (s : State) (good : Good s) (bytes : Bytes 
 
 at-view : {es : List Call} {s : State} {e : Call} → Good s → Made s e → ((i : ℕ) → i < four → At es s i)
     → View (e .own) s (e .datagram) (e .lent) (e .left) → (i : ℕ) → i < four → At (e ∷ es) (after e) i
-unfolding outcome
+unfolding reception
 at-view {es} {s} {e} r m all (unheard n q) i l = at-spared e i
-    (unchanged i (e .left) (ap (λ (y : Outcome). y .table) q) (ap (λ (y : Outcome). y .bytes) q)) (all i l)
+    (unchanged i (e .left) (ap (λ (y : Reception). y .table) q) (ap (λ (y : Reception). y .bytes) q)) (all i l)
 at-view {es} {s} {e} r m all (refuses passes low fault q) i l = at-spared e i
-    (unchanged i (e .left) (ap (λ (y : Outcome). y .table) q) (ap (λ (y : Outcome). y .bytes) q)) (all i l)
+    (unchanged i (e .left) (ap (λ (y : Reception). y .table) q) (ap (λ (y : Reception). y .bytes) q)) (all i l)
 at-view {es} {s} {e} r m all (keeps passes low fine settled) i l =
     same-or-not i (heldAt (s .table) (keyOf (fieldsOf (e .datagram))))
     (λ q. subst (At (e ∷ es) (after e)) (sym q) (at-held e es s r (m .bytes) passes low fine settled (all _ low)))
@@ -215,11 +215,11 @@ spared-stays e i spared all n j a b =
 
 stays-view : {es : List Call} {s : State} {e : Call} → Good s → Made s e → ((i : ℕ) → i < four → At es s i)
     → View (e .own) s (e .datagram) (e .lent) (e .left) → (i : ℕ) → i < four → StaysAt s e i
-unfolding outcome keyOf
+unfolding reception keyOf
 stays-view {es} {s} {e} r m all (unheard n q) i l =
-    spared-stays e i (unchanged i (e .left) (ap (λ (y : Outcome). y .table) q) (ap (λ (y : Outcome). y .bytes) q)) (all i l)
+    spared-stays e i (unchanged i (e .left) (ap (λ (y : Reception). y .table) q) (ap (λ (y : Reception). y .bytes) q)) (all i l)
 stays-view {es} {s} {e} r m all (refuses passes low fault q) i l =
-    spared-stays e i (unchanged i (e .left) (ap (λ (y : Outcome). y .table) q) (ap (λ (y : Outcome). y .bytes) q)) (all i l)
+    spared-stays e i (unchanged i (e .left) (ap (λ (y : Reception). y .table) q) (ap (λ (y : Reception). y .bytes) q)) (all i l)
 stays-view {es} {s} {e} r m all (keeps passes low fine settled) i l =
     let w = wrote-held (e .own) s r (e .datagram) (e .lent) (m .bytes) passes (e .left) _ refl low fine settled in
     same-or-not i (heldAt (s .table) (keyOf (fieldsOf (e .datagram))))

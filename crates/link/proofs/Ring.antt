@@ -17,7 +17,7 @@ use Rattle.places_rules.specs.Places.{four, free, freePlace, freshTable, placeA
 use Rattle.places_rules.specs.Claims.{Opened}
 use Rattle.places_rules.proofs.Ranges.{range-from}
 use Rattle.places_rules.proofs.Proved.{fresh-is-opened, next-is-opened, kept-is-opened}
-use Rattle.receiver_rules.specs.Promise.{Outcome, outcome, State, keepAt}
+use Rattle.receiver_rules.specs.Promise.{Reception, reception, State, keepAt}
 use Rattle.receiver_rules.proofs.Ranges.{place-fine}
 use Rattle.link.specs.Run.{Call, after, Made, Run, start, next, Reached}
 use Rattle.link.specs.Reached.{StaysInRange, GoesRound, HeldOnce, PartsApart, OpenWaits, ClosedSuffices}
@@ -29,7 +29,7 @@ use Rattle.link.proofs.Waits.{Weighed, weighed-free, weighed-settled}
 
 -- ---- opening goes round
 
-module _ (m : ℕ) {s : State} {h : Header} {y : Outcome} (ring : Opened m (s .table)) where
+module _ (m : ℕ) {s : State} {h : Header} {y : Reception} (ring : Opened m (s .table)) where
   -- to keep a fragment in a place that is held is no further opening
   pub ring-kept : {j : ℕ} → Wrote s (s .table) h j y → (placeAt (s .table) j .condition ≡ free → ⊥) → Opened m (y .table)
   ring-kept w held = subst (Opened m) (sym (w .table)) (kept-is-opened m (s .table) _ (w .place-now) ring held (w .some))
@@ -43,7 +43,7 @@ module _ (m : ℕ) {s : State} {h : Header} {y : Outcome} (ring : Opened m (s .t
 abbrev Once : State → Type 0
 Once s = (i j n : ℕ) → i < four → j < four → holds (placeAt (s .table) i) n ≡ true → holds (placeAt (s .table) j) n ≡ true → i ≡ j
 
-module _ {s : State} {u : Table} {h : Header} {j : ℕ} {y : Outcome} (w : Wrote s u h j y) (once : Once s)
+module _ {s : State} {u : Table} {h : Header} {j : ℕ} {y : Reception} (w : Wrote s u h j y) (once : Once s)
     (alone : (k : ℕ) → k < four → holds (placeAt (s .table) k) (keyOf h) ≡ true → k ≡ j) where
   -- another place that holds the number of place j would have held it before
   as-number : (k n : ℕ) → k < four → holds (placeAt (y .table) j) n ≡ true → holds (placeAt (y .table) k) n ≡ true → k ≡ j
@@ -68,7 +68,7 @@ module _ {s : State} {u : Table} {h : Header} {j : ℕ} {y : Outcome} (w : Wrote
 abbrev AllWeighed : State → Type 0
 AllWeighed s = (i : ℕ) → i < four → Weighed (placeAt (s .table) i)
 
-weighed-wrote : {s : State} {u : Table} {h : Header} {j : ℕ} {y : Outcome} → Wrote s u h j y → AllWeighed s → Weighed (placeAt (y .table) j)
+weighed-wrote : {s : State} {u : Table} {h : Header} {j : ℕ} {y : Reception} → Wrote s u h j y → AllWeighed s → Weighed (placeAt (y .table) j)
     → AllWeighed (leftBy y)
 weighed-wrote {j} {y} w all here i l =
     same-or-not i j
@@ -84,9 +84,9 @@ record Standing (s : State) : Type 0 where
   pub weighed : AllWeighed s
 
 standing-view : {s : State} {e : Call} → Good s → Made s e → Standing s → View (e .own) s (e .datagram) (e .lent) (e .left) → Standing (after e)
-unfolding outcome keyOf turned openedBy keptIn keepAt
-standing-view r m z (unheard n q) = subst (λ (y : Outcome). Standing (leftBy y)) (sym q) z
-standing-view r m z (refuses heard low f q) = subst (λ (y : Outcome). Standing (leftBy y)) (sym q) z
+unfolding reception keyOf turned openedBy keptIn keepAt
+standing-view r m z (unheard n q) = subst (λ (y : Reception). Standing (leftBy y)) (sym q) z
+standing-view r m z (refuses heard low f q) = subst (λ (y : Reception). Standing (leftBy y)) (sym q) z
 standing-view {s} {e} r m z (keeps heard low f settled) =
     let w = wrote-held (e .own) s r (e .datagram) (e .lent) (m .bytes) heard (e .left) _ refl low f settled in
     let held : holds (placeAt (s .table) (heldAt (s .table) (keyOf (fieldsOf (e .datagram)))))

@@ -1,4 +1,4 @@
--- There are runs, for any inputs: some outcome fits the promise of each call; and what the sender writes are bytes. Assumes nothing.
+-- There are runs, for any inputs: some reception fits the promise of each call; and what the sender writes are bytes. Assumes nothing.
 use mathlib.Core.Path.{refl, ap}
 use mathlib.Core.List.{List, [], _∷_, _++_}
 use Prim.Native.Nat.{ℕ, zero, suc, _+_, _*_, _<_}
@@ -19,7 +19,7 @@ use Rattle.cut_rules.specs.Sizes as cut
 use Rattle.header_rules.specs.declared.Header.{Header}
 use Rattle.header_rules.specs.Header.{sync, flagsOf, fecPart, addressPart, frontOf, bodyOf, headerBytes}
 use Rattle.header_rules.specs.Claims.{Written}
-use Rattle.receiver_rules.proofs.Proved.{some-outcome}
+use Rattle.receiver_rules.proofs.Proved.{some-reception}
 use Rattle.sender_rules.specs.Fragments.{blockFor, payloadFor, headerFor, fragmentFor}
 use Rattle.sender_rules.proofs.FragmentLengths.{payload-fec, payload-plain}
 use Rattle.sender_rules.proofs.Headers.{header-written}
@@ -32,7 +32,7 @@ unfolding Lawful
 some-run s [] lawful = ([], s, refl, start)
 some-run s (i ∷ is) lawful =
     let before = some-run s is (lawful .2) in
-    let y = some-outcome (i .own) (before .1) (i .datagram) (i .lent) in
+    let y = some-reception (i .own) (before .1) (i .datagram) (i .lent) in
     let e : Call = record { own = i .own; datagram = i .datagram; lent = i .lent; left = y .0 } in (
       e ∷ before .0,
       after e,

@@ -18,7 +18,7 @@ use Rattle.places_rules.specs.declared.Table.{Table}
 use Rattle.places_rules.specs.declared.Displaced.{Displaced}
 use Rattle.places_rules.specs.Places.{delivered, placeAt}
 use Rattle.receiver_rules.specs.declared.Received.the-variants.{Kept, Delivered}
-use Rattle.receiver_rules.specs.Promise.{numberOf, Outcome, outcome, closedAt, bytesAt, Settled, waits, delivers, damaged}
+use Rattle.receiver_rules.specs.Promise.{numberOf, Reception, reception, closedAt, bytesAt, Settled, waits, delivers, damaged}
 use Rattle.sender_rules.proofs.Checks.{sound}
 use Rattle.sender_rules.proofs.FragmentLengths.{sure, f-some}
 use Rattle.sender_rules.proofs.PlannedFigures.{with-fec}
@@ -76,14 +76,14 @@ module _ (g : Settings) (n : ℕ) (packet : List ℕ) (takes : Takes g n packet)
 -- ---- what settling leaves
 
 -- the fragment is kept and that is all: out is as lent, table and bytes are as keeping left them
-pub record Waited (t : Table) (d : Displaced) (b o : List ℕ) (y : Outcome) : Type 0 where
+pub record Waited (t : Table) (d : Displaced) (b o : List ℕ) (y : Reception) : Type 0 where
   pub answer : y .answer ≡ numberOf (Kept d)
   pub out : y .out ≡ o
   pub table : y .table ≡ t
   pub bytes : y .bytes ≡ b
 
 -- out begins with the packet, its length and the fragments not come are told, its place is delivered
-pub record Handed (g : Settings) (packet : List ℕ) (came : ℕ → Bool) (t : Table) (i : ℕ) (d : Displaced) (b o : List ℕ) (y : Outcome) : Type 0 where
+pub record Handed (g : Settings) (packet : List ℕ) (came : ℕ → Bool) (t : Table) (i : ℕ) (d : Displaced) (b o : List ℕ) (y : Reception) : Type 0 where
   pub answer : y .answer ≡ numberOf (Delivered (length packet) (losses (λ j. not (came j)) (count g packet)) d)
   pub out : y .out ≡ splice o 0 packet
   pub table : y .table ≡ closedAt t i delivered
@@ -95,15 +95,15 @@ module _ (g : Settings) (n : ℕ) (packet : List ℕ) (takes : Takes g n packet)
   is-enough = enough-in g n packet takes came i (placeAt t i) b full sized
 
   -- while what came does not suffice, the place waits
-  pub waited : {y : Outcome} → Settled t i d b o y → suffices g packet came ≡ false → Waited t d b o y
-  unfolding outcome
+  pub waited : {y : Reception} → Settled t i d b o y → suffices g packet came ≡ false → Waited t d b o y
+  unfolding reception
   waited (waits e) f = record { answer = refl; out = refl; table = refl; bytes = refl }
   waited (delivers P e a) f = clash e (is-enough ∙ f)
   waited (damaged e a) f = clash e (is-enough ∙ f)
 
   -- once it suffices, just this packet is handed out; the place is not spoiled
-  pub handed : {y : Outcome} → Settled t i d b o y → suffices g packet came ≡ true → Handed g packet came t i d b o y
-  unfolding outcome
+  pub handed : {y : Reception} → Settled t i d b o y → suffices g packet came ≡ true → Handed g packet came t i d b o y
+  unfolding reception
   handed (waits e) f = clash (is-enough ∙ f) e
   handed (delivers P e a) f =
       let is : P ≡ packet = only g n packet takes came i (placeAt t i) b full sized f P a in

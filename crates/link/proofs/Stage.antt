@@ -19,7 +19,7 @@ use Rattle.places_rules.specs.declared.Displaced.the-variants.{None, Number}
 use Rattle.places_rules.specs.Places.{four, open-now, delivered, placeAt, keyOf, keyIn, holds, heldAt, openAt, displacedAt, turned, inCondition}
 use Rattle.places_rules.proofs.Keys.{key-closed}
 use Rattle.receiver_rules.specs.declared.Received.the-variants.{Refused}
-use Rattle.receiver_rules.specs.Promise.{Outcome, outcome, State, keepAt, Settled, waits, delivers, damaged}
+use Rattle.receiver_rules.specs.Promise.{Reception, reception, State, keepAt, Settled, waits, delivers, damaged}
 use Rattle.sender_rules.specs.Fragments.{payloadFor}
 use Rattle.link.specs.Run.{Call, after, Made, Holds, numberIn, come}
 use Rattle.link.specs.Demand.{Takes, count, keyFor, enoughAfter, Names, by-kept, by-delivered, by-damaged}
@@ -103,8 +103,8 @@ unfolding inCondition
 condition-closed p c = refl
 
 -- however it settles, the answer names the displaced number
-pub settled-names : {t : Table} {j : ℕ} {d : Displaced} {b o : List ℕ} {y : Outcome} → Settled t j d b o y → Names d (y .answer)
-unfolding outcome
+pub settled-names : {t : Table} {j : ℕ} {d : Displaced} {b o : List ℕ} {y : Reception} → Settled t j d b o y → Names d (y .answer)
+unfolding reception
 settled-names (waits e) = by-kept
 settled-names (delivers P e a) = by-delivered _ _
 settled-names (damaged e a) = by-damaged
@@ -128,7 +128,7 @@ module _ (g : Settings) (n : ℕ) (packet : List ℕ) (takes : Takes g n packet)
 
   -- ---- a call that spares the place
 
-  module _ (s : State) (i : ℕ) (y : Outcome) (spared : Spared s i y) (alone : Alone (keyFor g n) (y .table) i) where
+  module _ (s : State) (i : ℕ) (y : Reception) (spared : Spared s i y) (alone : Alone (keyFor g n) (y .table) i) where
     open-spared : (came : ℕ → Bool) → OpenAt g n packet came s i → OpenAt g n packet came (leftBy y) i
     open-spared came o =
         record {
@@ -176,10 +176,10 @@ module _ (g : Settings) (n : ℕ) (packet : List ℕ) (takes : Takes g n packet)
     moved-stage u c (done-at i o z) = done-at i o (enough-with (e ∷ es) (come (keyFor g n) es) c ∙ sym (enough-is g packet (takes .passed) n es) ∙ z)
 
     -- a refusal leaves all as it was
-    pub refused-stage : (x : ℕ) → e .left ≡ outcome (Refused x) (s .table) (s .bytes) (e .lent) → Stage g n packet es s
+    pub refused-stage : (x : ℕ) → e .left ≡ reception (Refused x) (s .table) (s .bytes) (e .lent) → Stage g n packet es s
         → Stage g n packet es (after e)
-    unfolding outcome
-    refused-stage x q st = subst (λ (y : Outcome). Stage g n packet es (leftBy y)) (sym q) st
+    unfolding reception
+    refused-stage x q st = subst (λ (y : Reception). Stage g n packet es (leftBy y)) (sym q) st
 
     -- a fragment of another number is kept in place j; it is the packet's own only where it displaces it
     module _ (u : Table) (h : Header) (j : ℕ) (other : keyOf h ≡ keyFor g n → ⊥) (w : Wrote s u h j (e .left))

@@ -24,7 +24,7 @@ use Rattle.places_rules.proofs.Checks as checks
 use Rattle.places_rules.proofs.Ranges.{InRange}
 use Rattle.places_rules.proofs.Records.{offset-last, offset-other}
 use Rattle.places_rules.proofs.Keys.{key-kept, key-closed}
-use Rattle.receiver_rules.specs.Promise.{Outcome, State, payloadOf, bytesAt, keepAt, SettledAfter}
+use Rattle.receiver_rules.specs.Promise.{Reception, State, payloadOf, bytesAt, keepAt, SettledAfter}
 use Rattle.receiver_rules.proofs.Ranges.{written-place}
 use Rattle.receiver_rules.proofs.Offsets.{offset-fits}
 use Rattle.link.specs.Run.{Call, heard, numberIn, indexIn}
@@ -99,7 +99,7 @@ module _ {k : Call} {es : List Call} {s : State} {i n j : ℕ} (e : Call) (spare
       }
 
 -- a call that leaves table and lent bytes as they were leaves each place alone
-pub unchanged : {s : State} (i : ℕ) (y : Outcome) → y .table ≡ s .table → y .bytes ≡ s .bytes → Spared s i y
+pub unchanged : {s : State} (i : ℕ) (y : Reception) → y .table ≡ s .table → y .bytes ≡ s .bytes → Spared s i y
 unchanged i y t b = record { kept-place = ap (λ (x : Table). placeAt x i) t; kept-bytes = λ a n low high. ap (λ (x : List ℕ). take n (drop a x)) b }
 
 -- ---- after a call that keeps a fragment in the place

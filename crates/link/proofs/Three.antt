@@ -16,7 +16,7 @@ use Rattle.places_rules.specs.declared.Table.{Table}
 use Rattle.places_rules.specs.Places.{four, placeAt, keyIn, keyOf, holds, heldAt, openAt, turned}
 use Rattle.places_rules.specs.Claims.{Opened}
 use Rattle.places_rules.proofs.Proved.{opens-in-turn}
-use Rattle.receiver_rules.specs.Promise.{Outcome, outcome, State}
+use Rattle.receiver_rules.specs.Promise.{Reception, reception, State}
 use Rattle.link.specs.Run.{Call, after, Made, Run, start, next, Reached, Holds, heard, numberIn, All}
 use Rattle.link.specs.Demand.{Among, Begins}
 use Rattle.link.proofs.Basic.{same-or-not, held-found, held-some, holds-yes, holds-number, holds-some}
@@ -26,7 +26,7 @@ use Rattle.link.proofs.Ring.{ring-kept, ring-opened, goes-round}
 
 -- ---- what stays held
 
-module _ {s : State} {u : Table} {h : Header} {j : ℕ} {y : Outcome} (w : Wrote s u h j y) where
+module _ {s : State} {u : Table} {h : Header} {j : ℕ} {y : Reception} (w : Wrote s u h j y) where
   -- the fragment's own number, in place j
   holds-now : holds (placeAt (y .table) j) (keyOf h) ≡ true
   holds-now = ap (λ (p : Place). holds p (keyOf h)) (w .here) ∙ holds-yes (w .place-now) (keyOf h) (w .some) (w .number)
@@ -87,7 +87,7 @@ record Three (n m : ℕ) (others : List ℕ) (s : State) : Type 0 where
 three-held : (n m : ℕ) (others : List ℕ) (s : State) → Three n m others s → Holds s n
 three-held n m others s r = held-some (s .table) n (m % four) (omega arith) (r .its)
 
-module _ {n m : ℕ} {others : List ℕ} {s : State} (r : Three n m others s) {h : Header} {y : Outcome} where
+module _ {n m : ℕ} {others : List ℕ} {s : State} (r : Three n m others s) {h : Header} {y : Reception} where
   three-kept : {j : ℕ} → Wrote s (s .table) h j y → holds (placeAt (s .table) j) (keyOf h) ≡ true → Three n m others (leftBy y)
   three-kept w held =
       record {
@@ -145,7 +145,7 @@ module _ {n m : ℕ} {others : List ℕ} {s : State} (r : Three n m others s) {h
 -- ---- runs
 
 -- opening it
-three-first : {n m : ℕ} {others : List ℕ} {s : State} {h : Header} {y : Outcome} → length others ≤ 3 → Opened m (s .table) → keyOf h ≡ n
+three-first : {n m : ℕ} {others : List ℕ} {s : State} {h : Header} {y : Reception} → length others ≤ 3 → Opened m (s .table) → keyOf h ≡ n
     → Wrote s (turned (s .table) (openAt (s .table))) h (openAt (s .table)) y → Three n m others (leftBy y)
 three-first {n} {m} {others} {s} {h} {y} few ring is-n w =
     record {
@@ -169,9 +169,9 @@ module _ (n m : ℕ) (others : List ℕ) {s : State} {e : Call} (good : Good s) 
       three-first few ring (begins .1) (wrote-opened (e .own) s good (e .datagram) (e .lent) (made .bytes) passed (e .left) _ z)
 
   next-view : Three n m others s → Among n others e → View (e .own) s (e .datagram) (e .lent) (e .left) → Three n m others (after e)
-  unfolding outcome keyOf Among
-  next-view r am (unheard f q) = subst (λ (y : Outcome). Three n m others (leftBy y)) (sym q) r
-  next-view r am (refuses passed low f q) = subst (λ (y : Outcome). Three n m others (leftBy y)) (sym q) r
+  unfolding reception keyOf Among
+  next-view r am (unheard f q) = subst (λ (y : Reception). Three n m others (leftBy y)) (sym q) r
+  next-view r am (refuses passed low f q) = subst (λ (y : Reception). Three n m others (leftBy y)) (sym q) r
   next-view r am (keeps passed low f z) =
       three-kept r (wrote-held (e .own) s good (e .datagram) (e .lent) (made .bytes) passed (e .left) _ refl low f z) (held-found (s .table) _ low)
   next-view r am (opens passed high z) =

@@ -14,7 +14,7 @@ use Rattle.places_rules.specs.Places.{four, placeAt, keyIn, keyOf, holds, heldA
 use Rattle.places_rules.specs.Claims.{Opened}
 use Rattle.places_rules.proofs.Proved.{fresh-is-opened, opens-in-turn}
 use Rattle.receiver_rules.specs.declared.Received.the-variants.{Refused}
-use Rattle.receiver_rules.specs.Promise.{Outcome, outcome, State, all-places}
+use Rattle.receiver_rules.specs.Promise.{Reception, reception, State, all-places}
 use Rattle.link.specs.Run.{Call, after, Made, Run, start, next, freshWith, Holds, heard, numberIn}
 use Rattle.link.proofs.Basic.{same-or-not, less-or-not, held-found, held-some, holds-yes, holds-number, holds-some}
 use Rattle.link.proofs.View.{Good, View, unheard, refuses, keeps, opens}
@@ -87,9 +87,9 @@ unfoldable pub turn : Bool → ℕ → List ℕ → List ℕ
 turn hears n ns = cond (hears && not (lately n ns)) (n ∷ ns) ns
 
 module _ {ns : List ℕ} {s : State} {e : Call} (r : Stands ns s) (good : Good s) (made : Made s e) where
-  same-stands : (x : ℕ) → e .left ≡ outcome (Refused x) (s .table) (s .bytes) (e .lent) → Stands ns (after e)
-  unfolding outcome
-  same-stands x q = subst (λ (y : Outcome). Stands ns (leftBy y)) (sym q) r
+  same-stands : (x : ℕ) → e .left ≡ reception (Refused x) (s .table) (s .bytes) (e .lent) → Stands ns (after e)
+  unfolding reception
+  same-stands x q = subst (λ (y : Reception). Stands ns (leftBy y)) (sym q) r
 
   kept-stands : {j : ℕ} → Wrote s (s .table) (fieldsOf (e .datagram)) j (e .left) → holds (placeAt (s .table) j) (numberIn e) ≡ true
       → Stands ns (after e)

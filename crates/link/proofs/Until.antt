@@ -15,7 +15,7 @@ use Rattle.places_rules.specs.declared.Displaced.{Displaced}
 use Rattle.places_rules.specs.declared.Displaced.the-variants as displaced
 use Rattle.places_rules.specs.Places.{four, free, heldAt}
 use Rattle.receiver_rules.specs.declared.Received.the-variants.{Kept, Delivered, Refused}
-use Rattle.receiver_rules.specs.Promise.{displacedValues, numberOf, Outcome, outcome, State}
+use Rattle.receiver_rules.specs.Promise.{displacedValues, numberOf, Reception, reception, State}
 use Rattle.link.specs.Run.{Call, after, Made, Run, start, next, Reached, Holds, ShownOpen, numberIn, come, lost, All}
 use Rattle.link.specs.Demand.{Takes, count, keyFor, Own, enoughAfter, HandsOut, Handed, HeldAfter}
 use Rattle.link.specs.Steps.{Answered, DisplacedBy, Promised, HandedOut, T2}
@@ -42,9 +42,9 @@ kept-or-handed displaced.None l m d e =
 kept-or-handed (displaced.Number x) l m displaced.None e = let z : _≡_ {A = ℕ} 2 3 = ap (λ (a : ℕ × List ℕ). length (a .1)) e in omega arith
 kept-or-handed (displaced.Number x) l m (displaced.Number y) e = let z : _≡_ {A = ℕ} 2 4 = ap (λ (a : ℕ × List ℕ). length (a .1)) e in omega arith
 
-refused-told : (e : Call) (s : State) (x : ℕ) → e .left ≡ outcome (Refused x) (s .table) (s .bytes) (e .lent) → e .left .answer ≡ numberOf (Refused x)
-unfolding outcome
-refused-told e s x q = ap (λ (y : Outcome). y .answer) q
+refused-told : (e : Call) (s : State) (x : ℕ) → e .left ≡ reception (Refused x) (s .table) (s .bytes) (e .lent) → e .left .answer ≡ numberOf (Refused x)
+unfolding reception
+refused-told e s x q = ap (λ (y : Reception). y .answer) q
 
 module _ (g : Settings) (n : ℕ) (packet : List ℕ) (takes : Takes g n packet) where
   -- ---- where it is held

@@ -17,9 +17,9 @@ use Rattle.places_rules.specs.declared.Displaced.the-variants.{None}
 use Rattle.places_rules.specs.declared.Table.{Table}
 use Rattle.places_rules.specs.Places.{four, placeAt, heldAt}
 use Rattle.receiver_rules.specs.declared.Received.the-variants.{Delivered, Refused}
-use Rattle.receiver_rules.specs.Promise.{numberOf, Outcome, outcome, State}
+use Rattle.receiver_rules.specs.Promise.{numberOf, Reception, reception, State}
 use Rattle.receiver_rules.specs.Claims.{keptBy}
-use Rattle.receiver_rules.proofs.Proved.{some-outcome, count-told}
+use Rattle.receiver_rules.proofs.Proved.{some-reception, count-told}
 use Rattle.sender_rules.specs.Fragments.{payloadFor, fragmentFor, fragmentsFor}
 use Rattle.link.specs.Run.{Call}
 use Rattle.link.specs.Demand.{keyFor}
@@ -129,28 +129,28 @@ falls = record {
 -- there is a receiver that keeps the promise of receive
 pub some-keep : SomeKeep
 some-keep = (
-  λ own s datagram out. some-outcome own s datagram out .0,
-  record { meets = λ own s datagram out bytes. some-outcome own s datagram out .1 },
+  λ own s datagram out. some-reception own s datagram out .0,
+  record { meets = λ own s datagram out bytes. some-reception own s datagram out .1 },
 )
 
 -- ---- useless receivers
 
 -- one that refuses everything, and leaves all as it was
 refuser : Receiver
-refuser own s datagram out = outcome (Refused 2) (s .table) (s .bytes) out
+refuser own s datagram out = reception (Refused 2) (s .table) (s .bytes) out
 
 module _ {s : State} {e : Call} (c : Serves refuser s e) where
   refuses : e .left .answer ≡ numberOf (Refused 2)
-  unfolding refuser outcome
-  refuses = ap (λ (y : Outcome). y .answer) (c .leaves)
+  unfolding refuser reception
+  refuses = ap (λ (y : Reception). y .answer) (c .leaves)
 
   same-table : e .left .table ≡ s .table
-  unfolding refuser outcome
-  same-table = ap (λ (y : Outcome). y .table) (c .leaves)
+  unfolding refuser reception
+  same-table = ap (λ (y : Reception). y .table) (c .leaves)
 
   same-bytes : e .left .bytes ≡ s .bytes
-  unfolding refuser outcome
-  same-bytes = ap (λ (y : Outcome). y .bytes) (c .leaves)
+  unfolding refuser reception
+  same-bytes = ap (λ (y : Reception). y .bytes) (c .leaves)
 
   delivers-nothing : Delivers e → ⊥
   delivers-nothing d = refused-or-handed 2 (d .0) (d .1) (d .2) (sym refuses ∙ d .3)
@@ -175,17 +175,17 @@ withholder =
 -- one that answers every datagram with an empty packet, and with one fragment more missing than its record misses
 liar : Receiver
 liar own s datagram out =
-    outcome (Delivered 0 (suc (missingIn (placeAt (s .table) (keptBy s datagram .at)))) None) (s .table) (s .bytes) out
+    reception (Delivered 0 (suc (missingIn (placeAt (s .table) (keptBy s datagram .at)))) None) (s .table) (s .bytes) out
 
 lends-back : {s : State} {e : Call} → Serves liar s e → e .left .out ≡ e .lent
-unfolding liar outcome
-lends-back c = ap (λ (y : Outcome). y .out) (c .leaves)
+unfolding liar reception
+lends-back c = ap (λ (y : Reception). y .out) (c .leaves)
 
 half : Ready liar (plainAt 21) 0 (packetWith 1) fresh
 half = at-first (halved 1 (lit< tt) 0 (lit< tt))
 
 inventor : Invents liar
-unfolding liar outcome
+unfolding liar reception
 inventor =
     record {
       g = plainAt 21;
@@ -194,13 +194,13 @@ inventor =
       earlier = [];
       call = call half;
       episode = episode half;
-      delivers = (0, _, None, ap (λ (y : Outcome). y .answer) (serves half .leaves));
+      delivers = (0, _, None, ap (λ (y : Reception). y .answer) (serves half .leaves));
       number = number-brought half;
       other = λ before now. clash now (not-enough half (in-two 1 (lit< tt)));
     }
 
 miscounter : FalseCount liar
-unfolding liar outcome
+unfolding liar reception
 miscounter =
     record {
       own = address.None;

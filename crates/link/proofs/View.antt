@@ -17,7 +17,7 @@ use Rattle.places_rules.specs.declared.Displaced.the-variants.{None}
 use Rattle.places_rules.specs.Places.{four, placeAt, keyOf, heldAt, openAt, displacedAt, turned, openedBy}
 use Rattle.places_rules.specs.Faults.{badTable, placeFault}
 use Rattle.receiver_rules.specs.declared.Received.the-variants.{Refused}
-use Rattle.receiver_rules.specs.Promise.{Outcome, outcome, State, all-places, roomFault, heldFault, receiveFault, payloadOf, Keeping, keepAt, keepOf}
+use Rattle.receiver_rules.specs.Promise.{Reception, reception, State, all-places, roomFault, heldFault, receiveFault, payloadOf, Keeping, keepAt, keepOf}
 use Rattle.receiver_rules.specs.Promise.{SettledAfter, Step}
 use Rattle.receiver_rules.proofs.Ranges.{room-told, due-none}
 
@@ -29,11 +29,11 @@ pub record Good (s : State) : Type 0 where
 
 -- what a call does: the header is refused (2 to 8), the place that holds the number refuses the fragment (9 to 12), that place keeps it, or it
 -- opens a place
-pub data View (own : Address) (s : State) (d o : List ℕ) (y : Outcome) : Type 0 where
-  unheard : (faultOf own d ≡ 0 → ⊥) → y ≡ outcome (Refused (faultOf own d)) (s .table) (s .bytes) o → View own s d o y
+pub data View (own : Address) (s : State) (d o : List ℕ) (y : Reception) : Type 0 where
+  unheard : (faultOf own d ≡ 0 → ⊥) → y ≡ reception (Refused (faultOf own d)) (s .table) (s .bytes) o → View own s d o y
   refuses : faultOf own d ≡ 0 → heldAt (s .table) (keyOf (fieldsOf d)) < four
       → (placeFault (placeAt (s .table) (heldAt (s .table) (keyOf (fieldsOf d)))) (fieldsOf d) ≡ 0 → ⊥)
-      → y ≡ outcome (Refused (placeFault (placeAt (s .table) (heldAt (s .table) (keyOf (fieldsOf d)))) (fieldsOf d))) (s .table) (s .bytes) o
+      → y ≡ reception (Refused (placeFault (placeAt (s .table) (heldAt (s .table) (keyOf (fieldsOf d)))) (fieldsOf d))) (s .table) (s .bytes) o
       → View own s d o y
   keeps : faultOf own d ≡ 0 → heldAt (s .table) (keyOf (fieldsOf d)) < four
       → placeFault (placeAt (s .table) (heldAt (s .table) (keyOf (fieldsOf d)))) (fieldsOf d) ≡ 0
@@ -104,12 +104,12 @@ module _ (t : Table) (d : List ℕ) where
 
 -- ---- the four cases
 
-module _ (own : Address) (s : State) (d o : List ℕ) (y : Outcome) where
+module _ (own : Address) (s : State) (d o : List ℕ) (y : Reception) where
   kept-by : fault own s d o ≡ 0 → Step own s d o y → SettledAfter (keepOf (s .table) (fieldsOf d) (s .bytes) (payloadOf d)) o y
   unfolding Step
   kept-by e f = rw (eq-eqb _ _ e) at f
 
-  refused-by : (n : ℕ) → fault own s d o ≡ n → (n ≡ 0 → ⊥) → Step own s d o y → y ≡ outcome (Refused n) (s .table) (s .bytes) o
+  refused-by : (n : ℕ) → fault own s d o ≡ n → (n ≡ 0 → ⊥) → Step own s d o y → y ≡ reception (Refused n) (s .table) (s .bytes) o
   unfolding Step
   refused-by n e some f = rw (e, ne-eqb _ _ some) at f
 
@@ -131,7 +131,7 @@ module _ (own : Address) (s : State) (d o : List ℕ) (y : Outcome) where
         opens e l (subst (λ (k : Keeping). SettledAfter k o y) (new-keeps (s .table) d (s .bytes) l) (kept-by is f))
 
 -- whatever a call with room does from a good state is one of these four cases
-pub view : (own : Address) (s : State) (d o : List ℕ) (y : Outcome) → Good s → most-l ≤ length o → Step own s d o y → View own s d o y
+pub view : (own : Address) (s : State) (d o : List ℕ) (y : Reception) → Good s → most-l ≤ length o → Step own s d o y → View own s d o y
 view own s d o y r h f =
     either (eqb (faultOf own d) 0)
     (λ e.

@@ -10,7 +10,7 @@ use Rattle.places_rules.specs.declared.Table.{Table}
 use Rattle.places_rules.specs.declared.Displaced.{Displaced}
 use Rattle.places_rules.specs.Places.{four, open-now, delivered, spoiled, freePlace, placeAt, withPlace, inCondition}
 use Rattle.form_rules.specs.Agree.{enoughIn}
-use Rattle.receiver_rules.specs.Promise.{Outcome, outcome, closedAt, Settled, waits, delivers, damaged}
+use Rattle.receiver_rules.specs.Promise.{Reception, reception, closedAt, Settled, waits, delivers, damaged}
 use Rattle.receiver_rules.proofs.Ranges.{written-place}
 use Rattle.link.proofs.Frame.{closed-again}
 
@@ -34,9 +34,9 @@ module _ (u : Table) (j : ℕ) (p : Place) (below : j < four) (size : length (u 
       (weighed-closed p c other (ap enoughIn (sym (written-place u j p size below)) ∙ e))
 
   -- an open place in which a fragment was just kept stays open just where what it holds does not suffice
-  pub weighed-settled : p .condition ≡ open-now → {d : Displaced} {b o : List ℕ} {y : Outcome}
+  pub weighed-settled : p .condition ≡ open-now → {d : Displaced} {b o : List ℕ} {y : Reception}
       → Settled (withPlace u j p) j d b o y → Weighed (placeAt (y .table) j)
-  unfolding outcome
+  unfolding reception
   weighed-settled is-open (waits e) =
       subst Weighed (sym (written-place u j p size below))
       (record {

@@ -118,7 +118,7 @@ pub data Beside (P : Line → Call → Type 0) : List Line → List Call → Typ
 
 -- ---- runs
 
--- a run from a fresh table, with any lent bytes, any packet buffers with room and any outcomes that meet the promise, in which comes what the
+-- a run from a fresh table, with any lent bytes, any packet buffers with room and any receptions that meet the promise, in which comes what the
 -- lines say, THE OLDEST FIRST
 pub record Played (lines : List Line) : Type 0 where
   pub lent : List ℕ

@@ -11,7 +11,7 @@ use Rattle.base_rules.specs.Bytes.{Bytes}
 use Rattle.cut_rules.specs.declared.Address.{Address}
 use Rattle.header_rules.specs.Read.{fieldsOf, faultOf}
 use Rattle.places_rules.specs.Places.{four, open-now, freshTable, placeAt, keyOf, heldAt}
-use Rattle.receiver_rules.specs.Promise.{Outcome, State, Step, all-places}
+use Rattle.receiver_rules.specs.Promise.{Reception, State, Step, all-places}
 use Rattle.receiver_rules.specs.Calls.{shownOf, queryCall}
 
 -- a call: the configured address, the datagram, the packet buffer that is lent, and what the call left
@@ -19,7 +19,7 @@ pub record Call : Type 0 where
   pub own : Address
   pub datagram : List ℕ
   pub lent : List ℕ
-  pub left : Outcome
+  pub left : Reception
 
 -- the state that a call leaves to the next one
 abbrev pub after : Call → State

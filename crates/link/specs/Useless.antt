@@ -15,7 +15,7 @@ use Rattle.form_rules.specs.Agree.{missingIn}
 use Rattle.sender_rules.specs.Calls.{fragmentCall, fragmentsCall}
 use Rattle.sender_rules.specs.Fragments.{fragmentFor, fragmentsFor}
 use Rattle.receiver_rules.specs.declared.Received.the-variants.{Refused}
-use Rattle.receiver_rules.specs.Promise.{numberOf, Outcome, State, Step, all-places}
+use Rattle.receiver_rules.specs.Promise.{numberOf, Reception, State, Step, all-places}
 use Rattle.receiver_rules.specs.Claims.{keptBy}
 use Rattle.link.specs.Run.{Call, after, freshWith, Holds, numberIn, All}
 use Rattle.link.specs.Demand.{Takes, count, keyFor, Own, enoughAfter, handing, HandsOut, Handed, HeldAfter}
@@ -24,9 +24,9 @@ use Rattle.link.specs.Demand.{Takes, count, keyFor, Own, enoughAfter, ha
 
 -- a receiver: what it leaves, from every state and for every input
 abbrev pub Receiver : Type 0
-Receiver = Address → State → List ℕ → List ℕ → Outcome
+Receiver = Address → State → List ℕ → List ℕ → Reception
 
--- it keeps the promise: each outcome meets that of `receive`
+-- it keeps the promise: each reception meets that of `receive`
 pub record Keeps (R : Receiver) : Type 0 where
   pub meets : (own : Address) (s : State) (datagram out : List ℕ) → Bytes datagram → Step own s datagram out (R own s datagram out)
 

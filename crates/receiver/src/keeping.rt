@@ -23,7 +23,7 @@ ghost use Rattle.places_rules.specs.declared.Table.{Table};
 ghost use Rattle.places_rules.specs.Places.{four, withPlace, keptIn};
 ghost use Rattle.places_rules.specs.Faults.{badPlace, badTable};
 ghost use Rattle.receiver_rules.specs.declared.Received.the-variants.{Refused};
-ghost use Rattle.receiver_rules.specs.Promise.{outcome, keepAt, Settled, SettledAfter, Step};
+ghost use Rattle.receiver_rules.specs.Promise.{reception, keepAt, Settled, SettledAfter, Step};
 ghost use Rattle.receiver_rules.specs.inner.Arrivals.{Lent, Heard, changed, Arrives};
 
 // A refusal: the record stays as it is.
@@ -43,7 +43,7 @@ fn settle(i: usize, p: Place, oldest: u8, d: Displaced, lent: &[u8], out: &mut [
     requires { ⌜ (i < four) × Lent (now lent) (now out) × (badPlace p ≡ false) ⌝ }
     ensures { λ r. ⌜ ((t : Table) → length (t .places) ≡ four → t .oldest
         ≡ oldest → Settled (withPlace t i p) i d (now (lent .entry)) (now (out .entry))
-        (outcome (r .answer) (changed t r) (now (lent .entry)) (now (out .exit)))) ⌝ }
+        (reception (r .answer) (changed t r) (now (lent .entry)) (now (out .exit)))) ⌝ }
 {
     match form::form(p, &lent[i * PLACE..], out) {
         Formed::Waits => Change {
@@ -91,7 +91,7 @@ fn keep(
     requires { ⌜ (i < four) × Lent (now lent) (now out) × Heard h (now payload) × (badPlace (keptIn p h) ≡ false) ⌝ }
     ensures { λ r. ⌜ ((t : Table) → length (t .places) ≡ four → t .oldest
         ≡ oldest → SettledAfter (keepAt t i p d h (now (lent .entry)) (now (payload .entry))) (now (out .entry))
-        (outcome (r .answer) (changed t r) (now (lent .exit)) (now (out .exit)))) ⌝ }
+        (reception (r .answer) (changed t r) (now (lent .exit)) (now (out .exit)))) ⌝ }
 {
     base::put(lent, i * PLACE + places::offset_of(h), payload);
     settle(i, places::kept_in(p, h), oldest, d, &lent[..], out)
@@ -101,7 +101,7 @@ fn keep(
 fn accept(t: Table, h: Header, lent: &mut [u8], payload: &[u8], out: &mut [u8]) -> Change
     requires { ⌜ (badTable t ≡ false) × Lent (now lent) (now out) × Heard h (now payload) ⌝ }
     ensures { λ r. ⌜ Arrives t h (now (lent .entry)) (now (payload .entry)) (now (out .entry))
-        (outcome (r .answer) (changed t r) (now (lent .exit)) (now (out .exit))) ⌝ }
+        (reception (r .answer) (changed t r) (now (lent .exit)) (now (out .exit))) ⌝ }
 {
     let i = places::held_at(t, h);
     if i < FOUR {
@@ -121,7 +121,7 @@ fn accept(t: Table, h: Header, lent: &mut [u8], payload: &[u8], out: &mut [u8]) 
 // What a datagram changes.
 fn change_by(own: Address, table: Table, lent: &mut [u8], datagram: &[u8], out: &mut [u8]) -> Change
     ensures { λ r. ⌜ Step own (record { table = table; bytes = now (lent .entry) }) (now (datagram .entry)) (now (out .entry))
-        (outcome (r .answer) (changed table r) (now (lent .exit)) (now (out .exit))) ⌝ }
+        (reception (r .answer) (changed table r) (now (lent .exit)) (now (out .exit))) ⌝ }
 {
     let n = room_fault(table, lent.len(), out.len());
     if n != 0 {
@@ -146,7 +146,7 @@ pub fn receive(
     out: &mut [u8],
 ) -> Reply
     ensures { λ r. ⌜ Step own (record { table = table; bytes = now (lent .entry) }) (now (datagram .entry)) (now (out .entry))
-        (outcome (r .answer) (r .table) (now (lent .exit)) (now (out .exit))) ⌝ }
+        (reception (r .answer) (r .table) (now (lent .exit)) (now (out .exit))) ⌝ }
 {
     let c = change_by(own, table, lent, datagram, out);
     let places = table.places;

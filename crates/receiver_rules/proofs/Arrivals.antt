@@ -18,7 +18,7 @@ use Rattle.places_rules.proofs.Proved.{kept-in-range, opened-in-range}
 use Rattle.receiver_rules.specs.declared.Change.{Change}
 use Rattle.receiver_rules.specs.declared.Received.{Received}
 use Rattle.receiver_rules.specs.declared.Received.the-variants.{Refused}
-use Rattle.receiver_rules.specs.Promise.{Outcome, outcome, heldFault, keepAt, keepOf, SettledAfter}
+use Rattle.receiver_rules.specs.Promise.{Reception, reception, heldFault, keepAt, keepOf, SettledAfter}
 use Rattle.receiver_rules.specs.inner.Arrivals.{changed, Arrives}
 use Rattle.receiver_rules.proofs.Ranges.{place-fine, opens-below}
 
@@ -32,7 +32,7 @@ pub left-out : (A : Type 0) {B : Type 0} {b : Bool} → b ≡ false → B → co
 left-out A {B} e x = subst (λ (v : Bool). cond v A B) (sym e) x
 
 -- what a refusal leaves
-pub refusal-is : {a : Received} {u t : Table} {n : ℕ} (b out : List ℕ) → (u ≡ t) × (a ≡ Refused n) → outcome a u b out ≡ outcome (Refused n) t b out
+pub refusal-is : {a : Received} {u t : Table} {n : ℕ} (b out : List ℕ) → (u ≡ t) × (a ≡ Refused n) → reception a u b out ≡ reception (Refused n) t b out
 refusal-is b out e = rw (e .0, e .1)
 
 -- the turn changes no place
@@ -47,12 +47,12 @@ turned-change t j c is-u = ap (λ (x : Table). changed x c) is-u
 -- ---- what the place that holds it says
 
 module _ (t : Table) (h : Header) (b payload out : List ℕ) where
-  refused : {n : ℕ} {y : Outcome} → n ≡ heldFault t h → (n ≡ 0 → ⊥) → y ≡ outcome (Refused n) t b out → Arrives t h b payload out y
+  refused : {n : ℕ} {y : Reception} → n ≡ heldFault t h → (n ≡ 0 → ⊥) → y ≡ reception (Refused n) t b out → Arrives t h b payload out y
   unfolding Arrives
   refused {n} is-n some e =
-      left-out _ (ap (λ (x : ℕ). eqb x 0) (sym is-n) ∙ ne-eqb n 0 some) (e ∙ ap (λ (x : ℕ). outcome (Refused x) t b out) is-n)
+      left-out _ (ap (λ (x : ℕ). eqb x 0) (sym is-n) ∙ ne-eqb n 0 some) (e ∙ ap (λ (x : ℕ). reception (Refused x) t b out) is-n)
 
-  kept : {y : Outcome} → 0 ≡ heldFault t h → SettledAfter (keepOf t h b payload) out y → Arrives t h b payload out y
+  kept : {y : Reception} → 0 ≡ heldFault t h → SettledAfter (keepOf t h b payload) out y → Arrives t h b payload out y
   unfolding Arrives
   kept none s = chosen _ (eq-eqb _ 0 (sym none)) s
 
@@ -68,11 +68,11 @@ module _ (t : Table) (h : Header) (b payload out : List ℕ) where
       keeps-there = rw (← is-i, lt-ltb i four below, is-p)
 
       -- a refusal by the place that holds its number, with nothing changed, is what a fragment is promised
-      pub arrives-refused : {y : Outcome} → (n ≡ 0 → ⊥) → y ≡ outcome (Refused n) t b out → Arrives t h b payload out y
+      pub arrives-refused : {y : Reception} → (n ≡ 0 → ⊥) → y ≡ reception (Refused n) t b out → Arrives t h b payload out y
       arrives-refused some e = refused fault-there some e
 
       -- not refused by the place that holds its number, a fragment is kept there, displaces none, and settles
-      pub arrives-there : {y : Outcome} → n ≡ 0 → SettledAfter (keepAt t i p None h b payload) out y → Arrives t h b payload out y
+      pub arrives-there : {y : Reception} → n ≡ 0 → SettledAfter (keepAt t i p None h b payload) out y → Arrives t h b payload out y
       arrives-there none s = kept (sym none ∙ fault-there) (rw keeps-there at s)
 
     -- or none does
@@ -89,11 +89,11 @@ module _ (t : Table) (h : Header) (b payload out : List ℕ) where
       -- a fragment whose number no place holds is kept in the place that it opens, and settles
       pub arrives-new : {j : ℕ} {d : Displaced} {u : Table} {p : Place} (c : Change) (b′ out′ : List ℕ) → j ≡ openAt t → d ≡ displacedAt t j
           → u ≡ turned t j
-          → p ≡ openedBy h → SettledAfter (keepAt u j p d h b payload) out (outcome (c .answer) (changed u c) b′ out′)
-          → Arrives t h b payload out (outcome (c .answer) (changed t c) b′ out′)
+          → p ≡ openedBy h → SettledAfter (keepAt u j p d h b payload) out (reception (c .answer) (changed u c) b′ out′)
+          → Arrives t h b payload out (reception (c .answer) (changed t c) b′ out′)
       arrives-new {j} {d} {u} {p} c b′ out′ is-j is-d is-u is-p s =
           kept no-fault
-          (subst (λ (x : Table). SettledAfter (keepOf t h b payload) out (outcome (c .answer) x b′ out′)) (turned-change t j c is-u)
+          (subst (λ (x : Table). SettledAfter (keepOf t h b payload) out (reception (c .answer) x b′ out′)) (turned-change t j c is-u)
           (rw (keeps-new is-j is-d is-u is-p) at s))
 
 -- ---- the place stays in range

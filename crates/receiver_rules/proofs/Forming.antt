@@ -22,7 +22,7 @@ use Rattle.form_rules.specs.declared.Formed.{Formed}
 use Rattle.form_rules.specs.declared.Formed.the-variants.{Waits, Packet, Nothing, Refused}
 use Rattle.receiver_rules.specs.declared.Change.{Change}
 use Rattle.receiver_rules.specs.declared.Received.the-variants as received
-use Rattle.receiver_rules.specs.Promise.{outcome, closedAt, bytesAt, Settled, waits, delivers, damaged}
+use Rattle.receiver_rules.specs.Promise.{reception, closedAt, bytesAt, Settled, waits, delivers, damaged}
 use Rattle.receiver_rules.specs.inner.Arrivals.{Lent, changed}
 use Rattle.receiver_rules.proofs.Ranges.{written-place}
 
@@ -65,18 +65,18 @@ formed-at t i b out {p} {after} {r} {q} is-p is-r f =
 module _ (t : Table) (i : ℕ) (d : Displaced) (b out : List ℕ) {after : List ℕ} where
   module _ {u : Table} where
     -- where forming still waits, the fragment is answered as kept and the record stays
-    pub settles-waiting : PlaceFormed (placeAt t i) (bytesAt b i) out after Waits → u ≡ t → Settled t i d b out (outcome (received.Kept d) u b after)
+    pub settles-waiting : PlaceFormed (placeAt t i) (bytesAt b i) out after Waits → u ≡ t → Settled t i d b out (reception (received.Kept d) u b after)
     settles-waiting f is-u = rw (is-u, f .left .1) (waits (f .left .0))
 
     -- where forming gave a packet, it is delivered and the place becomes delivered
     pub settles-delivered : {n m : ℕ} → PlaceFormed (placeAt t i) (bytesAt b i) out after (Packet n m) → u ≡ closedAt t i delivered
-        → Settled t i d b out (outcome (received.Delivered n m d) u b after)
+        → Settled t i d b out (reception (received.Delivered n m d) u b after)
     settles-delivered f is-u =
         let h = f .left .1 in rw (h .told, h .missing, is-u, h .written) (delivers (h .packet) (f .left .0) (h .agrees))
 
     -- where forming found no packet that agrees, the answer is 13 and the place becomes spoiled
     pub settles-damaged : PlaceFormed (placeAt t i) (bytesAt b i) out after Nothing → u ≡ closedAt t i spoiled
-        → Settled t i d b out (outcome (received.Damaged d) u b after)
+        → Settled t i d b out (reception (received.Damaged d) u b after)
     settles-damaged f is-u = rw (is-u, f .left .2) (damaged (f .left .0) (f .left .1))
 
 -- ---- forming is not refused

@@ -1,4 +1,4 @@
--- What an outcome that fits the promise of `receive` has left, by its answer. Assumes nothing.
+-- What an reception that fits the promise of `receive` has left, by its answer. Assumes nothing.
 use mathlib.Core.Path.{_≡_, refl, sym, ap, _∙_, subst}
 use mathlib.Core.Bool.{false}
 use mathlib.Core.List.{List, []}
@@ -25,7 +25,7 @@ use Rattle.places_rules.proofs.Records.{place-past}
 use Rattle.form_rules.specs.Agree.{missingIn}
 use Rattle.receiver_rules.specs.declared.Received.{Received}
 use Rattle.receiver_rules.specs.declared.Received.the-variants.{Kept, Delivered, Damaged, Refused}
-use Rattle.receiver_rules.specs.Promise.{numberOf, Outcome, outcome, State, keepAt, keepOf, closedAt, Settled, waits, delivers, damaged, Step}
+use Rattle.receiver_rules.specs.Promise.{numberOf, Reception, reception, State, keepAt, keepOf, closedAt, Settled, waits, delivers, damaged, Step}
 use Rattle.receiver_rules.specs.Promise.{payloadOf}
 use Rattle.receiver_rules.specs.Claims.{dueFor, keptBy, Writes}
 use Rattle.receiver_rules.proofs.Ranges.{fine-table, fine-room, opens-below, written-place}
@@ -49,7 +49,7 @@ module _ (t : Table) (h : Header) (b payload : List ℕ) where
 -- ---- by the answer
 
 -- what is left where a fragment was kept in place i of t
-abbrev Left : Table → ℕ → List ℕ → List ℕ → Outcome → Received → Type 0
+abbrev Left : Table → ℕ → List ℕ → List ℕ → Reception → Received → Type 0
 Left t i b out y (Kept d) = y .out ≡ out
 Left t i b out y (Delivered l m d) = Writes out (y .out) l × (m ≡ missingIn (placeAt t i)) × (m ≡ missingIn (placeAt (y .table) i))
 Left t i b out y (Damaged d) =
@@ -82,8 +82,8 @@ module _ (t : Table) (i : ℕ) where
   closed-condition below size condition = ap (λ (p : Place). p .condition) (written-place t i (inCondition (placeAt t i) condition) size below)
 
 module _ {t : Table} {i : ℕ} {d : Displaced} {b out : List ℕ} (below : i < four) (room : most-l ≤ length out) where
-  settled-left : {y : Outcome} → Settled t i d b out y → (a : Received) → y .answer ≡ numberOf a → Left t i b out y a
-  unfolding outcome
+  settled-left : {y : Reception} → Settled t i d b out y → (a : Received) → y .answer ≡ numberOf a → Left t i b out y a
+  unfolding reception
   settled-left (waits e) a q = subst (Left t i b out _) (received-one (Kept d) a q) refl
   settled-left (delivers P e agrees) a q =
       subst (Left t i b out _) (received-one (Delivered (length P) (missingIn (placeAt t i)) d) a q)
@@ -91,22 +91,22 @@ module _ {t : Table} {i : ℕ} {d : Displaced} {b out : List ℕ} (below : i < f
   settled-left (damaged e none) a q =
       subst (Left t i b out _) (received-one (Damaged d) a q) (refl, refl, refl, λ size. closed-condition t i below size spoiled)
 
-module _ (own : Address) (s : State) (datagram out : List ℕ) (y : Outcome) (step : Step own s datagram out y) where
+module _ (own : Address) (s : State) (datagram out : List ℕ) (y : Reception) (step : Step own s datagram out y) where
   -- where a number is due it is the answer, alone, and record, lent bytes and packet buffer stay
   pub refusing : (n : ℕ) → dueFor own s datagram out ≡ n → (n ≡ 0 → ⊥)
       → (y .answer ≡ (n, [])) × (y .table ≡ s .table) × (y .bytes ≡ s .bytes) × (y .out ≡ out)
-  unfolding outcome numberOf
+  unfolding reception numberOf
   refusing n e some =
       let q = step-refused own s datagram out (λ z. some (sym e ∙ z)) step in (
-        ap (λ (o : Outcome). o .answer) q ∙ ap (λ (x : ℕ). (x, [])) e,
-        ap (λ (o : Outcome). o .table) q,
-        ap (λ (o : Outcome). o .bytes) q,
-        ap (λ (o : Outcome). o .out) q,
+        ap (λ (o : Reception). o .answer) q ∙ ap (λ (x : ℕ). (x, [])) e,
+        ap (λ (o : Reception). o .table) q,
+        ap (λ (o : Reception). o .bytes) q,
+        ap (λ (o : Reception). o .out) q,
       )
 
   -- by the answer: kept leaves the packet buffer, delivered writes a packet there, 13 spoils the place
   pub left-by : (a : Received) → y .answer ≡ numberOf a → Left (keptBy s datagram .table) (keptBy s datagram .at) (keptBy s datagram .bytes) out y a
-  unfolding outcome
+  unfolding reception
   left-by a q =
       let due : ℕ = dueFor own s datagram out in
       either (eqb due 0)
@@ -118,5 +118,5 @@ module _ (own : Address) (s : State) (datagram out : List ℕ) (y : Outcome) (st
       (fine-room (s .table) (length (s .bytes)) (length out) passed .1)
       (step-settled own s datagram out none step) a q)
       (λ e.
-      let is = ap (λ (o : Outcome). o .answer) (step-refused own s datagram out (eqb-false due 0 e) step) in
+      let is = ap (λ (o : Reception). o .answer) (step-refused own s datagram out (eqb-false due 0 e) step) in
       subst (Left (keptBy s datagram .table) (keptBy s datagram .at) (keptBy s datagram .bytes) out y) (received-one (Refused due) a (sym is ∙ q)) tt)

@@ -19,7 +19,7 @@ use Rattle.places_rules.specs.declared.Table.{Table}
 use Rattle.places_rules.specs.declared.Displaced.{Displaced}
 use Rattle.places_rules.specs.Places.{four, isLast, offsetOf, withPlace, keptIn}
 use Rattle.places_rules.proofs.Records.{offset-last, offset-other}
-use Rattle.receiver_rules.specs.Promise.{Outcome, all-places, keepAt, Settled, SettledAfter}
+use Rattle.receiver_rules.specs.Promise.{Reception, all-places, keepAt, Settled, SettledAfter}
 use Rattle.receiver_rules.specs.inner.Arrivals.{Heard}
 
 module _ (h : Header) (s : Sound h) where
@@ -50,7 +50,7 @@ module _ (i : ℕ) (h : Header) (b payload : List ℕ) where
       kept-long = ap length kept-bytes ∙ splice-length b (i * place + offsetOf h) payload fits ∙ long
 
       -- and what settles then settles after keeping it
-      pub keeps-at : (t : Table) (p : Place) (d : Displaced) {out : List ℕ} {q : Place} {y : Outcome} → q ≡ keptIn p h
+      pub keeps-at : (t : Table) (p : Place) (d : Displaced) {out : List ℕ} {q : Place} {y : Reception} → q ≡ keptIn p h
           → Settled (withPlace t i q) i d after out y → SettledAfter (keepAt t i p d h b payload) out y
       unfolding keepAt
       keeps-at t p d {out} {q} {y} is-q settled =

@@ -3,18 +3,18 @@ use mathlib.Core.Path.{_∙_}
 use Rattle.header_rules.specs.Read.{fieldsOf}
 use Rattle.receiver_rules.specs.declared.Received.the-variants.{Kept, Delivered, Damaged}
 use Rattle.receiver_rules.specs.Promise.{payloadOf}
-use Rattle.receiver_rules.specs.Claims.{SomeOutcome, OneOutcome, OneReceived, OneQueried, Refusing, Untouched, DeliveryWrites, CountTold}
-use Rattle.receiver_rules.proofs.Unique.{received-one, queried-one, outcome-one}
-use Rattle.receiver_rules.proofs.Exists.{outcome-some}
+use Rattle.receiver_rules.specs.Claims.{SomeReception, OneReception, OneReceived, OneQueried, Refusing, Untouched, DeliveryWrites, CountTold}
+use Rattle.receiver_rules.proofs.Unique.{received-one, queried-one, reception-one}
+use Rattle.receiver_rules.proofs.Exists.{reception-some}
 use Rattle.receiver_rules.proofs.Left.{keeps-length, refusing, left-by}
 
--- some outcome fits the promise, whatever the record and the inputs
-pub some-outcome : SomeOutcome
-some-outcome own s datagram out = outcome-some own s datagram out
+-- some reception fits the promise, whatever the record and the inputs
+pub some-reception : SomeReception
+some-reception own s datagram out = reception-some own s datagram out
 
--- no second outcome fits the promise for the same record and inputs
-pub one-outcome : OneOutcome
-one-outcome own s datagram out y z p q = outcome-one own s datagram out y z p q
+-- no second reception fits the promise for the same record and inputs
+pub one-reception : OneReception
+one-reception own s datagram out y z p q = reception-one own s datagram out y z p q
 
 -- no second answer of `receive` has the same number and values
 pub one-received : OneReceived

@@ -22,7 +22,7 @@ use Rattle.places_rules.specs.declared.Table.{Table}
 use Rattle.places_rules.specs.Places.{withPlace}
 use Rattle.receiver_rules.specs.declared.Change.{Change}
 use Rattle.receiver_rules.specs.declared.Received.the-variants.{Refused}
-use Rattle.receiver_rules.specs.Promise.{Outcome, outcome, roomFault, heldFault, receiveFault, payloadOf, keepOf, SettledAfter, Step}
+use Rattle.receiver_rules.specs.Promise.{Reception, reception, roomFault, heldFault, receiveFault, payloadOf, keepOf, SettledAfter, Step}
 use Rattle.receiver_rules.specs.inner.Arrivals.{Heard, changed, Arrives}
 use Rattle.receiver_rules.proofs.Arrivals.{left-out}
 use Rattle.receiver_rules.proofs.Forming.{rest-part}
@@ -103,32 +103,32 @@ module _ (own : Address) (t : Table) (lent : ℕ) (s : List ℕ) (room : ℕ) {n
 -- ---- and the step that each of them is
 
 module _ (own : Address) (t : Table) (b s out : List ℕ) where
-  refused : {n : ℕ} {y : Outcome} → n ≡ receiveFault own t (length b) s (length out) → (n ≡ 0 → ⊥) → y ≡ outcome (Refused n) t b out
+  refused : {n : ℕ} {y : Reception} → n ≡ receiveFault own t (length b) s (length out) → (n ≡ 0 → ⊥) → y ≡ reception (Refused n) t b out
       → Step own (record { table = t; bytes = b }) s out y
   unfolding Step
   refused {n} is-n some e =
-      left-out _ (ap (λ (x : ℕ). eqb x 0) (sym is-n) ∙ ne-eqb n 0 some) (e ∙ ap (λ (x : ℕ). outcome (Refused x) t b out) is-n)
+      left-out _ (ap (λ (x : ℕ). eqb x 0) (sym is-n) ∙ ne-eqb n 0 some) (e ∙ ap (λ (x : ℕ). reception (Refused x) t b out) is-n)
 
   module _ {n : ℕ} (is-n : n ≡ roomFault t (length b) (length out)) where
     -- 14 and 1,
-    pub step-room : {y : Outcome} → (n ≡ 0 → ⊥) → y ≡ outcome (Refused n) t b out → Step own (record { table = t; bytes = b }) s out y
+    pub step-room : {y : Reception} → (n ≡ 0 → ⊥) → y ≡ reception (Refused n) t b out → Step own (record { table = t; bytes = b }) s out y
     step-room some e = refused (room-due own t (length b) s (length out) is-n some) some e
 
     module _ (none : n ≡ 0) where
       -- 2 to 8,
-      pub step-header : {m : ℕ} {y : Outcome} → (m ≡ faultOf own s) × (m ≡ 0 → ⊥) → y ≡ outcome (Refused m) t b out
+      pub step-header : {m : ℕ} {y : Reception} → (m ≡ faultOf own s) × (m ≡ 0 → ⊥) → y ≡ reception (Refused m) t b out
           → Step own (record { table = t; bytes = b }) s out y
       step-header m e = refused (header-due own t (length b) s (length out) is-n none (m .0) (m .1)) (m .1) e
 
       -- and then what the place says that holds its number
-      passes : (y : Outcome) → faultOf own s ≡ 0 → Arrives t (fieldsOf s) b (payloadOf s) out y → Step own (record { table = t; bytes = b }) s out y
+      passes : (y : Reception) → faultOf own s ≡ 0 → Arrives t (fieldsOf s) b (payloadOf s) out y → Step own (record { table = t; bytes = b }) s out y
       unfolding Arrives Step
       passes y passed arrives =
-          subst (λ (x : ℕ). cond (eqb x 0) (SettledAfter (keepOf t (fieldsOf s) b (payloadOf s)) out y) (y ≡ outcome (Refused x) t b out))
+          subst (λ (x : ℕ). cond (eqb x 0) (SettledAfter (keepOf t (fieldsOf s) b (payloadOf s)) out y) (y ≡ reception (Refused x) t b out))
           (held-due own t (length b) s (length out) is-n none passed) arrives
 
       -- a datagram that passes 14 and 1 to 8 leaves what the arrival of its fragment leaves
-      pub step-arrives : (y : Outcome) {h : Header} → (faultOf own s ≡ 0) × (h ≡ fieldsOf s)
+      pub step-arrives : (y : Reception) {h : Header} → (faultOf own s ≡ 0) × (h ≡ fieldsOf s)
           → Arrives t h b (take (length s - (length s - h .plen)) (drop (length s - h .plen) s)) out y
           → Step own (record { table = t; bytes = b }) s out y
       step-arrives y {h} p arrives =
@@ -141,8 +141,8 @@ module _ (own : Address) (t : Table) (b s out : List ℕ) where
 -- a record built anew with the changed place and turn is the one that the step leaves
 pub step-changed : (own : Address) (t : Table) (b s out : List ℕ) (c : Change) {u : Table} (b′ out′ : List ℕ)
     → u ≡ withPlace (record { places = t .places; oldest = c .oldest }) (c .at) (c .place)
-    → Step own (record { table = t; bytes = b }) s out (outcome (c .answer) (changed t c) b′ out′)
-    → Step own (record { table = t; bytes = b }) s out (outcome (c .answer) u b′ out′)
+    → Step own (record { table = t; bytes = b }) s out (reception (c .answer) (changed t c) b′ out′)
+    → Step own (record { table = t; bytes = b }) s out (reception (c .answer) u b′ out′)
 unfolding changed
 step-changed own t b s out c {u} b′ out′ is-u step =
-    subst (λ (x : Table). Step own (record { table = t; bytes = b }) s out (outcome (c .answer) x b′ out′)) (sym is-u) step
+    subst (λ (x : Table). Step own (record { table = t; bytes = b }) s out (reception (c .answer) x b′ out′)) (sym is-u) step

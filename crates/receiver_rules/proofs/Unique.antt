@@ -1,4 +1,4 @@
--- No second outcome fits the promise of `receive`, and no second answer has the same number and values. Assumes nothing.
+-- No second reception fits the promise of `receive`, and no second answer has the same number and values. Assumes nothing.
 use mathlib.Core.Path.{_≡_, refl, sym, ap, _∙_, subst}
 use mathlib.Core.Bool.{true, false, cond}
 use mathlib.Core.List.{List, [], _∷_, _++_, append-assoc, append-nil}
@@ -27,7 +27,7 @@ use Rattle.receiver_rules.specs.declared.Seen.the-variants as seen
 use Rattle.receiver_rules.specs.declared.Shown.{Shown}
 use Rattle.receiver_rules.specs.declared.Queried.{Queried}
 use Rattle.receiver_rules.specs.declared.Queried.the-variants as queried
-use Rattle.receiver_rules.specs.Promise.{displacedValues, numberOf, Outcome, outcome, State, roomFault, receiveFault, payloadOf, keepAt}
+use Rattle.receiver_rules.specs.Promise.{displacedValues, numberOf, Reception, reception, State, roomFault, receiveFault, payloadOf, keepAt}
 use Rattle.receiver_rules.specs.Promise.{keepOf, bytesAt, Settled, waits, delivers, damaged, SettledAfter, Step}
 use Rattle.receiver_rules.specs.Calls.{seenValues, queriedNumber}
 use Rattle.receiver_rules.specs.Claims.{dueFor, keptBy}
@@ -169,10 +169,10 @@ module _ (own : Address) (t : Table) (lent : ℕ) (datagram b payload : List ℕ
       (λ e. rw e (kept-low t held (placeAt t held) h (low-held held (ltb-true held four e))))
       (λ e. rw e (kept-low (turned t (openAt t)) (openAt t) (openedBy h) h low-opened))
 
--- ---- outcomes
+-- ---- receptions
 
 module _ {t : Table} {i : ℕ} {d : Displaced} {b out : List ℕ} (low : Low (placeAt t i)) where
-  settled-one : {y z : Outcome} → Settled t i d b out y → Settled t i d b out z → y ≡ z
+  settled-one : {y z : Reception} → Settled t i d b out y → Settled t i d b out z → y ≡ z
   settled-one (waits e) (waits f) = refl
   settled-one (waits e) (delivers Q f c) = clash f e
   settled-one (waits e) (damaged f c) = clash f e
@@ -185,19 +185,19 @@ module _ {t : Table} {i : ℕ} {d : Displaced} {b out : List ℕ} (low : Low (pl
 
 module _ (own : Address) (s : State) (datagram out : List ℕ) where
   -- the two cases of the promise
-  pub step-settled : {y : Outcome} → dueFor own s datagram out ≡ 0 → Step own s datagram out y → SettledAfter (keptBy s datagram) out y
+  pub step-settled : {y : Reception} → dueFor own s datagram out ≡ 0 → Step own s datagram out y → SettledAfter (keptBy s datagram) out y
   unfolding Step
   step-settled e step = rw (eq-eqb (dueFor own s datagram out) 0 e) at step
 
-  -- where a number is due, the outcome is that refusal with nothing changed
-  pub step-refused : {y : Outcome} → (dueFor own s datagram out ≡ 0 → ⊥) → Step own s datagram out y
-      → y ≡ outcome (Refused (dueFor own s datagram out)) (s .table) (s .bytes) out
+  -- where a number is due, the reception is that refusal with nothing changed
+  pub step-refused : {y : Reception} → (dueFor own s datagram out ≡ 0 → ⊥) → Step own s datagram out y
+      → y ≡ reception (Refused (dueFor own s datagram out)) (s .table) (s .bytes) out
   unfolding Step
   step-refused e step = rw (ne-eqb (dueFor own s datagram out) 0 e) at step
 
-  -- no two outcomes fit the promise for the same record and inputs
-  pub outcome-one : (y z : Outcome) → Step own s datagram out y → Step own s datagram out z → y ≡ z
-  outcome-one y z p q =
+  -- no two receptions fit the promise for the same record and inputs
+  pub reception-one : (y z : Reception) → Step own s datagram out y → Step own s datagram out z → y ≡ z
+  reception-one y z p q =
       either (eqb (dueFor own s datagram out) 0)
       (λ e.
       let none : dueFor own s datagram out ≡ 0 = eqb-true (dueFor own s datagram out) 0 e in

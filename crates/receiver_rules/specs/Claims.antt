@@ -10,19 +10,19 @@ use Rattle.header_rules.specs.Read.{fieldsOf}
 use Rattle.places_rules.specs.declared.Displaced.{Displaced}
 use Rattle.places_rules.specs.Places.{four, spoiled, placeAt}
 use Rattle.form_rules.specs.Agree.{missingIn}
-use Rattle.receiver_rules.specs.Promise.{numberOf, Outcome, State, Step, receiveFault, payloadOf, Keeping, keepOf, closedAt}
+use Rattle.receiver_rules.specs.Promise.{numberOf, Reception, State, Step, receiveFault, payloadOf, Keeping, keepOf, closedAt}
 use Rattle.receiver_rules.specs.Calls.{queriedNumber}
 use Rattle.receiver_rules.specs.declared.Received.{Received}
 use Rattle.receiver_rules.specs.declared.Received.the-variants.{Kept, Delivered, Damaged}
 use Rattle.receiver_rules.specs.declared.Queried.{Queried}
 
--- the promise asks nothing impossible: some outcome fits it, whatever the record and the inputs
-abbrev pub SomeOutcome : Type 0
-SomeOutcome = (own : Address) (s : State) (datagram out : List ℕ) → (y : Outcome) × Step own s datagram out y
+-- the promise asks nothing impossible: some reception fits it, whatever the record and the inputs
+abbrev pub SomeReception : Type 0
+SomeReception = (own : Address) (s : State) (datagram out : List ℕ) → (y : Reception) × Step own s datagram out y
 
--- document 01, "What a promise has to say here": no second outcome fits the promise, whatever the record and the inputs
-abbrev pub OneOutcome : Type 0
-OneOutcome = (own : Address) (s : State) (datagram out : List ℕ) (y z : Outcome) → Step own s datagram out y → Step own s datagram out z → y ≡ z
+-- document 01, "What a promise has to say here": no second reception fits the promise, whatever the record and the inputs
+abbrev pub OneReception : Type 0
+OneReception = (own : Address) (s : State) (datagram out : List ℕ) (y z : Reception) → Step own s datagram out y → Step own s datagram out z → y ≡ z
 
 -- and no second answer of `receive` has the same number and values,
 abbrev pub OneReceived : Type 0
@@ -32,7 +32,7 @@ OneReceived = (a b : Received) → numberOf a ≡ numberOf b → a ≡ b
 abbrev pub OneQueried : Type 0
 OneQueried = (a b : Queried) → queriedNumber a ≡ queriedNumber b → a ≡ b
 
--- ---- what any outcome that fits the promise has left
+-- ---- what any reception that fits the promise has left
 
 -- document 01, "A fragment is checked in the order 14, then 1 to 12": the number that is due, 0 where the fragment is kept
 abbrev pub dueFor : Address → State → List ℕ → List ℕ → ℕ
@@ -45,14 +45,14 @@ keptBy s datagram = keepOf (s .table) (fieldsOf datagram) (s .bytes) (payloadOf 
 -- "Every refusal but 13 leaves state and lent bytes untouched"
 abbrev pub Refusing : Type 0
 Refusing =
-    (own : Address) (s : State) (datagram out : List ℕ) (y : Outcome) → Step own s datagram out y
+    (own : Address) (s : State) (datagram out : List ℕ) (y : Reception) → Step own s datagram out y
     → (n : ℕ) → dueFor own s datagram out ≡ n → (n ≡ 0 → ⊥)
     → (y .answer ≡ (n, [])) × (y .table ≡ s .table) × (y .bytes ≡ s .bytes) × (y .out ≡ out)
 
 -- "a fragment that is only kept writes none of it"; "13 keeps the fragment, spoils its place, leaves the packet buffer untouched"
 abbrev pub Untouched : Type 0
 Untouched =
-    (own : Address) (s : State) (datagram out : List ℕ) (y : Outcome) → Step own s datagram out y
+    (own : Address) (s : State) (datagram out : List ℕ) (y : Reception) → Step own s datagram out y
     → (d : Displaced)
     → (y .answer ≡ numberOf (Kept d) → y .out ≡ out)
     × (y .answer ≡ numberOf (Damaged d)
@@ -73,13 +73,13 @@ pub record Writes (out after : List ℕ) (l : ℕ) : Type 0 where
 -- document 01: the length that a delivery tells is that of what it writes
 abbrev pub DeliveryWrites : Type 0
 DeliveryWrites =
-    (own : Address) (s : State) (datagram out : List ℕ) (y : Outcome) → Step own s datagram out y
+    (own : Address) (s : State) (datagram out : List ℕ) (y : Reception) → Step own s datagram out y
     → (l m : ℕ) (d : Displaced) → y .answer ≡ numberOf (Delivered l m d) → Writes out (y .out) l
 
 -- "A false count of missing fragments contradicts the kept set": that of the place when it kept the fragment, and as the record is left
 abbrev pub CountTold : Type 0
 CountTold =
-    (own : Address) (s : State) (datagram out : List ℕ) (y : Outcome) → Step own s datagram out y
+    (own : Address) (s : State) (datagram out : List ℕ) (y : Reception) → Step own s datagram out y
     → (l m : ℕ) (d : Displaced) → y .answer ≡ numberOf (Delivered l m d)
     → (m ≡ missingIn (placeAt (keptBy s datagram .table) (keptBy s datagram .at)))
     × (m ≡ missingIn (placeAt (y .table) (keptBy s datagram .at)))

@@ -37,16 +37,16 @@ numberOf (Delivered length missing d) = (0, length ∷ missing ∷ displacedValu
 numberOf (Damaged d) = (13, displacedValues d)
 numberOf (Refused n) = (n, [])
 
--- what a call leaves: its answer, the record, the 49,152 lent bytes and the packet buffer
-pub record Outcome : Type 0 where
+-- a reception is what a call of `receive` leaves: its answer, the record, the 49,152 lent bytes and the packet buffer
+pub record Reception : Type 0 where
   pub answer : ℕ × List ℕ
   pub table : Table
   pub bytes : List ℕ
   pub out : List ℕ
 
--- what a call with this answer leaves
-unfoldable pub outcome : Received → Table → List ℕ → List ℕ → Outcome
-outcome a t b o = record { answer = numberOf a; table = t; bytes = b; out = o }
+-- the reception with this answer
+unfoldable pub reception : Received → Table → List ℕ → List ℕ → Reception
+reception a t b o = record { answer = numberOf a; table = t; bytes = b; out = o }
 
 -- ---- refusals
 
@@ -117,15 +117,15 @@ bytesAt b i = drop (i * place) b
 
 -- document 01: after a fragment was kept in a place. While its fragments do not suffice nothing more happens. When they do: a packet that
 -- agrees is handed out, at the front of out; where none agrees the place is spoiled, and out stays as it is
-pub data Settled (t : Table) (i : ℕ) (d : Displaced) (b out : List ℕ) : Outcome → Type 0 where
-  waits : enoughIn (placeAt t i) ≡ false → Settled t i d b out (outcome (Kept d) t b out)
+pub data Settled (t : Table) (i : ℕ) (d : Displaced) (b out : List ℕ) : Reception → Type 0 where
+  waits : enoughIn (placeAt t i) ≡ false → Settled t i d b out (reception (Kept d) t b out)
   delivers : (P : List ℕ) → enoughIn (placeAt t i) ≡ true → Agrees (placeAt t i) (bytesAt b i) P
-      → Settled t i d b out (outcome (Delivered (length P) (missingIn (placeAt t i)) d) (closedAt t i delivered) b (splice out 0 P))
+      → Settled t i d b out (reception (Delivered (length P) (missingIn (placeAt t i)) d) (closedAt t i delivered) b (splice out 0 P))
   damaged : enoughIn (placeAt t i) ≡ true → ((P : List ℕ) → Agrees (placeAt t i) (bytesAt b i) P → ⊥)
-      → Settled t i d b out (outcome (Damaged d) (closedAt t i spoiled) b out)
+      → Settled t i d b out (reception (Damaged d) (closedAt t i spoiled) b out)
 
 -- the same of what keeping left
-abbrev pub SettledAfter : Keeping → List ℕ → Outcome → Type 0
+abbrev pub SettledAfter : Keeping → List ℕ → Reception → Type 0
 SettledAfter k out y = Settled (k .table) (k .at) (k .displaced) (k .bytes) out y
 
 -- ---- the promise
@@ -136,8 +136,8 @@ pub record State : Type 0 where
   pub bytes : List ℕ
 
 -- "Every refusal but 13 leaves state and lent bytes untouched"; else the fragment is kept, and it settles as above
-unfoldable pub Step : Address → State → List ℕ → List ℕ → Outcome → Type 0
+unfoldable pub Step : Address → State → List ℕ → List ℕ → Reception → Type 0
 Step own s datagram out y =
     cond (eqb (receiveFault own (s .table) (length (s .bytes)) datagram (length out)) 0)
     (SettledAfter (keepOf (s .table) (fieldsOf datagram) (s .bytes) (payloadOf datagram)) out y)
-    (y ≡ outcome (Refused (receiveFault own (s .table) (length (s .bytes)) datagram (length out))) (s .table) (s .bytes) out)
+    (y ≡ reception (Refused (receiveFault own (s .table) (length (s .bytes)) datagram (length out))) (s .table) (s .bytes) out)

@@ -1,4 +1,4 @@
-// Clause 7.4 as definitions: what the receiver answers, keeps and hands out, and that no second outcome fits. No functions: crate
+// Clause 7.4 as definitions: what the receiver answers, keeps and hands out, and that no second reception fits. No functions: crate
 // `receiver` has them.
 use base_rules::Written;
 use places_rules::Displaced;

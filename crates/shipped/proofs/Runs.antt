@@ -17,9 +17,9 @@ use Rattle.packed_rules.proofs.Proved.{unpacks}
 use Rattle.places_rules.specs.declared.Table.{Table}
 use Rattle.places_rules.specs.Places.{freshTable}
 use Rattle.receiver_rules.specs.Promise as promise
-use Rattle.receiver_rules.specs.Promise.{Outcome, outcome, all-places, Step}
+use Rattle.receiver_rules.specs.Promise.{Reception, reception, all-places, Step}
 use Rattle.receiver_rules.specs.declared.Received.{Received}
-use Rattle.receiver_rules.proofs.Proved.{some-outcome}
+use Rattle.receiver_rules.proofs.Proved.{some-reception}
 use Rattle.card_rules.specs.Calls.{addressOf}
 use Rattle.card_rules.specs.Told.{bytesFor}
 use Rattle.card_rules.specs.Receiving.{onRecord, receipt-widths, toldAfter, Held, ReceivedWith, CardReceived}
@@ -81,11 +81,11 @@ module _ (s : Buffers) (e : Call) (stands : Stands s) (m : Made s e) where
       with-record (addressOf (e .addressed) (e .source) (e .dest)) (e .datagram) before (e .left) (e .given) (m .meets) (stands .read)
       (room-told (e .told) (m .told-room))
 
-  abbrev left : Outcome
-  left = outcome (with .answer) (with .table) (e .left .lent) (e .left .out)
+  abbrev left : Reception
+  left = reception (with .answer) (with .table) (e .left .lent) (e .left .out)
 
   fits : Fits (with .answer)
-  unfolding outcome
+  unfolding reception
   fits = step-fits (callOf e .own) (stateOf s) (e .datagram) (e .out) left (stands .good) (stands .typed) (m .room) (with .step) (with .answer) refl
 
   answer-read : callOf e .left .answer ≡ promise.numberOf (with .answer)
@@ -93,7 +93,7 @@ module _ (s : Buffers) (e : Call) (stands : Stands s) (m : Made s e) where
 
   -- what the caller reads of the call is what it left
   read-left : left ≡ callOf e .left
-  unfolding outcome
+  unfolding reception
   read-left =
       ap₂ (λ (a : ℕ × List ℕ) (t : Table). record { answer = a; table = t; bytes = e .left .lent; out = e .left .out })
       (sym answer-read) (taken (e .left .record-bytes) (with .table) (with .read-back) .1)
@@ -161,15 +161,15 @@ made-gave c m = call-gave _ _ (reached-stands c) m
 -- ---- there are calls
 
 module _ (s : Buffers) (stands : Stands s) (own : Address) (datagram told out : List ℕ) (room : most-l ≤ length out)
-    (told-room : receipt-bytes ≤ length told) (bytes : Bytes datagram) (y : Outcome) (step : Step own (stateOf s) datagram out y) where
+    (told-room : receipt-bytes ≤ length told) (bytes : Bytes datagram) (y : Reception) (step : Step own (stateOf s) datagram out y) where
   answers : Answers y
   answers = step-answers own (stateOf s) datagram out y (stands .good) (stands .typed) room step
 
-  is-outcome : y ≡ outcome (answers .0) (y .table) (y .bytes) (y .out)
-  unfolding outcome
-  is-outcome = ap (λ (a : ℕ × List ℕ). record { answer = a; table = y .table; bytes = y .bytes; out = y .out }) (answers .1)
+  is-reception : y ≡ reception (answers .0) (y .table) (y .bytes) (y .out)
+  unfolding reception
+  is-reception = ap (λ (a : ℕ × List ℕ). record { answer = a; table = y .table; bytes = y .bytes; out = y .out }) (answers .1)
 
-  -- what a call with that outcome leaves: the record packed, the answer told
+  -- what a call with that reception leaves: the record packed, the answer told
   abbrev left-by : Held
   left-by = record { record-bytes = packedOf (y .table); lent = y .bytes; told = toldAfter (answers .0) told; out = y .out }
 
@@ -179,7 +179,7 @@ module _ (s : Buffers) (stands : Stands s) (own : Address) (datagram told out : 
   received = rw (eq-eqb (unpackFault (s .table)) 0 (stands .read), le-ltb (length told) (bytesFor receipt-widths) (room-told told told-room)) (record {
     answer = answers .0;
     table = y .table;
-    step = subst (Step own (stateOf s) datagram out) is-outcome step;
+    step = subst (Step own (stateOf s) datagram out) is-reception step;
     packed = refl;
     read-back = unpacks (y .table) (step-typed own (stateOf s) datagram out y (stands .good) (stands .typed) bytes room step);
     told = refl;
@@ -191,7 +191,7 @@ pub some-call : SomeCall
 some-call s c addressed source dest datagram told out room told-room bytes =
     let own = addressOf addressed source dest in
     let stands = reached-stands c in
-    let y = some-outcome own (stateOf s) datagram out in (
+    let y = some-reception own (stateOf s) datagram out in (
       left-by s stands own datagram told out room told-room bytes (y .0) (y .1),
       promise.numberOf (answers s stands own datagram told out room told-room bytes (y .0) (y .1) .0) .0,
       record { room = room; told-room = told-room; bytes = bytes; meets = received s stands own datagram told out room told-room bytes (y .0) (y .1) },

@@ -16,7 +16,7 @@ use Rattle.places_rules.specs.declared.Table.{Table}
 use Rattle.places_rules.specs.declared.Displaced.{Displaced}
 use Rattle.places_rules.specs.Places.{open-now, placeAt, keyIn, displacedAt}
 use Rattle.places_rules.specs.Faults.{placeFault}
-use Rattle.receiver_rules.specs.Promise.{numberOf, Outcome, outcome, keepAt, Settled, waits, delivers, damaged, State, Step}
+use Rattle.receiver_rules.specs.Promise.{numberOf, Reception, reception, keepAt, Settled, waits, delivers, damaged, State, Step}
 use Rattle.receiver_rules.specs.declared.Received.{Received}
 use Rattle.receiver_rules.specs.declared.Received.the-variants.{Kept, Delivered, Damaged, Refused}
 use Rattle.receiver_rules.proofs.Proved.{one-received}
@@ -34,26 +34,26 @@ unfolding displacedAt
 displaced-fits t i l = either (eqb (placeAt t i .condition) open-now) (λ e. rw e l) (λ e. rw e tt)
 
 -- an answer whose numbers are those of y, and which is told whole
-abbrev pub Answers : Outcome → Type 0
+abbrev pub Answers : Reception → Type 0
 Answers y = (a : Received) × (y .answer ≡ numberOf a) × Fits a
 
-settled-fits : {t : Table} {i : ℕ} {d : Displaced} {b out : List ℕ} {y : Outcome} → FitsDisplaced d
+settled-fits : {t : Table} {i : ℕ} {d : Displaced} {b out : List ℕ} {y : Reception} → FitsDisplaced d
     → ((l m : ℕ) (d : Displaced) → y .answer ≡ numberOf (Delivered l m d) → (l ≤ most-l) × (m ≤ most-f))
     → Settled t i d b out y → Answers y
-unfolding outcome
+unfolding reception
 settled-fits {d = d} f whole (waits e) = (Kept d, refl, f)
 settled-fits {d = d} f whole (delivers P e a) =
     (Delivered _ _ d, refl, (omega (arith, whole _ _ d refl .0), omega (arith, whole _ _ d refl .1), f))
 settled-fits {d = d} f whole (damaged e a) = (Damaged d, refl, f)
 
-module _ (own : Address) (s : State) (d o : List ℕ) (y : Outcome) (r : Good s) (typed : TypedTable (s .table)) where
+module _ (own : Address) (s : State) (d o : List ℕ) (y : Reception) (r : Good s) (typed : TypedTable (s .table)) where
   abbrev h : Header
   h = fieldsOf d
 
   view-fits : Step own s d o y → View own s d o y → Answers y
-  unfolding outcome keepAt
-  view-fits step (unheard n q) = (Refused (faultOf own d), ap (λ (z : Outcome). z .answer) q, (n, header-other own d))
-  view-fits step (refuses e l n q) = (Refused (placeFault _ h), ap (λ (z : Outcome). z .answer) q, (n, place-other _ h))
+  unfolding reception keepAt
+  view-fits step (unheard n q) = (Refused (faultOf own d), ap (λ (z : Reception). z .answer) q, (n, header-other own d))
+  view-fits step (refuses e l n q) = (Refused (placeFault _ h), ap (λ (z : Reception). z .answer) q, (n, place-other _ h))
   view-fits step (keeps e l n z) = settled-fits tt (receipt-whole own s d o y step) z
   view-fits step (opens e l z) =
       settled-fits (displaced-fits (s .table) _ (key-small (typed .each _ (opens-below (s .table) (r .ranged))))) (receipt-whole own s d o y step) z

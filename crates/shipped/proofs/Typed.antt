@@ -19,7 +19,7 @@ use Rattle.places_rules.specs.declared.Place.{Place}
 use Rattle.places_rules.specs.declared.Table.{Table}
 use Rattle.places_rules.specs.declared.Displaced.{Displaced}
 use Rattle.places_rules.specs.Places.{four, free, delivered, spoiled, placeAt, withPlace, keyIn, openAt, turned, isLast, openedBy, keptIn, inCondition}
-use Rattle.receiver_rules.specs.Promise.{Outcome, outcome, State, keepAt, closedAt, Settled, waits, delivers, damaged, Step}
+use Rattle.receiver_rules.specs.Promise.{Reception, reception, State, keepAt, closedAt, Settled, waits, delivers, damaged, Step}
 use Rattle.receiver_rules.proofs.Ranges.{opens-below, written-place}
 use Rattle.link.proofs.Basic.{same-or-not, other-place}
 use Rattle.link.proofs.View.{Good, View, unheard, refuses, keeps, opens, view}
@@ -93,19 +93,19 @@ module _ (t : Table) (typed : TypedTable t) where
     oldest = either (eqb (placeAt t i .condition) free) (λ e. rw e (typed .oldest)) (λ e. rw e (omega arith));
   }
 
-  settled-typed : {i : ℕ} {d : Displaced} {b out : List ℕ} {y : Outcome} → i < four → Settled t i d b out y → TypedTable (y .table)
-  unfolding outcome closedAt
+  settled-typed : {i : ℕ} {d : Displaced} {b out : List ℕ} {y : Reception} → i < four → Settled t i d b out y → TypedTable (y .table)
+  unfolding reception closedAt
   settled-typed low (waits e) = typed
   settled-typed {i = i} low (delivers P e a) = written-typed i _ low (closed-typed (placeAt t i) delivered (lit< tt) (typed .each i low))
   settled-typed {i = i} low (damaged e a) = written-typed i _ low (closed-typed (placeAt t i) spoiled (lit< tt) (typed .each i low))
 
 -- ---- a call
 
-module _ (own : Address) (s : State) (d o : List ℕ) (y : Outcome) (r : Good s) (typed : TypedTable (s .table)) (bytes : Bytes d) where
+module _ (own : Address) (s : State) (d o : List ℕ) (y : Reception) (r : Good s) (typed : TypedTable (s .table)) (bytes : Bytes d) where
   view-typed : View own s d o y → TypedTable (y .table)
-  unfolding outcome keepAt
-  view-typed (unheard n q) = subst (λ (z : Outcome). TypedTable (z .table)) (sym q) typed
-  view-typed (refuses e l n q) = subst (λ (z : Outcome). TypedTable (z .table)) (sym q) typed
+  unfolding reception keepAt
+  view-typed (unheard n q) = subst (λ (z : Reception). TypedTable (z .table)) (sym q) typed
+  view-typed (refuses e l n q) = subst (λ (z : Reception). TypedTable (z .table)) (sym q) typed
   view-typed (keeps e l n z) =
       settled-typed _ (written-typed (s .table) typed _ _ l (kept-typed (fieldsOf d) (passed-sound own d bytes e) _ (typed .each _ l))) l z
   view-typed (opens e l z) =

@@ -1,13 +1,8 @@
 -- What the definitions of the private functions write short.
 use mathlib.Core.List.{List}
 use Prim.Native.Nat.{ℕ, _*_}
-use lib.ListN.{getD}
 use Rattle.base_rules.specs.Bounds.{parity}
 use Rattle.base_rules.specs.Table as base
-
--- the first of a list, 0 where there is none
-abbrev pub first : List ℕ → ℕ
-first l = getD l 0 0
 
 -- f 0, f 1, .., n of them
 abbrev pub table : ℕ → (ℕ → ℕ) → List ℕ

@@ -12,7 +12,7 @@ use Rattle.places_rules.specs.declared.Table.{Table}
 use Rattle.places_rules.specs.Places.{withPlace}
 use Rattle.receiver_rules.specs.declared.Change.{Change}
 use Rattle.receiver_rules.specs.declared.Received.the-variants.{Refused}
-use Rattle.receiver_rules.specs.Promise.{Outcome, outcome, all-places, heldFault, keepOf, SettledAfter}
+use Rattle.receiver_rules.specs.Promise.{Reception, reception, all-places, heldFault, keepOf, SettledAfter}
 
 -- document 01, 1 ROOM: the lent bytes and the packet buffer have their sizes
 pub record Lent (b out : List ℕ) : Type 0 where
@@ -29,6 +29,6 @@ unfoldable pub changed : Table → Change → Table
 changed t c = withPlace (record { places = t .places; oldest = c .oldest }) (c .at) (c .place)
 
 -- document 01, 9 to 12, and what comes after them: what a fragment whose header passed leaves
-unfoldable pub Arrives : Table → Header → List ℕ → List ℕ → List ℕ → Outcome → Type 0
+unfoldable pub Arrives : Table → Header → List ℕ → List ℕ → List ℕ → Reception → Type 0
 Arrives t h b payload out y =
-    cond (eqb (heldFault t h) 0) (SettledAfter (keepOf t h b payload) out y) (y ≡ outcome (Refused (heldFault t h)) t b out)
+    cond (eqb (heldFault t h) 0) (SettledAfter (keepOf t h b payload) out y) (y ≡ reception (Refused (heldFault t h)) t b out)
