@@ -1,6 +1,7 @@
 // Products in the field by shift and select: no table, and many lanes at a time in a loop over an array. What is computed is promised for
 // any rows lent; that rows of multiples give products is a law of code_rules.
 use base::PARITY;
+use field::REDUCED;
 ghost use mathlib.Core.Path.{_≡_};
 ghost use Prim.Native.Nat.{ℕ, _*_, _/_, _%_, _<_};
 ghost use lib.ListN.{length, getD};
@@ -13,14 +14,14 @@ ghost use Rattle.code_rules.specs.inner.Patterns.{timesAll};
 // Eight rows of lanes, each twice the one before.
 pub const MULTIPLES: usize = 8 * PARITY;
 
-// x doubled in the field: where the byte runs over, by the polynomial's low eight bits.
+// x doubled in the field: where the byte runs over, with what x^8 is.
 pub fn twice(x: u8) -> u8
     ensures { λ r. ⌜ r ≡ times2 x ⌝ }
 {
     if x < 128 {
         x + x
     } else {
-        field::sum((x - 128) + (x - 128), 29)
+        field::sum((x - 128) + (x - 128), REDUCED)
     }
 }
 

@@ -6,18 +6,18 @@ use native.Mathlib.Nat.{zero-mul, one-mul, mod-eq-of-lt}
 use native.Mathlib.Omega.{arith}
 use lib.Dec.{T, eqb, eqb→eq, ltb}
 use Rattle.base_rules.proofs.Every.{below, at}
-use Rattle.field_rules.specs.Field.{_⊕_, times2, mulBits, _⊗_}
+use Rattle.field_rules.specs.Field.{_⊕_, reduced, times2, mulBits, _⊗_}
 use Rattle.field_rules.proofs.Sums.{bit, bit-ind, add-0-r, add-self}
 use Rattle.field_rules.proofs.Products.{times2-add}
 use Rattle.code_rules.specs.inner.Kernel.{Chain, dotted}
 
-twice-test : T (below 256 (λ x. eqb (times2 x) (cond (ltb x 128) (x + x) ((x - 128 + (x - 128)) ⊕ 29))))
+twice-test : T (below 256 (λ x. eqb (times2 x) (cond (ltb x 128) (x + x) ((x - 128 + (x - 128)) ⊕ reduced))))
 unfolding times2 _⊕_
 twice-test = tt
 
--- an element times α: below 128 its double, else the double less 256, with 1D hex added in the field
-pub twice-is : (x : ℕ) → x < 256 → times2 x ≡ cond (ltb x 128) (x + x) ((x - 128 + (x - 128)) ⊕ 29)
-twice-is x h = eqb→eq _ _ (at 256 (λ x. eqb (times2 x) (cond (ltb x 128) (x + x) ((x - 128 + (x - 128)) ⊕ 29))) twice-test x h)
+-- an element times α: below 128 its double, else the double less 256, with what x^8 is added
+pub twice-is : (x : ℕ) → x < 256 → times2 x ≡ cond (ltb x 128) (x + x) ((x - 128 + (x - 128)) ⊕ reduced)
+twice-is x h = eqb→eq _ _ (at 256 (λ x. eqb (times2 x) (cond (ltb x 128) (x + x) ((x - 128 + (x - 128)) ⊕ reduced))) twice-test x h)
 
 times2-bit : (c k : ℕ) → c < 2 → times2 (c * k) ≡ c * times2 k
 times2-bit c k h =

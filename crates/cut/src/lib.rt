@@ -4,6 +4,8 @@ mod plans;
 
 pub use cut_rules::Address;
 pub use cut_rules::Figures;
+pub use cut_rules::LEAST_H;
+pub use cut_rules::MOST_H;
 pub use cut_rules::Planned;
 pub use cut_rules::Settings;
 pub use plans::house;

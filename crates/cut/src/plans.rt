@@ -1,6 +1,7 @@
 // The plan of a cut: one small function for each size, so that a change of one rule moves one function.
 use crate::Address;
 use crate::Figures;
+use crate::LEAST_H;
 use crate::Planned;
 use crate::Settings;
 use base::LEAST_L;
@@ -16,7 +17,7 @@ ghost use Prim.Native.Nat.{_+_, _≤_, _<_};
 ghost use lib.Dec.{ltb, leb};
 ghost use Rattle.base_rules.specs.Bounds.{least-l, most-l, most-f, most-k, place, most-mtu};
 ghost use Rattle.base_rules.specs.Round.{ceil};
-ghost use Rattle.cut_rules.specs.Sizes.{c, k, h, addressBytes, divisor, S, L, assured};
+ghost use Rattle.cut_rules.specs.Sizes.{c, k, h, most-h, addressBytes, divisor, S, L, assured};
 ghost use Rattle.cut_rules.specs.Sizes.{f as Sizes·f};
 ghost use Rattle.cut_rules.specs.Plan.{houseOf, fit, planOf, figuresOf, valuesOf, numberOf};
 
@@ -52,11 +53,11 @@ fn address_bytes(a: Address) -> usize
 
 // The bytes of a header, with HCRC.
 fn header(g: Settings) -> usize
-    ensures { λ r. ⌜ (r ≡ h g) × (r ≤ 20) ⌝ }
+    ensures { λ r. ⌜ (r ≡ h g) × (r ≤ most-h) ⌝ }
 {
     let a = g.address;
-    let address = address_bytes(a);
-    if g.fec { 16 + address } else { 14 + address }
+    let least = LEAST_H + address_bytes(a);
+    if g.fec { least + 2 } else { least }
 }
 
 // Whether the MTU leaves room for a byte, and is no more than may be.

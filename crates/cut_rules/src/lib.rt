@@ -1,6 +1,11 @@
 // Clause 7.2 and document 01, "PFT layer", as definitions: settings, sizes, the block, what is missing, and what is claimed of them. No
 // functions: crate `cut` has them.
 
+// The bytes of the least header and of the longest; specs/Sizes.antt says of what.
+pub const LEAST_H: usize = 14;
+
+pub const MOST_H: usize = 20;
+
 // The pair of addresses that a header carries, or none.
 pub enum Address {
     None,

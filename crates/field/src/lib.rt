@@ -11,6 +11,7 @@ mod tables;
 
 pub use field_rules::Element;
 use field_rules::Pair;
+pub use field_rules::REDUCED;
 
 // Document 01's number for a division by 0 and for the logarithm of 0.
 const ZERO: u8 = 44;

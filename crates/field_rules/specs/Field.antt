@@ -11,9 +11,13 @@ infixl 72 _⊗_
 unfoldable pub _⊕_ : ℕ → ℕ → ℕ
 _⊕_ a b = bitXor a b
 
--- clause 7.3.1: x times α = 2: doubled, and x^4 + x^3 + x^2 + 1, 1D hex, added where x^8 falls out
+-- clause 7.3.1: what x^8 is in the field, x^4 + x^3 + x^2 + 1: 11D hex without x^8
+abbrev pub reduced : ℕ
+reduced = 0x1D
+
+-- clause 7.3.1: x times α = 2: doubled, and where x^8 falls out, what it is added
 unfoldable pub times2 : ℕ → ℕ
-times2 x = x * 2 % 256 ⊕ x / 128 % 2 * 29
+times2 x = x * 2 % 256 ⊕ x / 128 % 2 * reduced
 
 -- clause 7.3.1: a times the n low coefficients of b, the highest first
 unfoldable pub mulBits : ℕ → ℕ → ℕ → ℕ

@@ -7,6 +7,9 @@ pub use header_rules::Parsed;
 pub use reading::parse;
 pub use writing::write_header;
 
+// "PF", 5046 hex.
+const SYNC: u16 = 0x5046;
+
 // The FEC bit and the Addr bit; below them are the 14 bits of Plen.
 const FEC_BIT: u16 = 32768;
 

@@ -3,11 +3,13 @@ use crate::ADDR_BIT;
 use crate::FEC_BIT;
 use crate::Header;
 use crate::Parsed;
+use crate::SYNC;
 use base::MOST_F;
 use base::MOST_K;
 use base::PARITY;
 use base::PLACE;
 use cut::Address;
+use cut::LEAST_H;
 ghost use mathlib.Core.Path.{_≡_};
 ghost use mathlib.Core.Bool.{cond, false, _||_};
 ghost use Prim.Native.Nat.{_*_, _≤_};
@@ -18,9 +20,6 @@ ghost use Rattle.header_rules.specs.Read.{hasFec, hasAddress, addressAt, addres
 ghost use Rattle.header_rules.specs.Read.{badAddress, badIndex, badSize, faultOf, parsedOf, numberOf, parseCall};
 ghost use Rattle.weave_rules.specs.Calls.{badCount, badChunk};
 ghost use Rattle.cut_rules.specs.declared.Address.the-variants.{Pair};
-
-// "PF" as a number.
-const SYNC: u16 = 0x5046;
 
 // Whether the flags call for RSk and RSz.
 fn has_fec(s: &[u8]) -> bool
@@ -93,7 +92,7 @@ fn fields_of(s: &[u8]) -> Header
 fn is_short(s: &[u8]) -> bool
     ensures { λ r. ⌜ r ≡ isShort (now (s .entry)) ⌝ }
 {
-    if s.len() < 14 {
+    if s.len() < LEAST_H {
         return true;
     }
     s.len() < body_length(s) + 2

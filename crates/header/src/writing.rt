@@ -2,8 +2,10 @@
 use crate::ADDR_BIT;
 use crate::FEC_BIT;
 use crate::Header;
+use crate::SYNC;
 use base::Written;
 use cut::Address;
+use cut::MOST_H;
 ghost use mathlib.Core.Path.{_≡_};
 ghost use Prim.Native.Nat.{_+_, _≤_};
 ghost use lib.ListN.{length, take};
@@ -36,7 +38,7 @@ fn put_front(out: &mut [u8], h: Header)
     requires { ⌜ 12 ≤ length (now out) ⌝ }
     ensures { λ _. ⌜ now (out .exit) ≡ splice (now (out .entry)) 0 (frontOf h) ⌝ }
 {
-    base::put(out, 0, b"PF");
+    base::put(out, 0, &base::bytes2(SYNC));
     base::put(out, 2, &base::bytes2(h.number));
     base::put(out, 4, &base::bytes3(h.index));
     base::put(out, 7, &base::bytes3(h.count));
@@ -83,7 +85,7 @@ fn put_crc(out: &mut [u8], at: usize)
 pub fn write_header(h: Header, out: &mut [u8]) -> Written
     ensures { λ r. ⌜ outcome (numberOf r) (now (out .exit)) ≡ writeCall h (now (out .entry)) ⌝ }
 {
-    let mut head = [0u8; 20];
+    let mut head = [0u8; MOST_H];
     put_front(&mut head, h);
     let a = put_fec(&mut head, 12, h);
     let address = h.address;

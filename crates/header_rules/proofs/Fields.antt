@@ -12,7 +12,7 @@ use Rattle.base_rules.specs.Bounds.{most-f, most-k, place, parity}
 use Rattle.base_rules.specs.Bytes.{numberAt}
 use Rattle.base_rules.proofs.ChunkSize.{k-none, k-over, k-fits}
 use Rattle.crc_rules.specs.Crc.{wordOf}
-use Rattle.cut_rules.specs.Sizes.{addressBytes}
+use Rattle.cut_rules.specs.Sizes.{least-h, addressBytes}
 use Rattle.cut_rules.specs.declared.Address.{Address}
 use Rattle.cut_rules.specs.declared.Address.the-variants.{None, Pair}
 use Rattle.weave_rules.specs.Calls.{badCount, tooMuch, badChunk}
@@ -78,15 +78,15 @@ module _ (s : List ℕ) where
 
 module _ (s : List ℕ) where
   -- a datagram under 14 bytes is short, whatever its flags
-  pub short-14 : length s < 14 → true ≡ isShort s
+  pub short-least : length s < least-h → true ≡ isShort s
   unfolding isShort
-  short-14 h = rw (lt-ltb (length s) 14 h)
+  short-least h = rw (lt-ltb (length s) least-h h)
 
   module _ (n : ℕ) (is-n : n ≡ bodyLength s) where
     -- one of 14 bytes or more is short just where it is under the header its flags call for
-    pub short-rest : 14 ≤ length s → ltb (length s) (n + 2) ≡ isShort s
+    pub short-rest : least-h ≤ length s → ltb (length s) (n + 2) ≡ isShort s
     unfolding isShort lengthOf
-    short-rest h = rw (le-ltb (length s) 14 h) (ap (λ (k : ℕ). ltb (length s) (k + 2)) is-n)
+    short-rest h = rw (le-ltb (length s) least-h h) (ap (λ (k : ℕ). ltb (length s) (k + 2)) is-n)
 
     -- a datagram that has its whole header has all the bytes that HCRC is over
     pub covered : lengthOf s ≤ length s → n ≤ length s

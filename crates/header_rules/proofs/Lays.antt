@@ -19,7 +19,7 @@ use Rattle.cut_rules.specs.Sizes.{addressBytes}
 use Rattle.cut_rules.specs.declared.Address.{Address}
 use Rattle.cut_rules.specs.declared.Address.the-variants.{None, Pair}
 use Rattle.header_rules.specs.declared.Header.{Header}
-use Rattle.header_rules.specs.Header.{fecBit, addrBit, addrFlag, flagsOf, fecPart, addressPart, frontOf, bodyOf, headerBytes, writeCall}
+use Rattle.header_rules.specs.Header.{sync, fecBit, addrBit, addrFlag, flagsOf, fecPart, addressPart, frontOf, bodyOf, headerBytes, writeCall}
 
 -- ---- the lengths
 
@@ -98,23 +98,19 @@ put-next out x y a b b′ n p long fits is-x is-b e =
 
 -- ---- the front
 
--- the two bytes of the sync
-abbrev pf : List ℕ
-pf = 80 ∷ 70 ∷ []
-
 -- the copies of "PF", Pseq, Findex, Fcount and the flags, one behind another, write the front
-pub front-laid : (h : Header) (out x₁ x₂ x₃ x₄ x₅ b₂ b₃ b₄ b₅ : List ℕ) (flags : ℕ) (p₁ p₂ p₃ p₄ p₅ : Answer) → 12 ≤ length out
-    → b₂ ≡ bytesOf 2 (h .number) → b₃ ≡ bytesOf 3 (h .index) → b₄ ≡ bytesOf 3 (h .count) → b₅ ≡ bytesOf 2 flags → flags ≡ flagsOf h
-    → outcome p₁ x₁ ≡ putOf out 0 pf → outcome p₂ x₂ ≡ putOf x₁ 2 b₂ → outcome p₃ x₃ ≡ putOf x₂ 4 b₃ → outcome p₄ x₄ ≡ putOf x₃ 7 b₄
+pub front-laid : (h : Header) (out x₁ x₂ x₃ x₄ x₅ b₁ b₂ b₃ b₄ b₅ : List ℕ) (flags : ℕ) (p₁ p₂ p₃ p₄ p₅ : Answer) → 12 ≤ length out
+    → b₁ ≡ bytesOf 2 sync → b₂ ≡ bytesOf 2 (h .number) → b₃ ≡ bytesOf 3 (h .index) → b₄ ≡ bytesOf 3 (h .count) → b₅ ≡ bytesOf 2 flags → flags ≡ flagsOf h
+    → outcome p₁ x₁ ≡ putOf out 0 b₁ → outcome p₂ x₂ ≡ putOf x₁ 2 b₂ → outcome p₃ x₃ ≡ putOf x₂ 4 b₃ → outcome p₄ x₄ ≡ putOf x₃ 7 b₄
     → outcome p₅ x₅ ≡ putOf x₄ 10 b₅ → x₅ ≡ splice out 0 (frontOf h)
 unfolding frontOf bytesOf
-front-laid h out x₁ x₂ x₃ x₄ x₅ b₂ b₃ b₄ b₅ flags p₁ p₂ p₃ p₄ p₅ room is-2 is-3 is-4 is-5 is-flags e₁ e₂ e₃ e₄ e₅ =
-    let a₁ : List ℕ = pf in
+front-laid h out x₁ x₂ x₃ x₄ x₅ b₁ b₂ b₃ b₄ b₅ flags p₁ p₂ p₃ p₄ p₅ room is-1 is-2 is-3 is-4 is-5 is-flags e₁ e₂ e₃ e₄ e₅ =
+    let a₁ : List ℕ = bytesOf 2 sync in
     let a₂ : List ℕ = a₁ ++ bytesOf 2 (h .number) in
     let a₃ : List ℕ = a₂ ++ bytesOf 3 (h .index) in
     let a₄ : List ℕ = a₃ ++ bytesOf 3 (h .count) in
-    let two : length pf ≡ 2 = refl in
-    let z₁ : x₁ ≡ splice out 0 a₁ = put-is out pf x₁ 0 p₁ (omega (arith, two)) e₁ in
+    let two : length b₁ ≡ 2 = ap length is-1 in
+    let z₁ : x₁ ≡ splice out 0 a₁ = put-is out b₁ x₁ 0 p₁ (omega (arith, two)) e₁ ∙ ap (splice out 0) is-1 in
     let z₂ : x₂ ≡ splice out 0 a₂ = put-next out x₁ x₂ a₁ (bytesOf 2 (h .number)) b₂ 2 p₂ refl
     (omega (arith, length-bytes 2 (h .number))) z₁ is-2 e₂ in
     let z₃ : x₃ ≡ splice out 0 a₃ = put-next out x₂ x₃ a₂ (bytesOf 3 (h .index)) b₃ 4 p₃ refl (omega (arith, length-bytes 3 (h .index))) z₂ is-3 e₃ in

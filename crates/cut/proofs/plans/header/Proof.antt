@@ -17,8 +17,8 @@ address-bytes-requires c κs = search needs
 add-result : tie.Need-add-result
 add-result c = search needs
 
-add-result-2 : tie.Need-add-result-2
-add-result-2 c = search needs
+add-least : tie.Need-add-least
+add-least c = search needs
 
 pub header-spec : {M : Type 1} → statement M
-header-spec = tie.close (tie.spec address-bytes-requires add-result add-result-2 returns returns-2)
+header-spec = tie.close (tie.spec address-bytes-requires add-least add-result returns returns-2)
