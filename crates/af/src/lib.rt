@@ -6,6 +6,7 @@ pub use af_rules::Checked;
 pub use af_rules::Figures;
 use base::LEAST_L;
 pub use checking::check;
+pub use wrapping::MOST_PAYLOAD;
 pub use wrapping::wrap;
 ghost use mathlib.Core.Path.{_≡_};
 ghost use denote.Ref.{ptr};

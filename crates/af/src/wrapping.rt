@@ -20,7 +20,7 @@ ghost use Rattle.af_rules.specs.Calls.{wrapCall};
 // The minor revision that is written.
 const MINOR: u8 = 0;
 // The most bytes of a payload.
-const MOST_PAYLOAD: usize = MOST_L - LEAST_L;
+pub const MOST_PAYLOAD: usize = MOST_L - LEAST_L;
 
 // AR of the revision that is written.
 fn ar_with(cf: bool) -> u8

@@ -1,4 +1,4 @@
-// What every layer shares: the bounds of document 01, big-endian numbers, and copying into a part of a buffer.
+// What every layer shares: the bounds of document 01, the test of k, big-endian numbers, and copying into a part of a buffer.
 pub use base_rules::LEAST_L;
 pub use base_rules::MOST_F;
 pub use base_rules::MOST_K;
@@ -12,8 +12,19 @@ ghost use mathlib.Core.Path.{_≡_};
 ghost use Prim.Native.Nat.{_%_, _<_};
 ghost use lib.ListN.{getD};
 ghost use Rattle.base_rules.specs.Answer.{outcome};
+ghost use Rattle.base_rules.specs.Bounds.{badK};
 ghost use Rattle.base_rules.specs.Bytes.{numberAt, bytesOf};
 ghost use Rattle.base_rules.specs.Written.{numberOf, putOf};
+
+// Whether k is no count of data bytes of a chunk.
+pub fn bad_k(k: usize) -> bool
+    ensures { λ r. ⌜ r ≡ badK k ⌝ }
+{
+    if k == 0 {
+        return true;
+    }
+    MOST_K < k
+}
 
 // The byte at i, and 0 past the end.
 pub fn byte_at(s: &[u8], i: usize) -> u8

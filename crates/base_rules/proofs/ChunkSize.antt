@@ -1,24 +1,14 @@
--- What the test tells that k is no chunk's size, and when it is false. Assumes nothing.
+-- When the test is false that k is no chunk's size, and what it then tells. Assumes nothing.
 use mathlib.Core.Path.{_≡_}
-use mathlib.Core.Bool.{true, false}
+use mathlib.Core.Bool.{false}
 use Prim.Native.Nat.{ℕ, _≤_, _<_}
 use native.Mathlib.Nat.{pos-of-ne-zero}
-use borrow.Author.Tests.{eqb-false, eq-eqb, ne-eqb, ltb-false, lt-ltb, le-ltb}
+use borrow.Author.Tests.{eqb-false, ne-eqb, ltb-false, le-ltb}
 use lib.Dec.{eqb}
 use Rattle.base_rules.specs.Bounds.{most-k, badK}
 use Rattle.base_rules.proofs.Logic.{or-left, or-right}
 
 module _ (k : ℕ) where
-  -- no chunk has 0 data bytes
-  pub k-none : k ≡ 0 → badK k ≡ true
-  unfolding badK
-  k-none e = rw (eq-eqb k 0 e)
-
-  -- no chunk has more than 207 data bytes
-  pub k-over : (k ≡ 0 → ⊥) → most-k < k → badK k ≡ true
-  unfolding badK
-  k-over some over = rw (ne-eqb k 0 some, lt-ltb most-k k over)
-
   -- a chunk may have any number of data bytes from 1 to 207
   pub k-fits : (k ≡ 0 → ⊥) → k ≤ most-k → badK k ≡ false
   unfolding badK

@@ -104,7 +104,8 @@ module _ (n c j : ℕ) (l new : List ℕ) (lc : length l ≡ c * n) (hj : j < c)
   pub part-other : (i : ℕ) → i < c → (i ≡ j → ⊥) → partOf (putMid (j * n) (j * n + n - j * n) l new) n i ≡ partOf l n i
   unfolding put
   part-other i hi d =
-      ap (λ (x : List ℕ). partOf x n i) mid ∙ ext-getD 0 (partOf put n i) (partOf l n i) (length-part n c i put long hi ∙ sym (length-part n c i l (omega arith) hi))
+      ap (λ (x : List ℕ). partOf x n i) mid
+      ∙ ext-getD 0 (partOf put n i) (partOf l n i) (length-part n c i put long hi ∙ sym (length-part n c i l (omega arith) hi))
       (λ x b. let q : x < n = omega (arith, length-part n c i put long hi) in
       part-at n i x put q ∙ go x q (decLt i j) ∙ sym (part-at n i x l q))
     where

@@ -3,6 +3,7 @@ use crate::telling::tell;
 use item::Item;
 use tag::Located;
 use walk::Handed;
+use walk::LEVELS;
 use walk::Walker;
 ghost use mathlib.Core.Path.{_≡_};
 ghost use mathlib.Core.List.{_∷_};
@@ -13,8 +14,8 @@ ghost use Rattle.tag_rules.specs.Calls.{locatedNumber, locateCall};
 ghost use Rattle.card_rules.specs.Told.{CardWritten, CardTold};
 ghost use Rattle.card_rules.specs.Items.{found-widths, walker-bytes, walkerBytes, walkerFrom, walkOpenCall, step-widths, steppedNumber, CardStepped};
 
-// The bytes of a walk: seven numbers of eight.
-const WALKER: usize = 56;
+// The bytes of a walk: eight for its position, for its depth, and for the end at each depth.
+const WALKER: usize = 8 * (LEVELS + 2);
 
 // The bytes that finding tells, and their widths; specs/Items.antt says of what.
 const TOLD_FIND: usize = 17;

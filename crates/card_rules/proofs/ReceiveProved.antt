@@ -230,7 +230,8 @@ module _ (own : Address) (datagram : List ℕ) (before after : Held) (r : ℕ) (
       says 0 0 0 d (Kept d) (one-received (p .answer) (Kept d) (sym (ap (λ (o : promise.Reception). o .answer) is))) refl
       (only-kept (sym (ap (λ (o : promise.Reception). o .out) is)))
   settled-says {d = d} (delivers P e a) is =
-      says 1 (length P) _ d (Delivered (length P) _ d) (one-received (p .answer) (Delivered (length P) _ d) (sym (ap (λ (o : promise.Reception). o .answer) is)))
+      says 1 (length P) _ d (Delivered (length P) _ d)
+      (one-received (p .answer) (Delivered (length P) _ d) (sym (ap (λ (o : promise.Reception). o .answer) is)))
       refl
       (handed-out P (sym (ap (λ (o : promise.Reception). o .out) is)))
   settled-says {d = d} (damaged e a) is =

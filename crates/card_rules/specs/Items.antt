@@ -2,7 +2,7 @@
 use mathlib.Core.Path.{_≡_}
 use mathlib.Core.Bool.{Bool, not, cond, _||_}
 use mathlib.Core.List.{List, [], _∷_}
-use Prim.Native.Nat.{ℕ}
+use Prim.Native.Nat.{ℕ, _+_, _*_}
 use lib.Dec.{eqb}
 use lib.ListN.{length}
 use Rattle.base_rules.specs.Answer.{Answer, granted, refused, Outcome, settled}
@@ -13,6 +13,7 @@ use Rattle.walk_rules.specs.declared.Handed.{Handed}
 use Rattle.walk_rules.specs.declared.Handed.the-variants as handed
 use Rattle.walk_rules.specs.declared.Walker.{Walker}
 use Rattle.walk_rules.specs.declared.Walked.{Walked}
+use Rattle.walk_rules.specs.Names.{deepest}
 use Rattle.walk_rules.specs.Step.{opens, walkStep}
 use Rattle.card_rules.specs.Told.{refusalIn, inWidths, tooShort, toldOf}
 
@@ -26,9 +27,9 @@ found-widths = 1 ∷ 0 ∷ 4 ∷ 8 ∷ 4 ∷ []
 abbrev pub walker-widths : List ℕ
 walker-widths = 8 ∷ 8 ∷ 8 ∷ 8 ∷ 8 ∷ 8 ∷ 8 ∷ []
 
--- so it takes 56
+-- so it takes 56: the position, the depth, and an end for each depth, of which 0 is one
 abbrev pub walker-bytes : ℕ
-walker-bytes = 56
+walker-bytes = 8 * (deepest + 3)
 
 -- a walk that is not refused: its position, its depth, and where the packets of the five depths end
 unfoldable pub walkerBytes : Walker → List ℕ

@@ -4,7 +4,6 @@ use crate::block::fill_block;
 use crate::block::fill_lost;
 use base::MOST_F;
 use base::PARITY;
-use code_encoder::bad_size;
 use code_solver::missing_count;
 use weave::Held;
 ghost use mathlib.Core.Path.{_≡_};
@@ -15,7 +14,7 @@ ghost use Rattle.code_rules.specs.inner.Standing.{Standing};
 fn bad_pair(k: usize, mask: usize, chunk: usize) -> bool
     ensures { λ r. ⌜ r ≡ badPair k mask chunk ⌝ }
 {
-    if bad_size(k) {
+    if base::bad_k(k) {
         return true;
     }
     if mask != k + PARITY {

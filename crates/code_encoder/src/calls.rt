@@ -3,7 +3,6 @@ use crate::blocks::encode_block;
 use crate::register::parity_of;
 use crate::rows::TABLE;
 use crate::rows::make_table;
-use base::MOST_K;
 use base::PARITY;
 use base::PLACE;
 use base::Written;
@@ -11,27 +10,17 @@ ghost use mathlib.Core.Path.{_≡_};
 ghost use Prim.Native.Nat.{_+_, _-_, _*_, _≤_};
 ghost use lib.ListN.{length};
 ghost use Rattle.base_rules.specs.Answer.{outcome};
-ghost use Rattle.base_rules.specs.Bounds.{most-k, place, parity, badK};
+ghost use Rattle.base_rules.specs.Bounds.{most-k, place, parity};
 ghost use Rattle.base_rules.specs.Written.{numberOf};
 ghost use Rattle.cut_rules.specs.Block.{padded, blockOf};
 ghost use Rattle.codeword.specs.Code.{parityOf};
 ghost use Rattle.code_rules.specs.Calls.{parityCall, overPlace, misfits, encodeCall};
 
-// Whether k is no count of data bytes of a chunk.
-pub fn bad_size(k: usize) -> bool
-    ensures { λ r. ⌜ r ≡ badK k ⌝ }
-{
-    if k == 0 {
-        return true;
-    }
-    MOST_K < k
-}
-
 // Writes the 48 parity bytes of a chunk of 1 to 207 data bytes at the front of out; 8, 1 where that cannot be, and then out stays as it is.
 pub fn parity(chunk: &[u8], out: &mut [u8]) -> Written
     ensures { λ r. ⌜ outcome (numberOf r) (now (out .exit)) ≡ parityCall (now (chunk .entry)) (now (out .entry)) ⌝ }
 {
-    if bad_size(chunk.len()) {
+    if base::bad_k(chunk.len()) {
         return Written::Refused(8);
     }
     let mut t = [0u8; TABLE];
@@ -92,7 +81,7 @@ fn write_block(packet: &[u8], k: usize, c: usize, out: &mut [u8])
 pub fn encode(packet: &[u8], k: usize, c: usize, out: &mut [u8]) -> Written
     ensures { λ r. ⌜ outcome (numberOf r) (now (out .exit)) ≡ encodeCall (now (packet .entry)) k c (now (out .entry)) ⌝ }
 {
-    if bad_size(k) {
+    if base::bad_k(k) {
         return Written::Refused(8);
     }
     if over_place(k, c) {

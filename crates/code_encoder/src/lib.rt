@@ -4,7 +4,6 @@ mod calls;
 mod register;
 mod rows;
 
-pub use calls::bad_size;
 pub use calls::encode;
 pub use calls::parity;
 pub use register::remainder_of;

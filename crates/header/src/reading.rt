@@ -5,7 +5,6 @@ use crate::Header;
 use crate::Parsed;
 use crate::SYNC;
 use base::MOST_F;
-use base::MOST_K;
 use base::PARITY;
 use base::PLACE;
 use cut::Address;
@@ -161,10 +160,7 @@ fn bad_chunk(f: usize, s: usize, k: usize, z: usize) -> bool
     requires { ⌜ f * s ≤ place ⌝ }
     ensures { λ r. ⌜ r ≡ (badChunk f s k || leb k z) ⌝ }
 {
-    if k == 0 {
-        return true;
-    }
-    if MOST_K < k {
+    if base::bad_k(k) {
         return true;
     }
     if f * s < k + PARITY {

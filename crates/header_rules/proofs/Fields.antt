@@ -8,9 +8,8 @@ use native.Mathlib.Omega.{arith}
 use borrow.Author.Tests.{lt-ltb, le-ltb, eq-eqb, ne-eqb}
 use lib.Dec.{ltb, leb, eqb}
 use lib.ListN.{length, getD, take}
-use Rattle.base_rules.specs.Bounds.{most-f, most-k, place, parity}
+use Rattle.base_rules.specs.Bounds.{most-f, place, badK, parity}
 use Rattle.base_rules.specs.Bytes.{numberAt}
-use Rattle.base_rules.proofs.ChunkSize.{k-none, k-over, k-fits}
 use Rattle.crc_rules.specs.Crc.{wordOf}
 use Rattle.cut_rules.specs.Sizes.{least-h, addressBytes}
 use Rattle.cut_rules.specs.declared.Address.{Address}
@@ -166,27 +165,21 @@ module _ (h : Header) where
     size-plain e = rw (le-ltb place (h .count * h .plen) fits) (ap (λ (x : Bool). x && no-chunk) (sym e))
 
 module _ (f s k z : ℕ) where
-  -- a k of 0 is no chunk's
-  pub chunk-none : k ≡ 0 → true ≡ (badChunk f s k || leb k z)
+  -- a k of 0 or over 207 is no chunk's
+  pub chunk-none : badK k ≡ true → true ≡ (badChunk f s k || leb k z)
   unfolding badChunk
-  chunk-none e = rw (k-none k e)
+  chunk-none e = rw e
 
-  module _ (some : k ≡ 0 → ⊥) where
-    -- a k over 207 is no chunk's
-    pub chunk-over : most-k < k → true ≡ (badChunk f s k || leb k z)
+  module _ (sized : badK k ≡ false) where
+    -- a k of 1 to 207 is no chunk's where Fcount x Plen is below k + 48
+    pub chunk-less : f * s < k + parity → true ≡ (badChunk f s k || leb k z)
     unfolding badChunk
-    chunk-over over = rw (k-over k some over)
+    chunk-less less = rw (sized, lt-ltb (f * s) (k + parity) less)
 
-    module _ (most : k ≤ most-k) where
-      -- a k of 1 to 207 is no chunk's where Fcount x Plen is below k + 48
-      pub chunk-less : f * s < k + parity → true ≡ (badChunk f s k || leb k z)
-      unfolding badChunk
-      chunk-less less = rw (k-fits k some most, lt-ltb (f * s) (k + parity) less)
-
-      -- a k of 1 to 207, with Fcount x Plen not below k + 48, is no chunk's just where z is not below k
-      pub chunk-rest : k + parity ≤ f * s → leb k z ≡ (badChunk f s k || leb k z)
-      unfolding badChunk
-      chunk-rest room = rw (k-fits k some most, le-ltb (f * s) (k + parity) room)
+    -- a k of 1 to 207, with Fcount x Plen not below k + 48, is no chunk's just where z is not below k
+    pub chunk-rest : k + parity ≤ f * s → leb k z ≡ (badChunk f s k || leb k z)
+    unfolding badChunk
+    chunk-rest room = rw (sized, le-ltb (f * s) (k + parity) room)
 
 -- ---- the answer
 

@@ -12,11 +12,11 @@ use Rattle.header_rules.specs.Read.{faultOf}
 use Rattle.places_rules.specs.declared.Displaced.{Displaced}
 use Rattle.places_rules.specs.declared.Displaced.the-variants.{None, Number}
 use Rattle.places_rules.specs.declared.Table.{Table}
-use Rattle.places_rules.specs.Places.{four, free, open-now, placeAt, keyIn, keyOf, heldAt, openAt, displacedAt}
+use Rattle.places_rules.specs.Places.{four, free, open-now, placeAt, keyIn, keyOf, heldAt, openAt, displacedAt, all-places}
 use Rattle.places_rules.proofs.Proved.{opens-in-turn}
 use Rattle.receiver_rules.specs.declared.Received.{Received}
 use Rattle.receiver_rules.specs.declared.Received.the-variants.{Kept, Delivered, Damaged, Refused}
-use Rattle.receiver_rules.specs.Promise.{numberOf, Reception, reception, State, keepAt, all-places}
+use Rattle.receiver_rules.specs.Promise.{numberOf, Reception, reception, State, keepAt}
 use Rattle.receiver_rules.proofs.Proved.{one-received}
 use Rattle.link.specs.Run.{Call, Made, Run, start, next, freshWith, Holds, numberIn, come}
 use Rattle.link.specs.Demand.{keyFor, Names, by-kept, by-delivered, by-damaged, enoughAfter}

@@ -5,6 +5,7 @@ use mathlib.Core.List.{List, [], _∷_, _++_, map, reverse, tail}
 use Prim.Native.Nat.{ℕ, zero, suc, _≤_, _<_}
 use lib.Dec.{lit<, lit≤}
 use lib.ListN.{length, take, drop}
+use Rattle.places_rules.specs.Places.{all-places}
 use Rattle.base_rules.specs.Bytes.{numberAt}
 use Rattle.base_rules.specs.Tests.{among, first}
 use Rattle.base_rules.proofs.Logic.{clash}
@@ -12,7 +13,7 @@ use Rattle.cut_rules.specs.declared.Settings.{Settings}
 use Rattle.cut_rules.specs.Missing as missing
 use Rattle.cut_rules.specs.Sizes as cut
 use Rattle.header_rules.specs.Read as read
-use Rattle.receiver_rules.specs.Promise.{State, all-places}
+use Rattle.receiver_rules.specs.Promise.{State}
 use Rattle.link.specs.Run.{Call, after, Run, start, next, freshWith, Holds, ShownOpen, All, Each}
 use Rattle.link.specs.Demand.{Takes, keyFor, Scene, enoughAfter, HeldAfter, Said, Demanded}
 use Rattle.link.specs.Examples.{settingsOf, packetUnder, number, packet, house, Line, Answers, Beside, none, one-more, Played, Done, Gone}

@@ -19,14 +19,15 @@ use Rattle.places_rules.specs.declared.Place.{Place}
 use Rattle.places_rules.specs.declared.Table.{Table}
 use Rattle.places_rules.specs.declared.Displaced.{Displaced}
 use Rattle.places_rules.specs.declared.Displaced.the-variants.{None}
-use Rattle.places_rules.specs.Places.{four, free, delivered, spoiled, freePlace, freshTable, placeAt, withPlace, keyOf, keyIn, holds, heldAt, openAt}
+use Rattle.places_rules.specs.Places.{four, all-places, free, delivered, spoiled, freePlace, freshTable, placeAt, withPlace, keyOf, keyIn, holds}
+use Rattle.places_rules.specs.Places.{heldAt, openAt}
 use Rattle.places_rules.specs.Places.{turned, openedBy, offsetOf, keptIn, inCondition}
 use Rattle.places_rules.specs.Faults.{badPlace, badTable, placeFault}
 use Rattle.places_rules.proofs.Checks.{bad-3}
 use Rattle.places_rules.proofs.Keys.{key-opened, key-kept, key-closed}
 use Rattle.places_rules.proofs.Ranges.{InRange, range-from, range-to}
 use Rattle.places_rules.proofs.Proved.{fresh-in-range, kept-in-range, opened-in-range}
-use Rattle.receiver_rules.specs.Promise.{Reception, reception, State, all-places, payloadOf, keepAt, closedAt, Settled, waits, delivers, damaged}
+use Rattle.receiver_rules.specs.Promise.{Reception, reception, State, payloadOf, keepAt, closedAt, Settled, waits, delivers, damaged}
 use Rattle.receiver_rules.specs.Promise.{SettledAfter}
 use Rattle.receiver_rules.proofs.Ranges.{turn-fine, place-fine, opens-below, written-place}
 use Rattle.receiver_rules.proofs.Offsets.{offset-fits}

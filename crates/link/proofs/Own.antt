@@ -16,9 +16,9 @@ use Rattle.base_rules.proofs.Splice.{splice-here}
 use Rattle.cut_rules.specs.declared.Settings.{Settings}
 use Rattle.header_rules.specs.declared.Header.{Header}
 use Rattle.places_rules.specs.declared.Place.{Place}
-use Rattle.places_rules.specs.Places.{four, open-now, keyIn, isLast, offsetOf, openedBy, keptIn}
+use Rattle.places_rules.specs.Places.{four, open-now, keyIn, isLast, offsetOf, openedBy, keptIn, all-places}
 use Rattle.places_rules.proofs.Keys.{key-opened, key-kept}
-use Rattle.receiver_rules.specs.Promise.{all-places, bytesAt}
+use Rattle.receiver_rules.specs.Promise.{bytesAt}
 use Rattle.sender_rules.specs.Calls.{packetFault}
 use Rattle.sender_rules.specs.Fragments.{payloadFor, headerFor}
 use Rattle.sender_rules.proofs.Checks.{in-bounds}

@@ -18,8 +18,8 @@ use Rattle.cut_rules.specs.declared.Address.the-variants.{None}
 use Rattle.cut_rules.specs.declared.Settings.{Settings}
 use Rattle.cut_rules.specs.Missing as missing
 use Rattle.header_rules.specs.Read.{badAddress}
-use Rattle.places_rules.specs.Places.{freshTable}
-use Rattle.receiver_rules.specs.Promise.{State, all-places}
+use Rattle.places_rules.specs.Places.{freshTable, all-places}
+use Rattle.receiver_rules.specs.Promise.{State}
 use Rattle.sender_rules.specs.Fragments.{payloadFor, fragmentFor}
 use Rattle.sender_rules.proofs.FragmentLengths.{f-some}
 use Rattle.link.specs.Run.{Call, after, Made, Run, start, next, freshWith, Reached, Holds, numberIn, come, lost, All, Each}

@@ -5,9 +5,10 @@ use mathlib.Core.List.{List, [], _∷_}
 use Prim.Native.Nat.{ℕ, zero, suc, _<_}
 use native.Mathlib.Omega.{arith}
 use lib.ListN.{length, take, drop}
+use Rattle.places_rules.specs.Places.{all-places}
 use Rattle.base_rules.specs.Tests.{among}
 use Rattle.base_rules.proofs.Logic.{either, clash}
-use Rattle.receiver_rules.specs.Promise.{State, all-places}
+use Rattle.receiver_rules.specs.Promise.{State}
 use Rattle.link.specs.Run.{Call, Run, start, next, freshWith, Holds, All}
 use Rattle.link.specs.Demand.{keyFor, Scene, HeldAfter}
 use Rattle.link.specs.Steps.{Promised}

@@ -10,11 +10,11 @@ use lib.ListN.{length, getD, take}
 use Rattle.base_rules.specs.Tests.{among}
 use Rattle.base_rules.proofs.Logic.{either, clash, hit, pass}
 use Rattle.header_rules.specs.Read.{fieldsOf}
-use Rattle.places_rules.specs.Places.{four, placeAt, keyIn, keyOf, holds, heldAt, openAt, turned}
+use Rattle.places_rules.specs.Places.{four, placeAt, keyIn, keyOf, holds, heldAt, openAt, turned, all-places}
 use Rattle.places_rules.specs.Claims.{Opened}
 use Rattle.places_rules.proofs.Proved.{fresh-is-opened, opens-in-turn}
 use Rattle.receiver_rules.specs.declared.Received.the-variants.{Refused}
-use Rattle.receiver_rules.specs.Promise.{Reception, reception, State, all-places}
+use Rattle.receiver_rules.specs.Promise.{Reception, reception, State}
 use Rattle.link.specs.Run.{Call, after, Made, Run, start, next, freshWith, Holds, heard, numberIn}
 use Rattle.link.proofs.Basic.{same-or-not, less-or-not, held-found, held-some, holds-yes, holds-number, holds-some}
 use Rattle.link.proofs.View.{Good, View, unheard, refuses, keeps, opens}

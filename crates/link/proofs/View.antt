@@ -14,10 +14,10 @@ use Rattle.cut_rules.specs.declared.Address.{Address}
 use Rattle.header_rules.specs.Read.{fieldsOf, faultOf}
 use Rattle.places_rules.specs.declared.Table.{Table}
 use Rattle.places_rules.specs.declared.Displaced.the-variants.{None}
-use Rattle.places_rules.specs.Places.{four, placeAt, keyOf, heldAt, openAt, displacedAt, turned, openedBy}
+use Rattle.places_rules.specs.Places.{four, placeAt, keyOf, heldAt, openAt, displacedAt, turned, openedBy, all-places}
 use Rattle.places_rules.specs.Faults.{badTable, placeFault}
 use Rattle.receiver_rules.specs.declared.Received.the-variants.{Refused}
-use Rattle.receiver_rules.specs.Promise.{Reception, reception, State, all-places, roomFault, heldFault, receiveFault, payloadOf, Keeping, keepAt, keepOf}
+use Rattle.receiver_rules.specs.Promise.{Reception, reception, State, roomFault, heldFault, receiveFault, payloadOf, Keeping, keepAt, keepOf}
 use Rattle.receiver_rules.specs.Promise.{SettledAfter, Step}
 use Rattle.receiver_rules.proofs.Ranges.{room-told, due-none}
 

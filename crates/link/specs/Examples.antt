@@ -14,10 +14,11 @@ use Rattle.cut_rules.specs.declared.Address.the-variants.{Pair}
 use Rattle.cut_rules.specs.declared.Settings.{Settings}
 use Rattle.cut_rules.specs.Edge.{plain}
 use Rattle.places_rules.specs.declared.Displaced.the-variants.{None, Number}
+use Rattle.places_rules.specs.Places.{all-places}
 use Rattle.sender_rules.specs.Fragments.{fragmentFor}
 use Rattle.receiver_rules.specs.declared.Received.{Received}
 use Rattle.receiver_rules.specs.declared.Received.the-variants.{Kept, Delivered, Damaged, Refused}
-use Rattle.receiver_rules.specs.Promise.{numberOf, State, all-places}
+use Rattle.receiver_rules.specs.Promise.{numberOf, State}
 use Rattle.link.specs.Run.{Call, after, Run, freshWith, Holds, ShownOpen, All, Each}
 use Rattle.link.specs.Demand.{keyFor, Scene, Begins, Among, enoughAfter, BeforeDone, Handed, Names, HeldAfter, Said, Demanded}
 

@@ -9,11 +9,11 @@ use Rattle.base_rules.specs.Bounds.{place}
 use Rattle.base_rules.specs.Bytes.{partOf}
 use Rattle.header_rules.specs.Read.{fieldsOf}
 use Rattle.places_rules.specs.declared.Place.{Place}
-use Rattle.places_rules.specs.Places.{four, free, open-now, delivered, spoiled, placeAt, holds, openAt, offsetOf}
+use Rattle.places_rules.specs.Places.{four, free, open-now, delivered, spoiled, placeAt, holds, openAt, offsetOf, all-places}
 use Rattle.places_rules.specs.Faults.{badTable}
 use Rattle.places_rules.specs.Claims.{Opened}
 use Rattle.form_rules.specs.Agree.{enoughIn}
-use Rattle.receiver_rules.specs.Promise.{State, all-places, payloadOf, bytesAt}
+use Rattle.receiver_rules.specs.Promise.{State, payloadOf, bytesAt}
 use Rattle.link.specs.Run.{Call, Made, Reached, Holds, heard, numberIn, indexIn}
 
 -- document 01, 14 and 1: the record is in range and the lent bytes are all there, so no call of a run is refused for its state

@@ -10,8 +10,8 @@ use Rattle.base_rules.specs.Bounds.{most-l}
 use Rattle.base_rules.specs.Bytes.{Bytes}
 use Rattle.cut_rules.specs.declared.Address.{Address}
 use Rattle.header_rules.specs.Read.{fieldsOf, faultOf}
-use Rattle.places_rules.specs.Places.{four, open-now, freshTable, placeAt, keyOf, heldAt}
-use Rattle.receiver_rules.specs.Promise.{Reception, State, Step, all-places}
+use Rattle.places_rules.specs.Places.{four, open-now, freshTable, placeAt, keyOf, heldAt, all-places}
+use Rattle.receiver_rules.specs.Promise.{Reception, State, Step}
 use Rattle.receiver_rules.specs.Calls.{shownOf, queryCall}
 
 -- a call: the configured address, the datagram, the packet buffer that is lent, and what the call left

@@ -10,12 +10,12 @@ use Rattle.base_rules.specs.Bytes.{Bytes, splice}
 use Rattle.cut_rules.specs.declared.Address.{Address}
 use Rattle.cut_rules.specs.declared.Settings.{Settings}
 use Rattle.places_rules.specs.declared.Displaced.{Displaced}
-use Rattle.places_rules.specs.Places.{placeAt}
+use Rattle.places_rules.specs.Places.{placeAt, all-places}
 use Rattle.form_rules.specs.Agree.{missingIn}
 use Rattle.sender_rules.specs.Calls.{fragmentCall, fragmentsCall}
 use Rattle.sender_rules.specs.Fragments.{fragmentFor, fragmentsFor}
 use Rattle.receiver_rules.specs.declared.Received.the-variants.{Refused}
-use Rattle.receiver_rules.specs.Promise.{numberOf, Reception, State, Step, all-places}
+use Rattle.receiver_rules.specs.Promise.{numberOf, Reception, State, Step}
 use Rattle.receiver_rules.specs.Claims.{keptBy}
 use Rattle.link.specs.Run.{Call, after, freshWith, Holds, numberIn, All}
 use Rattle.link.specs.Demand.{Takes, count, keyFor, Own, enoughAfter, handing, HandsOut, Handed, HeldAfter}

@@ -1,7 +1,7 @@
 // The listing of an AF packet: one line on the packet, one on each of its items, one on its padding.
 use af::Checked;
 use af::Figures;
-use base::LEAST_L;
+use af::MOST_PAYLOAD;
 use base::MOST_L;
 use item::HEAD;
 pub use lister_rules::Listed;
@@ -22,7 +22,7 @@ ghost use Rattle.lister_rules.specs.Calls.{numberOf, listCall};
 pub const INPUT: usize = MOST_L + 1;
 
 // A buffer as long as this holds every listing (`ListingFits`).
-pub const LISTING: usize = (MOST_L - LEAST_L) / HEAD * 17 + 25;
+pub const LISTING: usize = MOST_PAYLOAD / HEAD * 17 + 25;
 
 // The only container.
 const CONTAINERS: [u8; 4] = *b"fio_";

@@ -24,9 +24,13 @@ figuresOf p =
 unfoldable pub packedPlace : Place → List ℕ
 packedPlace p = figuresOf p ++ map bit (p .kept)
 
--- the bytes of a place's record
+-- the bytes of the figures,
+abbrev pub figure-bytes : ℕ
+figure-bytes = 14
+
+-- and of a place's record
 abbrev pub place-bytes : ℕ
-place-bytes = 14 + most-f
+place-bytes = figure-bytes + most-f
 
 -- the bytes of the whole record: four of them, and then which is displaced next
 abbrev pub table-bytes : ℕ
@@ -62,7 +66,7 @@ placeFrom s i = record {
   rsz = getD s (i + 9) 0;
   size = numberAt 2 s (i + 10);
   last = numberAt 2 s (i + 12);
-  kept = map isSet (flagBytes s (i + 14));
+  kept = map isSet (flagBytes s (i + figure-bytes));
 }
 
 -- the record
@@ -83,7 +87,7 @@ badFlags (x ∷ s) = badFlag x || badFlags s
 
 -- the FEC flag of a place is none, or one of its fragments' flags
 unfoldable pub badPlaceAt : List ℕ → ℕ → Bool
-badPlaceAt s i = badFlag (getD s (i + 7) 0) || badFlags (flagBytes s (i + 14))
+badPlaceAt s i = badFlag (getD s (i + 7) 0) || badFlags (flagBytes s (i + figure-bytes))
 
 -- a flag of one of the four places is none
 unfoldable pub badRecord : List ℕ → Bool

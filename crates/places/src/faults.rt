@@ -7,7 +7,6 @@ use crate::Table;
 use crate::record::is_last;
 use crate::record::place_at;
 use base::MOST_F;
-use base::MOST_K;
 use base::PLACE;
 use header::Header;
 ghost use mathlib.Core.Path.{_≡_};
@@ -46,10 +45,7 @@ fn bad_code(p: Place) -> bool
     if !p.fec {
         return false;
     }
-    if k == 0 {
-        return true;
-    }
-    if MOST_K < k {
+    if base::bad_k(k) {
         return true;
     }
     p.rsk <= p.rsz

@@ -5,6 +5,7 @@ mod record;
 pub use faults::bad_place;
 pub use faults::bad_table;
 pub use faults::place_fault;
+pub use places_rules::ALL_PLACES;
 pub use places_rules::DELIVERED;
 pub use places_rules::Displaced;
 pub use places_rules::FOUR;

@@ -5,8 +5,7 @@ use Prim.Native.Nat.{ℕ, _*_, _≤_, _<_}
 use borrow.Author.Tests.{eq-eqb, ne-eqb, le-leb, lt-leb, lt-ltb, le-ltb}
 use lib.Dec.{ltb, leb, eqb}
 use lib.ListN.{getD}
-use Rattle.base_rules.specs.Bounds.{most-f, most-k, badK, place}
-use Rattle.base_rules.proofs.ChunkSize as size
+use Rattle.base_rules.specs.Bounds.{most-f, badK, place}
 use Rattle.base_rules.proofs.Firsts.{due, skip, none-due}
 use Rattle.base_rules.proofs.Logic.{same, other, hit, pass}
 use Rattle.header_rules.specs.declared.Header.{Header}
@@ -65,18 +64,13 @@ module _ (p : Place) where
     unfolding badCode
     chunk-told e = e ∙ ap (λ (b : Bool). b && chunk-test (p .rsk) (p .rsz)) (sym coded)
 
-    -- with FEC k 0 is out of range
-    pub k-none : p .rsk ≡ 0 → true ≡ badCode p
-    k-none e = chunk-told (hit _ (size.k-none (p .rsk) e))
+    -- with FEC k 0 or over 207 is out of range
+    pub k-out : badK (p .rsk) ≡ true → true ≡ badCode p
+    k-out e = chunk-told (hit _ e)
 
-    module _ (some : p .rsk ≡ 0 → ⊥) where
-      -- with FEC k over 207 is out of range
-      pub k-over : most-k < p .rsk → true ≡ badCode p
-      k-over h = chunk-told (hit _ (size.k-over (p .rsk) some h))
-
-      -- with FEC and k from 1 to 207, k and z are out of range just where z is not below k
-      pub z-over : p .rsk ≤ most-k → leb (p .rsk) (p .rsz) ≡ badCode p
-      z-over h = chunk-told (pass (size.k-fits (p .rsk) some h) refl)
+    -- with FEC and k from 1 to 207, k and z are out of range just where z is not below k
+    pub z-over : badK (p .rsk) ≡ false → leb (p .rsk) (p .rsz) ≡ badCode p
+    z-over e = chunk-told (pass e refl)
 
   -- a condition past spoiled puts a place out of range
   pub condition-over : spoiled < p .condition → true ≡ badPlace p

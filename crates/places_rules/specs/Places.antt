@@ -15,6 +15,10 @@ use Rattle.places_rules.specs.declared.Displaced.the-variants as displac
 abbrev pub four : ℕ
 four = 4
 
+-- document 01, "Bounds": the lent bytes of all four
+abbrev pub all-places : ℕ
+all-places = four * place
+
 -- document 01: the condition of a place
 abbrev pub free : ℕ
 free = 0

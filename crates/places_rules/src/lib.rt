@@ -1,8 +1,12 @@
 // Document 01, "The four places", as definitions: the record, 14, and 9 to 12. No functions: crate `places` has them.
 use base_rules::MOST_F;
+use base_rules::PLACE;
 
 // Places in a table.
 pub const FOUR: usize = 4;
+
+// The bytes of all four, which the caller lends.
+pub const ALL_PLACES: usize = FOUR * PLACE;
 
 // The condition of a place.
 pub const FREE: u8 = 0;

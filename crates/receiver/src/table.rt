@@ -4,10 +4,9 @@ use crate::Queried;
 use crate::Seen;
 use crate::Shown;
 use base::MOST_L;
-use base::PLACE;
 use base::Written;
+use places::ALL_PLACES;
 use places::DELIVERED;
-use places::FOUR;
 use places::FREE;
 use places::OPEN;
 use places::Place;
@@ -21,14 +20,11 @@ ghost use Rattle.places_rules.specs.Faults.{badPlace, badTable};
 ghost use Rattle.receiver_rules.specs.Promise.{badRoom, roomFault};
 ghost use Rattle.receiver_rules.specs.Calls.{shownOf, seenValues, queryCall, queriedNumber, clearCall};
 
-// The lent bytes of all places.
-const ALL: usize = FOUR * PLACE;
-
 // Whether the lent bytes are not those of four places, or the packet buffer is too small.
 fn bad_room(lent: usize, room: usize) -> bool
     ensures { λ r. ⌜ r ≡ badRoom lent room ⌝ }
 {
-    if lent != ALL {
+    if lent != ALL_PLACES {
         return true;
     }
     room < MOST_L

@@ -17,9 +17,9 @@ use Rattle.header_rules.specs.Claims.{Sound}
 use Rattle.places_rules.specs.declared.Place.{Place}
 use Rattle.places_rules.specs.declared.Table.{Table}
 use Rattle.places_rules.specs.declared.Displaced.{Displaced}
-use Rattle.places_rules.specs.Places.{four, isLast, offsetOf, withPlace, keptIn}
+use Rattle.places_rules.specs.Places.{four, isLast, offsetOf, withPlace, keptIn, all-places}
 use Rattle.places_rules.proofs.Records.{offset-last, offset-other}
-use Rattle.receiver_rules.specs.Promise.{Reception, all-places, keepAt, Settled, SettledAfter}
+use Rattle.receiver_rules.specs.Promise.{Reception, keepAt, Settled, SettledAfter}
 use Rattle.receiver_rules.specs.inner.Arrivals.{Heard}
 
 module _ (h : Header) (s : Sound h) where

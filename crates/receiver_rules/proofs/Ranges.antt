@@ -12,10 +12,10 @@ use Rattle.base_rules.proofs.Firsts.{due, skip, none-due, clear, clear-rest}
 use Rattle.base_rules.proofs.Logic.{either, or-left, or-right, same, other}
 use Rattle.places_rules.specs.declared.Place.{Place}
 use Rattle.places_rules.specs.declared.Table.{Table}
-use Rattle.places_rules.specs.Places.{four, free, freePlace, placeAt, withPlace, firstPlace, openAt}
+use Rattle.places_rules.specs.Places.{four, free, freePlace, placeAt, withPlace, firstPlace, openAt, all-places}
 use Rattle.places_rules.specs.Faults.{badFigures, badCode, badPlace, badTable}
 use Rattle.places_rules.proofs.Records.{place-past}
-use Rattle.receiver_rules.specs.Promise.{all-places, badRoom, roomFault}
+use Rattle.receiver_rules.specs.Promise.{badRoom, roomFault}
 
 -- ---- the room
 

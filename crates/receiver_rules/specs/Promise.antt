@@ -17,7 +17,7 @@ use Rattle.places_rules.specs.declared.Table.{Table}
 use Rattle.places_rules.specs.declared.Displaced.{Displaced}
 use Rattle.places_rules.specs.declared.Displaced.the-variants as displaced
 use Rattle.places_rules.specs.Places.{four, delivered, spoiled, placeAt, withPlace, keyOf, heldAt, openAt, displacedAt, turned, openedBy, offsetOf}
-use Rattle.places_rules.specs.Places.{keptIn, inCondition}
+use Rattle.places_rules.specs.Places.{all-places, keptIn, inCondition}
 use Rattle.places_rules.specs.Faults.{badTable, placeFault}
 use Rattle.form_rules.specs.Agree.{enoughIn, missingIn, Agrees}
 use Rattle.receiver_rules.specs.declared.Received.{Received}
@@ -49,10 +49,6 @@ unfoldable pub reception : Received → Table → List ℕ → List ℕ → Rece
 reception a t b o = record { answer = numberOf a; table = t; bytes = b; out = o }
 
 -- ---- refusals
-
--- document 01, "Bounds": the lent bytes of four places
-abbrev pub all-places : ℕ
-all-places = four * place
 
 -- 1 ROOM: table not 49,152; packet out under 8,192
 unfoldable pub badRoom : ℕ → ℕ → Bool

@@ -6,12 +6,11 @@ mod telling;
 
 use base::MOST_L;
 use base::MOST_MTU;
-use base::PLACE;
 use cut::Address;
 use cut::Figures;
 use cut::Planned;
 use libc::STDIN_FILENO;
-use places::FOUR;
+use places::ALL_PLACES;
 use places::Table;
 use receiver::Received;
 use sender::Sent;
@@ -112,7 +111,7 @@ fn carry_all(packet: &[u8], p: Figures, lent: &mut [u8], out: &mut [u8]) -> usiz
 // A packet that is cut by p, in fragments of `size` bytes.
 fn relay(packet: &[u8], p: Figures, size: usize) {
     telling::cut(packet.len(), p.f, size, p.assured);
-    let mut lent = [0u8; FOUR * PLACE];
+    let mut lent = [0u8; ALL_PLACES];
     let mut out = [0u8; MOST_L];
     let length = carry_all(packet, p, &mut lent, &mut out);
     telling::end(packet, &out, length);

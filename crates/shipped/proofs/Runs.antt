@@ -15,9 +15,9 @@ use Rattle.packed_rules.specs.Claims.{TypedTable}
 use Rattle.packed_rules.specs.Packed.{table-bytes, packedOf, tableFrom, unpackFault, unpackCall}
 use Rattle.packed_rules.proofs.Proved.{unpacks}
 use Rattle.places_rules.specs.declared.Table.{Table}
-use Rattle.places_rules.specs.Places.{freshTable}
+use Rattle.places_rules.specs.Places.{freshTable, all-places}
 use Rattle.receiver_rules.specs.Promise as promise
-use Rattle.receiver_rules.specs.Promise.{Reception, reception, all-places, Step}
+use Rattle.receiver_rules.specs.Promise.{Reception, reception, Step}
 use Rattle.receiver_rules.specs.declared.Received.{Received}
 use Rattle.receiver_rules.proofs.Proved.{some-reception}
 use Rattle.card_rules.specs.Calls.{addressOf}

@@ -8,8 +8,8 @@ use lib.ListN.{length, getD, replicate}
 use Rattle.base_rules.specs.Bounds.{most-l}
 use Rattle.base_rules.specs.Bytes.{Bytes, splice, numberAt}
 use Rattle.packed_rules.specs.Packed.{table-bytes, tableFrom}
-use Rattle.places_rules.specs.Places.{four, free, open-now}
-use Rattle.receiver_rules.specs.Promise.{State, all-places}
+use Rattle.places_rules.specs.Places.{four, free, open-now, all-places}
+use Rattle.receiver_rules.specs.Promise.{State}
 use Rattle.card_rules.specs.Told.{inWidths, CardTold}
 use Rattle.card_rules.specs.Calls.{addressOf}
 use Rattle.card_rules.specs.Receiving.{placesTold, places-widths, queryFor, Held, CardReceived}

@@ -3,19 +3,15 @@
 // datagram is empty, so receive refuses a record in range with 2. Then three records in range that no calls leave, each with a
 // fragment of the packet that they are of: the number of the answer, and how many bytes are handed out.
 use base::MOST_L;
-use base::PLACE;
 use base::Written;
 use cut::Address;
 use libc::STDOUT_FILENO;
-use places::FOUR;
+use places::ALL_PLACES;
 use places::OPEN;
 use places::Place;
 use places::Table;
 use receiver::Queried;
 use receiver::Received;
-
-// The lent bytes of all places.
-const ALL: usize = FOUR * PLACE;
 
 // A place in range: with FEC, ten fragments of a hundred bytes, chunks of a hundred with five zeros.
 fn sound() -> Place {
@@ -73,7 +69,7 @@ fn written_number(a: Written) -> usize {
 
 // The number with which receive refuses a record.
 fn by_receive(t: Table) -> usize {
-    let mut lent = [0u8; ALL];
+    let mut lent = [0u8; ALL_PLACES];
     let mut out = [0u8; MOST_L];
     let reply = receiver::receive(Address::None, t, &mut lent, b"", &mut out);
     let answer = reply.answer;
@@ -81,12 +77,12 @@ fn by_receive(t: Table) -> usize {
 }
 
 fn by_query(t: Table) -> usize {
-    let lent = [0u8; ALL];
+    let lent = [0u8; ALL_PLACES];
     queried_number(receiver::query(t, &lent))
 }
 
 fn by_clear(t: Table) -> usize {
-    let lent = [0u8; ALL];
+    let lent = [0u8; ALL_PLACES];
     let cleared = receiver::clear(t, &lent);
     let answer = cleared.answer;
     written_number(answer)
@@ -222,7 +218,7 @@ fn of_two() -> Place {
 
 // The line of a record that no calls leave: what a fragment is answered there.
 fn stray(name: &[u8], p: Place, datagram: &[u8]) {
-    let mut lent = [0u8; ALL];
+    let mut lent = [0u8; ALL_PLACES];
     let mut out = [0u8; MOST_L];
     let t = places::with_place(places::fresh(), 0, p);
     let reply = receiver::receive(Address::None, t, &mut lent, datagram, &mut out);

@@ -6,7 +6,7 @@ mod whole;
 
 use walk_rules::DEEPEST;
 pub use walk_rules::Handed;
-use walk_rules::LEVELS;
+pub use walk_rules::LEVELS;
 pub use walk_rules::Visit;
 pub use walk_rules::Walked;
 pub use walk_rules::Walker;

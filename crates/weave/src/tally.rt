@@ -3,7 +3,6 @@ use crate::Held;
 use crate::bad_count;
 use crate::too_much;
 use base::MOST_F;
-use base::MOST_K;
 use base::PARITY;
 ghost use mathlib.Core.Path.{_≡_};
 ghost use mathlib.Core.Bool.{not};
@@ -70,10 +69,7 @@ fn bad_chunk(f: usize, s: usize, k: usize) -> bool
     requires { ⌜ f * s ≤ place ⌝ }
     ensures { λ r. ⌜ r ≡ badChunk f s k ⌝ }
 {
-    if k == 0 {
-        return true;
-    }
-    if MOST_K < k {
+    if base::bad_k(k) {
         return true;
     }
     f * s < k + PARITY

@@ -9,10 +9,10 @@ use Rattle.base_rules.specs.Bounds.{most-l}
 use Rattle.header_rules.specs.declared.Header.{Header}
 use Rattle.header_rules.specs.Claims.{Sound}
 use Rattle.places_rules.specs.declared.Table.{Table}
-use Rattle.places_rules.specs.Places.{withPlace}
+use Rattle.places_rules.specs.Places.{withPlace, all-places}
 use Rattle.receiver_rules.specs.declared.Change.{Change}
 use Rattle.receiver_rules.specs.declared.Received.the-variants.{Refused}
-use Rattle.receiver_rules.specs.Promise.{Reception, reception, all-places, heldFault, keepOf, SettledAfter}
+use Rattle.receiver_rules.specs.Promise.{Reception, reception, heldFault, keepOf, SettledAfter}
 
 -- document 01, 1 ROOM: the lent bytes and the packet buffer have their sizes
 pub record Lent (b out : List ℕ) : Type 0 where

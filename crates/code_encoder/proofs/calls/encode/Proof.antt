@@ -18,7 +18,7 @@ use Rattle.code_encoder.proofs.calls.encode.Tie as tie
 
 -- what the branches passed have told
 sized : (c : tie.Else1) → badK (c .before .before .before .before .args .k) ≡ false
-sized c = told (c .before .bad-size .ensures) (c .if1 .left)
+sized c = told (c .before .bad-k .ensures) (c .if1 .left)
 
 placed : (c : tie.Else2)
     → overPlace (c .before .before .before .before .before .before .args .k) (c .before .before .before .before .before .before .args .c) ≡ false
@@ -35,7 +35,7 @@ returns : tie.Need-returns
 unfolding numberOf
 returns c =
     let A = c .before .before .before .before .args in
-    cases.encode-size (A .packet .now) (A .out .now) (A .k) (A .c) (told (c .before .bad-size .ensures) (c .if1 .taken))
+    cases.encode-size (A .packet .now) (A .out .now) (A .k) (A .c) (told (c .before .bad-k .ensures) (c .if1 .taken))
 
 over-place-requires : tie.Need-over-place-requires
 over-place-requires c κs = k-most (c .before .before .before .before .args .k) (sized c)
@@ -103,8 +103,8 @@ returns-5 c =
     (c .before .before .before .before .if4 .left)
     (cases.block-lent (A .out .now) _ _ n size (c .before .before .write-block .ensures))
 
-bad-size-requires : tie.Need-bad-size-requires
-bad-size-requires c κs = search needs
+bad-k-requires : tie.Need-bad-k-requires
+bad-k-requires c κs = search needs
 
 slice-relend-prefix-write-block : tie.Need-slice-relend-prefix-write-block
 slice-relend-prefix-write-block c = search needs
@@ -116,7 +116,7 @@ pub encode-spec : {M : Type 1} → statement M
 encode-spec =
     tie.close
     (tie.spec
-    bad-size-requires
+    bad-k-requires
     returns
     over-place-requires
     returns-2

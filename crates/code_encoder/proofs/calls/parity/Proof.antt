@@ -15,12 +15,12 @@ returns : tie.Need-returns
 unfolding numberOf
 returns c =
     let A = c .before .before .before .before .args in
-    cases.parity-size (A .chunk .now) (A .out .now) (told (c .before .bad-size .ensures) (c .if1 .taken))
+    cases.parity-size (A .chunk .now) (A .out .now) (told (c .before .bad-k .ensures) (c .if1 .taken))
 
 parity-of-requires : tie.Need-parity-of-requires
 parity-of-requires c κs =
     let E = c .before .before .before in
-    k-most (length (E .before .before .before .before .args .chunk .now)) (told (E .before .bad-size .ensures) (E .if1 .left))
+    k-most (length (E .before .before .before .before .args .chunk .now)) (told (E .before .bad-k .ensures) (E .if1 .left))
 
 returns-2 : tie.Need-returns-2
 returns-2 c =
@@ -30,13 +30,13 @@ returns-2 c =
     let d = A .chunk .now in
     let T = c .before .before .before .before .before .before .before .make-table in
     let P = c .before .before .before .before .before .parity-of in
-    let fine = told (E .before .bad-size .ensures) (E .if1 .left) in
+    let fine = told (E .before .bad-k .ensures) (E .if1 .left) in
     let bytes = bytes-of d (λ i. fits-byte (S .shared-slice-known .given i)) in
     let e = P .ensures ∙ parity-by (T .last .0) (T .ensures) d (k-most (length d) fine) bytes in
     cases.parity-put d (A .out .now) (P .result) fine (search needs) e (c .before .before .put .ensures)
 
-bad-size-requires : tie.Need-bad-size-requires
-bad-size-requires c κs = search needs
+bad-k-requires : tie.Need-bad-k-requires
+bad-k-requires c κs = search needs
 
 make-table-requires : tie.Need-make-table-requires
 make-table-requires c κs = search needs
@@ -54,7 +54,7 @@ pub parity-spec : {M : Type 1} → statement M
 parity-spec =
     tie.close
     (tie.spec
-    bad-size-requires
+    bad-k-requires
     returns
     make-table-requires
     parity-of-requires

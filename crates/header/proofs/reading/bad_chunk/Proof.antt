@@ -1,32 +1,35 @@
 -- `bad_chunk` meets its contract, test by test. Assumes nothing.
+use native.Mathlib.Omega.{arith}
 use borrow.Author.Needs.{needs}
-use Rattle.header_rules.proofs.Fields.{chunk-none, chunk-over, chunk-less, chunk-rest}
+use Rattle.base_rules.proofs.ChunkSize.{k-most}
+use Rattle.base_rules.proofs.Logic.{told}
+use Rattle.header_rules.proofs.Fields.{chunk-none, chunk-less, chunk-rest}
 use Rattle.header.proofs.reading.bad_chunk.Statement.{statement}
 use Rattle.header.proofs.reading.bad_chunk.Tie as tie
 
 returns : tie.Need-returns
-returns c = chunk-none (c .before .args .f) (c .before .args .s) (c .before .args .k) (c .before .args .z) (c .if1 .taken)
+returns c =
+    let A = c .before .before .args in
+    chunk-none (A .f) (A .s) (A .k) (A .z) (told (c .before .bad-k .ensures) (c .if1 .taken))
+
+add-if2 : tie.Need-add-if2
+add-if2 c = omega (arith, k-most (c .before .before .args .k) (told (c .before .bad-k .ensures) (c .if1 .left)))
 
 returns-2 : tie.Need-returns-2
 returns-2 c =
-    let A = c .before .before .args in
-    chunk-over (A .f) (A .s) (A .k) (A .z) (c .before .if1 .left) (c .if2 .taken)
+    let A = c .before .before .before .args in
+    chunk-less (A .f) (A .s) (A .k) (A .z) (told (c .before .before .bad-k .ensures) (c .before .if1 .left)) (c .if2 .taken)
 
 returns-3 : tie.Need-returns-3
 returns-3 c =
     let A = c .before .before .before .args in
-    chunk-less (A .f) (A .s) (A .k) (A .z) (c .before .before .if1 .left) (c .before .if2 .left) (c .if3 .taken)
+    chunk-rest (A .f) (A .s) (A .k) (A .z) (told (c .before .before .bad-k .ensures) (c .before .if1 .left)) (c .if2 .left)
 
-returns-4 : tie.Need-returns-4
-returns-4 c =
-    let A = c .before .before .before .args in
-    chunk-rest (A .f) (A .s) (A .k) (A .z) (c .before .before .if1 .left) (c .before .if2 .left) (c .if3 .left)
+bad-k-requires : tie.Need-bad-k-requires
+bad-k-requires c κs = search needs
 
-mul-if3 : tie.Need-mul-if3
-mul-if3 c = search needs
-
-add-if3 : tie.Need-add-if3
-add-if3 c = search needs
+mul-if2 : tie.Need-mul-if2
+mul-if2 c = search needs
 
 pub bad-chunk-spec : {M : Type 1} → statement M
-bad-chunk-spec = tie.close (tie.spec returns returns-2 mul-if3 add-if3 returns-3 returns-4)
+bad-chunk-spec = tie.close (tie.spec bad-k-requires returns mul-if2 add-if2 returns-2 returns-3)

@@ -1,8 +1,8 @@
--- `bad_size` meets its contract. Assumes nothing.
+-- `bad_k` meets its contract. Assumes nothing.
 use borrow.Author.Tests.{eq-eqb, ne-eqb}
 use Rattle.base_rules.specs.Bounds.{badK}
-use Rattle.code_encoder.proofs.calls.bad_size.Statement.{statement}
-use Rattle.code_encoder.proofs.calls.bad_size.Tie as tie
+use Rattle.base.proofs.bad_k.Statement.{statement}
+use Rattle.base.proofs.bad_k.Tie as tie
 
 returns : tie.Need-returns
 unfolding badK
@@ -12,5 +12,5 @@ returns-2 : tie.Need-returns-2
 unfolding badK
 returns-2 c = rw (ne-eqb (c .before .args .k) 0 (c .if1 .left))
 
-pub bad-size-spec : {M : Type 1} → statement M
-bad-size-spec = tie.close (tie.spec returns returns-2)
+pub bad-k-spec : {M : Type 1} → statement M
+bad-k-spec = tie.close (tie.spec returns returns-2)
