@@ -2,6 +2,7 @@
 // fragments by a fixed rule, the receiver is handed what is left, and what becomes of each fragment is a line of output. The rule:
 // neighbours are exchanged (1 0 3 2 ..); every third fragment (2, 5, 8, ..) comes twice; every fifth (4, 9, ..) is lost, until as many
 // are lost as the plan assures.
+mod drawing;
 mod telling;
 
 use base::MOST_L;
@@ -11,6 +12,7 @@ use cut::Figures;
 use cut::Planned;
 use libc::STDIN_FILENO;
 use places::ALL_PLACES;
+use places::Place;
 use places::Table;
 use receiver::Received;
 use sender::Sent;
@@ -41,12 +43,17 @@ fn length_after(before: usize, answer: Received) -> usize {
     }
 }
 
+// The packet's place: a fresh table opens its first place first, and no other packet is on the line.
+fn place_of(table: Table) -> Place {
+    places::place_at(table, 0)
+}
+
 // Fragment i comes to the far end.
 fn arrive(i: usize, end: End, datagram: &[u8], lent: &mut [u8], out: &mut [u8]) -> End {
     let reply = receiver::receive(Address::None, end.table, lent, datagram, out);
     let table = reply.table;
     let answer = reply.answer;
-    telling::arrived(i, answer);
+    telling::arrived(i, answer, place_of(table));
     End {
         table,
         length: length_after(end.length, answer),
@@ -78,7 +85,7 @@ fn is_repeated(i: usize) -> bool {
 // What the line does with fragment i.
 fn carry(packet: &[u8], p: Figures, i: usize, end: End, lent: &mut [u8], out: &mut [u8]) -> End {
     if is_lost(i, p.assured) {
-        telling::lost(i);
+        telling::lost(i, place_of(end.table));
         return end;
     }
     let once = send(packet, i, end, lent, out);
@@ -110,7 +117,7 @@ fn carry_all(packet: &[u8], p: Figures, lent: &mut [u8], out: &mut [u8]) -> usiz
 
 // A packet that is cut by p, in fragments of `size` bytes.
 fn relay(packet: &[u8], p: Figures, size: usize) {
-    telling::cut(packet.len(), p.f, size, p.assured);
+    telling::cut(packet.len(), p, size);
     let mut lent = [0u8; ALL_PLACES];
     let mut out = [0u8; MOST_L];
     let length = carry_all(packet, p, &mut lent, &mut out);
