@@ -21,6 +21,9 @@ const STEP: usize = 8;
 // The letters before the mark.
 const MARK: usize = PARITY / STEP;
 
+// Where the drawing begins in its line: behind the words for one of a hundred fragments.
+const COLUMN: usize = 23;
+
 // The most letters of one kind in a row.
 const RUN: usize = 64;
 
@@ -75,10 +78,10 @@ fn put_run(line: &mut [u8], at: usize, letter: u8, n: usize) -> usize {
     at
 }
 
-// Blanks up to a column.
-pub(crate) fn put_blanks(line: &mut [u8], at: usize, column: usize) -> usize {
-    if at < column {
-        return put_run(line, at, b' ', column - at);
+// Blanks up to the column of the drawing.
+fn put_blanks(line: &mut [u8], at: usize) -> usize {
+    if at < COLUMN {
+        return put_run(line, at, b' ', COLUMN - at);
     }
     at
 }
@@ -126,16 +129,26 @@ fn put_bar(line: &mut [u8], at: usize, missed: usize) -> usize
     put_run(line, to, b'#', n - left)
 }
 
-// The blanks that bring a number to three columns.
+// The blanks that bring a number to four columns.
 fn blanks_before(value: usize) -> usize {
     if value < 10 {
-        return 2;
+        return 3;
     }
-    if value < 100 { 1 } else { 0 }
+    if value < 100 { 2 } else { 1 }
 }
 
-// A place with FEC, drawn; before its first fragment came it has no figures, and nothing is drawn.
-pub(crate) fn put_place(line: &mut [u8], at: usize, p: Place) -> usize {
+// So many missing bytes, as a number and as a bar.
+fn put_missed(line: &mut [u8], at: usize, missed: usize) -> usize
+    requires { ⌜ missed ≤ 255 ⌝ }
+{
+    let mut to = put_run(line, at, b' ', blanks_before(missed));
+    to = text::decimal(line, to, missed);
+    to = text::plain(line, to, b" ");
+    put_bar(line, to, missed)
+}
+
+// A place with FEC; before its first fragment came it has no figures, and nothing is drawn.
+fn put_figures(line: &mut [u8], at: usize, p: Place) -> usize {
     if places::bad_place(p) {
         return at;
     }
@@ -147,10 +160,12 @@ pub(crate) fn put_place(line: &mut [u8], at: usize, p: Place) -> usize {
     }
     let kept = p.kept;
     let missed = worst_in(p);
-    let mut to = put_kept(line, at, kept, p.count as usize);
-    to = text::plain(line, to, b" ");
-    to = put_run(line, to, b' ', blanks_before(missed));
-    to = text::decimal(line, to, missed);
-    to = text::plain(line, to, b" ");
-    put_bar(line, to, missed)
+    let to = put_kept(line, at, kept, p.count as usize);
+    put_missed(line, to, missed)
+}
+
+// A place, drawn from its column on.
+pub(crate) fn put_place(line: &mut [u8], at: usize, p: Place) -> usize {
+    let to = put_blanks(line, at);
+    put_figures(line, to, p)
 }

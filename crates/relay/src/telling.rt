@@ -8,9 +8,6 @@ use receiver::Received;
 // Room for a line with 256 fragments.
 const LINE: usize = 400;
 
-// Where the drawing of a line begins.
-const COLUMN: usize = 23;
-
 // Writes the first n bytes of a line.
 fn show(line: &[u8], n: usize) {
     if n <= line.len() {
@@ -62,7 +59,6 @@ pub(crate) fn lost(i: usize, p: Place) {
     let mut line = [0u8; LINE];
     let mut at = put_fragment(&mut line, i);
     at = text::plain(&mut line, at, b" lost");
-    at = drawing::put_blanks(&mut line, at, COLUMN);
     at = drawing::put_place(&mut line, at, p);
     at = text::plain(&mut line, at, b"\n");
     show(&line, at);
@@ -73,7 +69,6 @@ pub(crate) fn arrived(i: usize, answer: Received, p: Place) {
     let mut line = [0u8; LINE];
     let mut at = put_fragment(&mut line, i);
     at = put_answer(&mut line, at, answer);
-    at = drawing::put_blanks(&mut line, at, COLUMN);
     at = drawing::put_place(&mut line, at, p);
     at = put_outcome(&mut line, at, answer);
     at = text::plain(&mut line, at, b"\n");
