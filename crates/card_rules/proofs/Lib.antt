@@ -5,6 +5,7 @@ pub mod FlagLaws
 pub mod ReceiveLaws
 pub mod QueryLaws
 pub mod ItemLaws
+pub mod HeaderLaws
 pub mod CountLaws
 pub mod RefusalLaws
 pub mod SendProved
@@ -12,4 +13,5 @@ pub mod ReceiveProved
 pub mod FillProved
 pub mod WalkProved
 pub mod ItemProved
+pub mod HeaderProved
 pub mod Proved

@@ -1,10 +1,12 @@
 -- The claims of specs/Claims.antt, each by citation. Assumes nothing.
 use Rattle.card_rules.specs.Claims.{PlanWhole, LengthWhole, SplitWhole}
 use Rattle.card_rules.specs.Claims.{ZerosFresh, ClearedZeros, OneReceipt, RefusedUnchanged, NoSilence, ReceiptWhole}
+use Rattle.card_rules.specs.Claims.{HeaderWhole, PayloadBegins, RefusedAlike}
 use Rattle.card_rules.specs.Claims.{OneFilling}
 use Rattle.card_rules.specs.Claims.{OpensTyped, StepsTyped, ReadBack, StepNumbers, FoundWhole, StepWhole}
 use Rattle.card_rules.proofs.SendProved as sender
 use Rattle.card_rules.proofs.ReceiveProved as receiver
+use Rattle.card_rules.proofs.HeaderProved as header
 use Rattle.card_rules.proofs.FillProved as filler
 use Rattle.card_rules.proofs.WalkProved as walk
 use Rattle.card_rules.proofs.ItemProved as item
@@ -35,6 +37,15 @@ no-silence = receiver.no-silence
 
 pub receipt-whole : ReceiptWhole
 receipt-whole = receiver.receipt-whole
+
+pub header-whole : HeaderWhole
+header-whole = header.header-whole
+
+pub payload-begins : PayloadBegins
+payload-begins = header.payload-begins
+
+pub refused-alike : RefusedAlike
+refused-alike = header.refused-alike
 
 pub one-filling : OneFilling
 one-filling = filler.one-filling

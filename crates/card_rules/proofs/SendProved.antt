@@ -23,7 +23,7 @@ use Rattle.card_rules.specs.Claims.{InTwo, none, more, PlanWhole, Length
 -- ---- the plan
 
 -- a figure that is 0 without FEC
-at-most : (b : Bool) (x : ℕ) → cond b x 0 ≤ x
+pub at-most : (b : Bool) (x : ℕ) → cond b x 0 ≤ x
 at-most true x = omega arith
 at-most false x = omega arith
 

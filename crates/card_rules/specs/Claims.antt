@@ -2,19 +2,22 @@
 use mathlib.Core.Path.{_≡_}
 use mathlib.Core.List.{List, [], _∷_}
 use mathlib.Core.Logic.{_⊎_}
-use Prim.Native.Nat.{ℕ, _^_, _<_, _≤_}
-use lib.ListN.{length, getD, replicate}
+use Prim.Native.Nat.{ℕ, _+_, _^_, _<_, _≤_}
+use lib.ListN.{length, getD, drop, replicate}
 use Rattle.base_rules.specs.Answer.{granted, answerIn}
 use Rattle.base_rules.specs.Bounds.{most-f, most-l}
 use Rattle.base_rules.specs.Bytes.{Bytes, splice}
 use Rattle.cut_rules.specs.Plan.{planFault, figuresOf}
 use Rattle.cut_rules.specs.declared.Address.{Address}
 use Rattle.cut_rules.specs.declared.Settings.{Settings}
+use Rattle.header_rules.specs.declared.Header.{Header}
+use Rattle.header_rules.specs.declared.Parsed.the-variants.{Fragment}
+use Rattle.header_rules.specs.Read.{parsedOf}
 use Rattle.sender_rules.specs.Calls.{fragmentCall, fragmentsCall}
-use Rattle.packed_rules.specs.Packed.{table-bytes, unpackCall}
+use Rattle.packed_rules.specs.Packed.{table-bytes, tableFrom, unpackFault, unpackCall}
 use Rattle.places_rules.specs.Places.{freshTable}
 use Rattle.places_rules.specs.declared.Displaced.{Displaced}
-use Rattle.receiver_rules.specs.Promise.{numberOf, Reception, State, Step}
+use Rattle.receiver_rules.specs.Promise.{numberOf, Reception, roomFault, payloadOf, State, Step}
 use Rattle.receiver_rules.specs.declared.Received.the-variants.{Delivered}
 use Rattle.item_rules.specs.declared.Item.{Item}
 use Rattle.item_rules.specs.Item.{head}
@@ -26,8 +29,9 @@ use Rattle.walk_rules.specs.declared.Handed.the-variants as handed
 use Rattle.walk_rules.specs.declared.Walker.{Walker}
 use Rattle.walk_rules.specs.Names.{deepest, namesFault}
 use Rattle.walk_rules.specs.Step.{opens, walkStep}
-use Rattle.card_rules.specs.Told.{refusalIn, inWidths, bytesFor, CardWritten}
-use Rattle.card_rules.specs.Receiving.{receiptTold, receipt-widths, Held, CardReceived, clearFor}
+use Rattle.card_rules.specs.Told.{refusalIn, inWidths, bytesFor, CardWritten, CardTold}
+use Rattle.card_rules.specs.Headers.{headerLength, header-widths, parseCall}
+use Rattle.card_rules.specs.Receiving.{receiptTold, receipt-widths, Held, RefusedWith, CardReceived, clearFor}
 use Rattle.card_rules.specs.Items.{walker-bytes, walkerBytes, walkerFrom, step-widths, walkStepCall}
 use Rattle.card_rules.specs.Blocks.{CardFilled}
 
@@ -102,6 +106,36 @@ ReceiptWhole =
     (own : Address) (s : State) (datagram out : List ℕ) (y : Reception) → Step own s datagram out y
     → (l m : ℕ) (d : Displaced) → y .answer ≡ numberOf (Delivered l m d)
     → (l ≤ most-l) × (m ≤ most-f)
+
+-- ---- a header, read before its datagram is received
+
+-- as many numbers as widths, and each fits so many bytes
+pub data Fits : List ℕ → List ℕ → Type 0 where
+  no-more : Fits [] []
+  then : {w x : ℕ} {widths values : List ℕ} → x < 256 ^ w → Fits widths values → Fits (w ∷ widths) (x ∷ values)
+
+-- clause 7.1: no field of a header is cut off where it is told, nor is its length
+abbrev pub HeaderWhole : Type 0
+HeaderWhole = (own : Address) (datagram values : List ℕ) → Bytes datagram → parseCall own datagram ≡ granted values → Fits header-widths values
+
+-- card.h, "where the payload begins": at the length told; and so many bytes as Plen says stand from there on, to the datagram's end
+abbrev pub PayloadBegins : Type 0
+PayloadBegins =
+    (own : Address) (datagram : List ℕ) (h : Header) → parsedOf own datagram ≡ Fragment h
+    → (drop (headerLength h) datagram ≡ payloadOf datagram) × (headerLength h + h .plen ≡ length datagram)
+
+-- a record that is taken, and of each kind of bytes as many as a receiving asks for
+pub record Ready (before : Held) : Type 0 where
+  pub taken : unpackFault (before .record-bytes) ≡ 0
+  pub room : roomFault (tableFrom (before .record-bytes)) (length (before .lent)) (length (before .out)) ≡ 0
+  pub tells : bytesFor receipt-widths ≤ length (before .told)
+
+-- what parsing refuses for its header, with a number above 1, receiving refuses with the same number and changes nothing
+abbrev pub RefusedAlike : Type 0
+RefusedAlike =
+    (own : Address) (datagram told told-after : List ℕ) (n : ℕ) → CardTold header-widths (parseCall own datagram) told told-after n → 1 < n
+    → (before after : Held) (r : ℕ) → Ready before → Bytes (before .record-bytes) → CardReceived own datagram before after r
+    → RefusedWith before after r n
 
 -- ---- a filling
 
