@@ -23,6 +23,7 @@ extern "C" {
 #define BAILHAMMER_TOLD_PLAN 20
 #define BAILHAMMER_TOLD_FRAGMENT 2
 #define BAILHAMMER_TOLD_FRAGMENTS 8
+#define BAILHAMMER_TOLD_PARSE 17
 #define BAILHAMMER_TOLD_RECEIVE 8
 #define BAILHAMMER_TOLD_QUERY 12
 
@@ -126,6 +127,13 @@ size_t bailhammer_fragment(size_t fec, size_t m, size_t mtu, size_t addressed, u
  * due. */
 size_t bailhammer_fragments(size_t fec, size_t m, size_t mtu, size_t addressed, uint16_t source, uint16_t dest, uint16_t number,
                             const uint8_t *packet, size_t packet_len, uint8_t *told, size_t told_len, uint8_t *out, size_t out_len);
+
+/* Reads the header of a datagram, so that its packet's number is known before the datagram is handed on to bailhammer_receive. An address
+ * is taken as there. Tells 17 bytes: Pseq, which is the packet's number (2), Findex (2), Fcount (2), 1 with FEC (1), RSk (1), RSz (1), 1
+ * with an address (1), Source (2), Dest (2), Plen (2), and h, where the payload begins (1); RSk and RSz are 0 without FEC, Source and Dest
+ * without an address. Gives 0; else the first of 2 to 8 and 1 that is due. */
+size_t bailhammer_parse(size_t addressed, uint16_t source, uint16_t dest, const uint8_t *datagram, size_t datagram_len, uint8_t *told,
+                        size_t told_len);
 
 /* The receiver. What its four places hold is the caller's between the calls: table is their record, of 1,081 bytes, all zeros for a fresh
  * one, and lent their bytes, 49,152, which may be any at first. Both are as the last call left them. */

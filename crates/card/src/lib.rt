@@ -1,5 +1,6 @@
 // The card for C: card.h declares the calls, and says what each number means. Here stands what several of them share.
 mod blocks;
+mod headers;
 mod items;
 mod packets;
 mod receiving;
@@ -10,6 +11,7 @@ use base::Written;
 pub use blocks::bailhammer_encode;
 pub use blocks::bailhammer_fill;
 use cut::Address;
+pub use headers::bailhammer_parse;
 pub use items::bailhammer_find;
 pub use items::bailhammer_walk_open;
 pub use items::bailhammer_walk_step;
@@ -23,6 +25,7 @@ pub use sending::bailhammer_fragment;
 pub use sending::bailhammer_fragments;
 pub use sending::bailhammer_plan;
 ghost use mathlib.Core.Path.{_≡_};
+ghost use Rattle.base_rules.specs.Tests.{bit};
 ghost use Rattle.base_rules.specs.Written.{numberOf};
 ghost use Rattle.card_rules.specs.Calls.{addressOf};
 ghost use Rattle.card_rules.specs.Told.{refusalIn};
@@ -35,6 +38,13 @@ fn written_number(w: Written) -> usize
         Written::Done => 0,
         Written::Refused(n) => n as usize,
     }
+}
+
+// A flag as a number.
+fn bit_of(flag: bool) -> usize
+    ensures { λ r. ⌜ r ≡ bit flag ⌝ }
+{
+    if flag { 1 } else { 0 }
 }
 
 // The address, where there is to be one.

@@ -1,12 +1,11 @@
 // AF packets and TAG items for C.
+use crate::bit_of;
 use crate::telling::tell;
 use crate::written_number;
 use af::Checked;
 use item::Bits;
-ghost use mathlib.Core.Path.{_≡_};
 ghost use mathlib.Core.Bool.{not};
 ghost use lib.Dec.{eqb};
-ghost use Rattle.base_rules.specs.Tests.{bit};
 ghost use Rattle.af_rules.specs.Calls.{wrapCall, checkCall};
 ghost use Rattle.write_rules.specs.Write.{writeCall};
 ghost use Rattle.card_rules.specs.Told.{CardWritten, CardTold};
@@ -24,13 +23,6 @@ pub extern "C" fn bailhammer_wrap(seq: u16, cf: usize, payload: &[u8], out: &mut
 // The bytes that a check tells.
 const TOLD_CHECK: usize = 8;
 
-// CF as a number.
-fn cf_number(cf: bool) -> usize
-    ensures { λ r. ⌜ r ≡ bit cf ⌝ }
-{
-    if cf { 1 } else { 0 }
-}
-
 // Checks an AF packet, tells SEQ, CF, the minor revision and LEN, and gives 0; else the number of the refusal.
 #[no_mangle]
 pub extern "C" fn bailhammer_check(packet: &[u8], told: &mut [u8]) -> usize
@@ -39,7 +31,7 @@ pub extern "C" fn bailhammer_check(packet: &[u8], told: &mut [u8]) -> usize
     let checked = af::check(packet);
     match checked {
         Checked::Packet(p) => {
-            let cf = cf_number(p.cf);
+            let cf = bit_of(p.cf);
             let figures = [p.seq as usize, cf, p.minor as usize, p.len as usize];
             tell(told, TOLD_CHECK, &[2, 1, 1, 4], &figures)
         }

@@ -116,14 +116,14 @@ parsed-refused (Refused m) e = ap Refused (ap refusalIn e)
 
 -- what parsing refuses for its header receiving refuses with the same number, and leaves all that is lent
 pub refused-alike : RefusedAlike
-unfolding parseCall promise.outcome promise.numberOf
+unfolding parseCall promise.reception promise.numberOf
 refused-alike own s told told-after n said some before after r ready bytes promised =
     let due = header-refused own s refl (parsed-refused (parsedOf own s) (above-room header-widths told _ (said .number) some)) in
     let state : State = record { table = tableFrom (before .record-bytes); bytes = before .lent } in
     let is : n ≡ dueFor own state s (before .out) = header-due own _ _ s _ refl (ready .room) (due .0) (due .1) in
     let p = with-record own s before after r promised (ready .taken) (ready .tells) in
     let refusal = step-refused own state s (before .out) (λ z. due .1 (is ∙ z)) (p .step) in
-    let same : r ≡ n = p .number ∙ ap (λ (o : promise.Outcome). o .answer .0) refusal ∙ sym is in (
+    let same : r ≡ n = p .number ∙ ap (λ (o : promise.Reception). o .answer .0) refusal ∙ sym is in (
       same,
       refused-unchanged own s before after r bytes promised (λ z. due .1 (sym same ∙ z))
           (λ z. header-other own s (sym (due .0) ∙ sym same ∙ z)),

@@ -90,6 +90,15 @@ extern "C" {
         out: *mut u8,
         out_len: usize,
     ) -> usize;
+    pub fn bailhammer_parse(
+        addressed: usize,
+        source: u16,
+        dest: u16,
+        datagram: *const u8,
+        datagram_len: usize,
+        told: *mut u8,
+        told_len: usize,
+    ) -> usize;
     pub fn bailhammer_receive(
         addressed: usize,
         source: u16,

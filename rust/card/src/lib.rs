@@ -9,6 +9,7 @@
 pub mod af;
 pub mod block;
 pub mod ffi;
+pub mod header;
 pub mod raw;
 pub mod receiver;
 pub mod sender;

@@ -19,6 +19,8 @@ pub const TOLD_PLAN: usize = 20;
 pub const TOLD_FRAGMENT: usize = 2;
 /// The bytes that all fragments tell.
 pub const TOLD_FRAGMENTS: usize = 8;
+/// The bytes that reading a header tells.
+pub const TOLD_PARSE: usize = 17;
 /// The bytes that a receiving tells.
 pub const TOLD_RECEIVE: usize = 8;
 /// The bytes that a query tells.
@@ -162,6 +164,21 @@ pub fn fragments(
             told.len(),
             out.as_mut_ptr(),
             out.len(),
+        )
+    }
+}
+
+pub fn parse(addressed: usize, source: u16, dest: u16, datagram: &[u8], told: &mut [u8]) -> usize {
+    // Safety: pointers and lengths are those of live slices, which do not overlap.
+    unsafe {
+        ffi::bailhammer_parse(
+            addressed,
+            source,
+            dest,
+            datagram.as_ptr(),
+            datagram.len(),
+            told.as_mut_ptr(),
+            told.len(),
         )
     }
 }

@@ -23,7 +23,7 @@ returns c =
     let given = known .checked .given in
     let p = given .0 .0 in
     told-granted check-widths _ _ (sym (known .before .before .check .ensures) ∙ ap numberOf (given .1))
-    (ap (λ (x : ℕ). p .seq ∷ x ∷ p .minor ∷ p .len ∷ []) (listed .cf-number .ensures)) (said .tell .ensures)
+    (ap (λ (x : ℕ). p .seq ∷ x ∷ p .minor ∷ p .len ∷ []) (listed .bit-of .ensures)) (said .tell .ensures)
 
 returns-2 : tie.Need-returns-2
 unfolding numberOf
@@ -35,8 +35,8 @@ check-requires c κs = search needs
 enum-known-checked : tie.Need-enum-known-checked
 enum-known-checked c = search needs
 
-cf-number-requires : tie.Need-cf-number-requires
-cf-number-requires c κs = search needs
+bit-of-requires : tie.Need-bit-of-requires
+bit-of-requires c κs = search needs
 
 cast-t10 : tie.Need-cast-t10
 cast-t10 c = search needs
@@ -68,7 +68,7 @@ bailhammer-check-spec =
     (tie.spec
     check-requires
     enum-known-checked
-    cf-number-requires
+    bit-of-requires
     cast-t10
     cast-t11
     cast-t12
