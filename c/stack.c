@@ -77,6 +77,11 @@ static void fragments(void)
     number = bailhammer_fragments(FEC, M, MTU, NO_ADDRESS, 0, 0, NUMBER, packet, sizeof packet, told, sizeof told, sent, sizeof sent);
 }
 
+static void parse(void)
+{
+    number = bailhammer_parse(NO_ADDRESS, 0, 0, sent, h + s, told, sizeof told);
+}
+
 static void receive(void)
 {
     number = bailhammer_receive(NO_ADDRESS, 0, 0, record, sizeof record, lent, sizeof lent, sent + next * (h + s), h + s, told, sizeof told,
@@ -186,6 +191,7 @@ int main(void)
     printf("%-10s %6zu\n", "receive", received());
     if (!told[0])
         return 1;
+    tell("parse", parse);
     for (int i = 0; i < F; i++)
         kept[i] = i % 5 != 4;
     tell("fill", fill);

@@ -8,6 +8,7 @@ mod af;
 mod block;
 mod call;
 mod field;
+mod header;
 mod places;
 mod receiver;
 mod record;
@@ -37,7 +38,7 @@ const NUMBERS: [std::ops::RangeInclusive<usize>; 4] = [1..=14, 20..=25, 30..=35,
 type Compared = fn(&mut Rng, &mut Tally);
 
 /// The kinds that are compared one call after another, with the numbers that each can give.
-const KINDS: [(&str, &[usize], Compared); 9] = [
+const KINDS: [(&str, &[usize], Compared); 10] = [
     ("wrap", &[0, 1, 22], af::wrap),
     ("check", &[0, 1, 20, 21, 22, 23, 24, 25], af::check),
     ("item", &[0, 1, 33, 43], tag::item),
@@ -45,6 +46,7 @@ const KINDS: [(&str, &[usize], Compared); 9] = [
     ("plan", &[0, 1, 20, 22, 40, 41], sender::plan),
     ("fragment", &[0, 1, 20, 21, 22, 23, 24, 25, 40, 41, 42], sender::fragment),
     ("fragments", &[0, 1, 20, 21, 22, 23, 24, 25, 40, 41], sender::fragments),
+    ("parse", &[0, 1, 2, 3, 4, 5, 6, 7, 8], header::parse),
     ("encode", &[0, 1, 8], block::encode),
     ("fill", &[0, 1, 7, 8, 256, 257], block::fill),
 ];
