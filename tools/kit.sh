@@ -35,15 +35,15 @@ need() {
     command -v "$1" >/dev/null || fail "no $1 here ($2)"
 }
 
-# Finds the Rattle kit: its folder is then in `kit`. Under another kit than that of kit.txt nothing is weaker, for what it has not proved itself
-# it proves again; but no one has seen it do so.
+# Finds the Rattle kit; its folder is then in `kit`. Under another kit than that of kit.txt nothing is weaker, for rt trusts no other kit's proofs
+# and makes its own; but nobody has seen that it can.
 need_kit() {
     command -v rt >/dev/null || fail "no rt here: the Rattle kit is missing, or its bin/ is not in PATH"
     here=$(rt version) || exit
     kit=$(dirname "$(dirname "$(rt doc)")")
     pinned=$(sed '/^#/d' kit.txt)
     [ "$here" = "$pinned" ] ||
-        say "this kit is $here, not $pinned (kit.txt): it proves all anew, so nothing is weaker, but may refuse a proof or take longer"
+        say "the kit here is $here; all was proved with $pinned (kit.txt), and is proved again with this one, which may refuse or take longer"
 }
 
 # The kit's compiler and C library for this machine.
