@@ -6,15 +6,17 @@
 #include <string.h>
 #include <ucontext.h>
 
-#include "card.h"
+#include "bailhammer.h"
+
+/* fec, m and mtu written out: C, F, S and K below are theirs. */
+#define TWO_LOSSES 1, 2, 1400
 
 enum {
     STACK = 1 << 20,
     MOST = 64 * 1024, /* what card.h says */
     FILLER = 0xA5,
-    FEC = 1, M = 2, MTU = 1400, NO_ADDRESS = 0,
     NUMBER = 7,
-    NEST = 0x6e657374, /* "nest" */
+    NEST = BAILHAMMER_NAME('n', 'e', 's', 't'),
     DEPTHS = 5,
     PAYLOAD = BAILHAMMER_PACKET - 12,
     K = 205, C = 40, F = 16, S = 633,
@@ -64,17 +66,17 @@ static void walk_step(void)
 
 static void plan(void)
 {
-    number = bailhammer_plan(FEC, M, MTU, NO_ADDRESS, sizeof packet, told, sizeof told);
+    number = bailhammer_plan(TWO_LOSSES, 0, sizeof packet, told, sizeof told);
 }
 
 static void fragment(void)
 {
-    number = bailhammer_fragment(FEC, M, MTU, NO_ADDRESS, 0, 0, NUMBER, packet, sizeof packet, 1, told, sizeof told, sent, sizeof sent);
+    number = bailhammer_fragment(TWO_LOSSES, BAILHAMMER_NO_ADDRESS, NUMBER, packet, sizeof packet, 1, told, sizeof told, sent, sizeof sent);
 }
 
 static void fragments(void)
 {
-    number = bailhammer_fragments(FEC, M, MTU, NO_ADDRESS, 0, 0, NUMBER, packet, sizeof packet, told, sizeof told, sent, sizeof sent);
+    number = bailhammer_fragments(TWO_LOSSES, BAILHAMMER_NO_ADDRESS, NUMBER, packet, sizeof packet, told, sizeof told, sent, sizeof sent);
 }
 
 static void parse(void)
@@ -84,7 +86,7 @@ static void parse(void)
 
 static void receive(void)
 {
-    number = bailhammer_receive(NO_ADDRESS, 0, 0, record, sizeof record, lent, sizeof lent, sent + next * (h + s), h + s, told, sizeof told,
+    number = bailhammer_receive(BAILHAMMER_NO_ADDRESS, record, sizeof record, lent, sizeof lent, sent + next * (h + s), h + s, told, sizeof told,
                                 out, sizeof out);
 }
 
@@ -130,8 +132,8 @@ static size_t used(void (*call)(void))
 static size_t measured(const char *name, void (*call)(void))
 {
     size_t bytes = used(call);
-    if (number != 0) {
-        printf("%s: %zu\n", name, number);
+    if (number != BAILHAMMER_DONE) {
+        printf("%s: %zu %s\n", name, number, bailhammer_meaning(number));
         exit(1);
     }
     if (bytes > MOST) {
@@ -149,7 +151,7 @@ static void tell(const char *name, void (*call)(void))
 /* Containers one in another, five items deep. */
 static void nest(void)
 {
-    for (int i = 0; i < DEPTHS; i++) {
+    for (size_t i = 0; i < DEPTHS; i++) {
         uint8_t *head = nested + 8 * i;
         memcpy(head, names, 4);
         size_t bits = 8 * (sizeof nested - 8 * (i + 1));
@@ -163,8 +165,8 @@ static void nest(void)
 static size_t received(void)
 {
     size_t most = 0;
-    h = told[2] * 256 + told[3];
-    s = told[4] * 256 + told[5];
+    h = bailhammer_told(told + 2, 2);
+    s = bailhammer_told(told + 4, 2);
     for (told[0] = 0, next = 0; !told[0] && next < F; next++) {
         if (next % 5 == 4)
             continue;

@@ -1,4 +1,19 @@
-/* The calls of libcard.a for C (`rt staticlib card`). A slice is a pointer and then a length. */
+/* The calls of libcard.a for C, a link card after ETSI TS 102 821: AF packets go out as PFT fragments, with parity where FEC is on, and come
+ * together again at the far end. `rt staticlib card` makes the library; then
+ *
+ *     cc -I crates/card yours.c target/staticlib/libcard.a
+ *
+ * bailhammer.h beside this file has the same calls with structs in place of told bytes; c/rebuild.c is a program to begin from. A packet from
+ * end to end (each call gives 0 where it is done):
+ *
+ *     bailhammer_wrap(seq, 1, payload, payload_len, packet, sizeof packet);
+ *     bailhammer_fragments(BAILHAMMER_HOUSE, BAILHAMMER_NO_ADDRESS, number, packet, payload_len + BAILHAMMER_AF_FRAME, told, sizeof told,
+ *                          sent, sizeof sent);
+ *     .. the line, on which fragments are lost, exchanged and repeated ..
+ *     bailhammer_receive(BAILHAMMER_NO_ADDRESS, record, sizeof record, lent, sizeof lent, datagram, datagram_len, told, sizeof told, out,
+ *                        sizeof out);
+ *     if told[0] is 1, out holds the packet
+ */
 #ifndef BAILHAMMER_CARD_H
 #define BAILHAMMER_CARD_H
 
@@ -8,6 +23,10 @@
 #ifdef __cplusplus
 extern "C" {
 #endif
+
+/* What this header is. */
+#define BAILHAMMER_VERSION 1       /* one more where a call, a number or a size is another than before */
+#define BAILHAMMER_RECORD_LAYOUT 1 /* one more where a receiver's record or lent bytes that were kept mean something else than before */
 
 /* Bytes that the calls ask for. */
 #define BAILHAMMER_PACKET 8192 /* the most bytes of an AF packet, and the least of the buffer that one is handed out in */
@@ -27,76 +46,138 @@ extern "C" {
 #define BAILHAMMER_TOLD_RECEIVE 8
 #define BAILHAMMER_TOLD_QUERY 12
 
+/* Figures of the format. */
+#define BAILHAMMER_AF_HEADER 10 /* where the payload of an AF packet begins */
+#define BAILHAMMER_AF_FRAME 12  /* the bytes of an AF packet beside its payload */
+#define BAILHAMMER_ITEM_HEAD 8  /* the bytes of a TAG item before its value */
+#define BAILHAMMER_PARITY 48    /* the parity bytes of a chunk */
+#define BAILHAMMER_BLOCK 12288  /* the most bytes of a packet's chunks with their parity, and of a place */
+#define BAILHAMMER_FRAGMENTS 256 /* the most fragments of a packet */
+#define BAILHAMMER_MTU 16384    /* the most that mtu may be */
+#define BAILHAMMER_PLACES 4     /* the packets that the receiver holds at a time */
+
+/* A TAG name from its four letters, as the calls take it: BAILHAMMER_NAME('d', 'e', 'm', 'o'). */
+#define BAILHAMMER_NAME(a, b, c, d) ((uint32_t)(uint8_t)(a) << 24 | (uint32_t)(uint8_t)(b) << 16 | (uint32_t)(uint8_t)(c) << 8 | (uint8_t)(d))
+
+/* The settings fec, m and mtu of the house default, and an address that is none, as the calls take them. */
+#define BAILHAMMER_HOUSE 1, 2, 1400
+#define BAILHAMMER_NO_ADDRESS 0, 0, 0
+
+/* The numbers that the calls give, under document 01's names. */
+enum bailhammer_number {
+    BAILHAMMER_DONE = 0,         /* done */
+    BAILHAMMER_ROOM = 1,         /* the bytes lent are too few, or not as many as they must be */
+    BAILHAMMER_SHORT = 2,        /* the datagram has under 14 bytes, or under the header its flags call for */
+    BAILHAMMER_SYNC = 3,         /* the datagram does not begin with "PF" */
+    BAILHAMMER_HCRC = 4,         /* the CRC of the datagram's header is wrong */
+    BAILHAMMER_LENGTH = 5,       /* the datagram has no payload, or not the one its header tells */
+    BAILHAMMER_ADDRESS = 6,      /* the datagram has an address, and that is not the one given, or none is given */
+    BAILHAMMER_COUNT = 7,        /* f is 0 or over 256, or the fragment's index is not below it */
+    BAILHAMMER_SIZE = 8,         /* sizes that cannot be: too many bytes for a block or too few for a chunk, k not 1 to 207, or z not below k */
+    BAILHAMMER_MISMATCH = 9,     /* the packet's number is held with another f, FEC, k or z, or with a size that cannot belong */
+    BAILHAMMER_SPOILED = 10,     /* no packet agreed with the fragments of this packet */
+    BAILHAMMER_LATE = 11,        /* the packet was handed out already */
+    BAILHAMMER_REPEAT = 12,      /* the fragment is kept already */
+    BAILHAMMER_DAMAGED = 13,     /* the fragment is kept, and no packet agrees with those kept */
+    BAILHAMMER_STATE = 14,       /* the record is none: one of its fields is out of its range */
+    BAILHAMMER_AF_SHORT = 20,    /* the AF packet has under 12 bytes */
+    BAILHAMMER_AF_SYNC = 21,     /* the AF packet does not begin with "AF" */
+    BAILHAMMER_AF_LENGTH = 22,   /* the AF packet's length is not LEN + 12, or is over 8,192 */
+    BAILHAMMER_AF_MAJOR = 23,    /* the AF packet's major revision is not 1 */
+    BAILHAMMER_AF_TYPE = 24,     /* the AF packet's type is not 'T' */
+    BAILHAMMER_AF_CRC = 25,      /* the AF packet's CRC field is wrong */
+    BAILHAMMER_OVERRUN = 30,     /* an item passes the end of its packet */
+    BAILHAMMER_TWICE = 31,       /* a name other than "*dmy" stands twice on one level of a packet */
+    BAILHAMMER_DEPTH = 32,       /* an item stands at depth 5 */
+    BAILHAMMER_PTR = 33,         /* "*ptr" has not 64 bits */
+    BAILHAMMER_ABSENT = 34,      /* the name is in neither packet */
+    BAILHAMMER_WHOLE = 35,       /* a container has not whole bytes */
+    BAILHAMMER_SETTINGS = 40,    /* settings that cannot be: m over 5, m above 0 without FEC, or mtu over 16,384 or not above h */
+    BAILHAMMER_TOOMANY = 41,     /* the packet would take over 256 fragments */
+    BAILHAMMER_INDEX = 42,       /* the fragment asked for is not below f */
+    BAILHAMMER_BITS = 43,        /* the value has not as many bytes as its bits take; or the names are over 8, or not four bytes each */
+    BAILHAMMER_ZERO = 44,        /* a division by zero or the logarithm of zero, which no call for C makes */
+    BAILHAMMER_NOTHING = 256,    /* no word of the code agrees with the cells kept; 0 stands in each missing cell */
+    BAILHAMMER_NOT_ENOUGH = 257  /* too few fragments are kept: a chunk misses more than 48 bytes */
+};
+
+/* What a place of the receiver is, as bailhammer_query tells it. */
+enum bailhammer_condition {
+    BAILHAMMER_PLACE_FREE = 0,      /* it holds no packet */
+    BAILHAMMER_PLACE_OPEN = 1,      /* fragments of its packet are kept, and more are needed */
+    BAILHAMMER_PLACE_DELIVERED = 2, /* its packet was handed out */
+    BAILHAMMER_PLACE_SPOILED = 3    /* no packet agreed with its fragments */
+};
+
 /*
- * The numbers that the calls give:
- *     0   done
- *     1   the bytes lent are too few, or not as many as they must be
- *     2   the datagram has under 14 bytes, or under the header its flags call for
- *     3   it does not begin with "PF"
- *     4   its header's CRC is wrong
- *     5   it has no payload, or not the one its header tells
- *     6   it has an address, and that is not the one given, or none is given
- *     7   f is 0 or over 256, or the fragment's index is not below it
- *     8   sizes that cannot be
- *     9   its packet's number is held with another f, FEC, k or z, or with a size that cannot belong
- *    10   no packet agreed with the fragments of its packet
- *    11   its packet was handed out already
- *    12   the fragment is kept already
- *    13   the fragment is kept, and no packet agrees with those kept
- *    14   the record is none: one of its fields is out of its range
- *    20   the AF packet has under 12 bytes
- *    21   it does not begin with "AF"
- *    22   its length is not LEN + 12, or is over 8,192
- *    23   its major revision is not 1
- *    24   its packet type is not 'T'
- *    25   its CRC field is wrong
- *    30   an item passes the end of its packet
- *    31   a name other than "*dmy" stands twice on one level of a packet
- *    32   an item stands at depth 5
- *    33   "*ptr" has not 64 bits
- *    34   the name is in neither packet
- *    35   a container has not whole bytes
- *    40   settings that cannot be
- *    41   over 256 fragments
- *    42   the fragment asked for is not below f
- *    43   the value has not as many bytes as its bits take; or the names are over 8, or not four bytes each
- *   256   no word of the code agrees with the cells kept; 0 stands in each missing cell
- *   257   too few fragments are kept: a chunk misses more than 48 bytes
- * Where the number is neither 0, 13 nor 256, no byte lent is changed. No pointer may be null, also where the length is 0,
- * and the bytes that are written may not overlap the bytes that are read, nor those of another slice that is written.
- * What a call tells stands at the front of `told`, numbers big-endian. Where told_len is below what it takes, the call gives 1, or the
- * number that is due before it, and nothing is done. What is 0 or not 0 counts as no or yes.
+ * What holds of every call.
  *
- * The calls keep no pointer and no state of their own: those on different buffers may run at once, and a table is for one call at a time.
- * A slice may stand at any address. Each call takes less than 64 KiB of stack, as c/run stack measures, memcpy and memset aside: where these
- * are bound when they are first called, that call can take some KiB more. The library is x86-64 code by the System V convention, with a
- * size_t of 64 bits.
+ * Bytes. A slice is a pointer and then a length, and may stand at any address. No pointer may be null, also where the length is 0, and the
+ * bytes that are written may not overlap the bytes that are read, nor those of another slice that is written. Where the number is neither 0,
+ * 13 nor 256, no byte lent is changed. What a call writes stands at the front of `out`, and what it tells at the front of `told`, numbers
+ * big-endian; every byte behind that is as it was. Where told_len is below what it takes, the call gives 1, or the number that is due before
+ * it, and nothing is done. What is 0 or not 0 counts as no or yes.
+ *
+ * Two lots of bytes are the receiver's and stand with the caller: its record, BAILHAMMER_RECORD bytes, says what the four places are; the
+ * lent bytes, BAILHAMMER_LENT, are what they keep of the fragments.
+ *
+ * The calls keep no pointer and no state of their own: those on different buffers may run at once, and a record is for one call at a time.
+ * Each call takes less than 64 KiB of stack, as c/run stack measures, memcpy and memset aside: where these are bound when they are first
+ * called, that call can take some KiB more. The library is x86-64 code by the System V convention, with a size_t of 64 bits.
+ *
+ * Letters, as in document 01: a packet of l bytes is laid in c chunks of k bytes, with z zeros behind it in the last; each chunk is followed by
+ * its 48 parity bytes, which makes n = k + 48. L is the bytes that are cut, c n with FEC (without it c, k, z and n are 0, and L is l), and S the
+ * most of them that a fragment may take. They are cut into f fragments of s bytes (without FEC the last may have fewer), each behind a header of
+ * h bytes. m is how many fragments may be lost, whichever they are, and mtu the most bytes of a fragment, header and all.
  */
 
 /* The AF layer. */
 
 /* Writes the AF packet of a payload at the front of out: payload_len + 12 bytes, with a CRC where cf is yes. Gives 0; else the first of 22
- * (over 8,180 bytes) and 1 that is due. */
+ * (over 8,180 bytes) and 1 that is due.
+ *
+ *     size_t number = bailhammer_wrap(seq, 1, payload, payload_len, packet, sizeof packet);
+ *     size_t l = payload_len + BAILHAMMER_AF_FRAME;
+ */
 size_t bailhammer_wrap(uint16_t seq, size_t cf, const uint8_t *payload, size_t payload_len, uint8_t *out, size_t out_len);
 
 /* Checks an AF packet. Its payload begins at 10. Tells 8 bytes: SEQ (2), CF (1), the minor revision (1), LEN (4). Gives 0; else the
- * first of 20 to 25 and 1 that is due. */
+ * first of 20 to 25 and 1 that is due.
+ *
+ *     uint8_t told[BAILHAMMER_TOLD_CHECK];
+ *     if (bailhammer_check(packet, l, told, sizeof told) == BAILHAMMER_DONE)
+ *         use(packet + BAILHAMMER_AF_HEADER, l - BAILHAMMER_AF_FRAME);
+ */
 size_t bailhammer_check(const uint8_t *packet, size_t packet_len, uint8_t *told, size_t told_len);
 
 /* The TAG layer. A name is four bytes as a number, the first one highest; names are four bytes each, one behind the other. */
 
 /* Writes an item at the front of out: 8 bytes and the value's, which are as many as its bits take; unused bits are written as zeros. Gives
- * 0; else the first of 43, 33 and 1 that is due. */
+ * 0; else the first of 43, 33 and 1 that is due.
+ *
+ *     const uint8_t value[2] = {0xab, 0xc0};   twelve bits
+ *     number = bailhammer_item(BAILHAMMER_NAME('d', 'e', 'm', 'o'), 12, value, sizeof value, payload, sizeof payload);
+ *     the next item goes to payload + BAILHAMMER_ITEM_HEAD + sizeof value
+ */
 size_t bailhammer_item(uint32_t name, uint32_t bits, const uint8_t *value, size_t value_len, uint8_t *out, size_t out_len);
 
 /* Finds an item by its name in a packet, else in the standing packet beside it, which may be empty. Tells 17 bytes: 0 where it is in the
  * packet, 1 where in the standing packet (1), its bits (4), where its value begins there (8), the value's bytes (4). Gives 0; else 30, 31
- * or 33 of the packet, then of the standing packet; 34; or 1. */
+ * or 33 of the packet, then of the standing packet; 34; or 1.
+ *
+ *     uint8_t told[BAILHAMMER_TOLD_FIND];      with no standing packet:
+ *     number = bailhammer_find(payload, payload_len, payload, 0, BAILHAMMER_NAME('d', 'e', 'm', 'o'), told, sizeof told);
+ */
 size_t bailhammer_find(const uint8_t *packet, size_t packet_len, const uint8_t *standing, size_t standing_len, uint32_t name,
                        uint8_t *told, size_t told_len);
 
 /* Opens a walk through a packet and the containers in it that have one of the names: all of it is checked. walker has 56 bytes, where the
- * walk stands. Gives 0; else the first of 43; 30, 31, 33, 35 and 32 of the leftmost item at fault; and 1 that is due. */
+ * walk stands. Gives 0; else the first of 43; 30, 31, 33, 35 and 32 of the leftmost item at fault; and 1 that is due.
+ *
+ *     const uint8_t names[4] = {'f', 'i', 'o', '_'};
+ *     uint8_t walker[BAILHAMMER_WALKER], told[BAILHAMMER_TOLD_STEP];
+ *     number = bailhammer_walk_open(payload, payload_len, names, sizeof names, walker, sizeof walker);
+ */
 size_t bailhammer_walk_open(const uint8_t *packet, size_t packet_len, const uint8_t *names, size_t names_len, uint8_t *walker,
                             size_t walker_len);
 
@@ -104,27 +185,44 @@ size_t bailhammer_walk_open(const uint8_t *packet, size_t packet_len, const uint
  * (4), where its value begins (8), the value's bytes (4); or, behind the last item, zeros and the bytes of padding in the last 4: so it
  * does then at each step. Gives 0; else the first that is due: 1 where walker has not 56 bytes or told under 22; 43 for a list of names that
  * opening refuses. Where walker is not as a call left it, a step may tell an item that is none or the end, and gives 30 where what stands there
- * would pass the end of its packet. */
+ * would pass the end of its packet.
+ *
+ *     while (bailhammer_walk_step(payload, payload_len, names, sizeof names, walker, sizeof walker, told, sizeof told) == 0 && told[0])
+ *         show(told);
+ */
 size_t bailhammer_walk_step(const uint8_t *packet, size_t packet_len, const uint8_t *names, size_t names_len, uint8_t *walker,
                             size_t walker_len, uint8_t *told, size_t told_len);
 
 /* The sender. FEC is on where fec is yes, and the header has the address source and dest where addressed is yes. m is the fragments that
  * may be lost, 5 at most, and 0 without FEC; mtu is the most bytes of a fragment, above h and 16,384 at most, where h is 14, two more with
- * FEC, four more with an address. The house default is FEC, m 2, mtu 1,400 and no address. */
+ * FEC, four more with an address. The house default is BAILHAMMER_HOUSE and no address. */
 
 /* Plans the cut of an AF packet of l bytes. Tells 20 bytes, two each: c, k, z and n (0 without FEC), h, S, L, f, s, and m, the
- * losses that the cut is made to bear, whichever they are. Gives 0; else the first of 40, 20, 22, 41 and 1 that is due. */
+ * losses that the cut is made to bear, whichever they are. Gives 0; else the first of 40, 20, 22, 41 and 1 that is due.
+ *
+ *     uint8_t told[BAILHAMMER_TOLD_PLAN];
+ *     number = bailhammer_plan(BAILHAMMER_HOUSE, 0, l, told, sizeof told);
+ *     size_t f = (size_t)told[14] * 256 + told[15];
+ */
 size_t bailhammer_plan(size_t fec, size_t m, size_t mtu, size_t addressed, size_t l, uint8_t *told, size_t told_len);
 
 /* Writes fragment `index` of an AF packet at the front of out, under the packet's number. Tells its length, 2 bytes. Gives 0; else the
- * first of 40, 20 to 25, 41, 42 and 1 that is due. */
+ * first of 40, 20 to 25, 41, 42 and 1 that is due. Each call lays the whole packet's chunks: for all fragments, bailhammer_fragments.
+ *
+ *     uint8_t told[BAILHAMMER_TOLD_FRAGMENT], out[1400];
+ *     number = bailhammer_fragment(BAILHAMMER_HOUSE, BAILHAMMER_NO_ADDRESS, 7, packet, l, 0, told, sizeof told, out, sizeof out);
+ */
 size_t bailhammer_fragment(size_t fec, size_t m, size_t mtu, size_t addressed, uint16_t source, uint16_t dest, uint16_t number,
                            const uint8_t *packet, size_t packet_len, size_t index, uint8_t *told, size_t told_len, uint8_t *out,
                            size_t out_len);
 
 /* Writes all fragments of an AF packet at the front of out, one behind the other, under the packet's number: f fragments of h + s bytes
  * each, the last one of h + last. Tells 8 bytes, two each: f, h, s and last. Gives 0; else the first of 40, 20 to 25, 41 and 1 that is
- * due. */
+ * due. Fragment i begins at i * (h + s).
+ *
+ *     uint8_t told[BAILHAMMER_TOLD_FRAGMENTS], sent[BAILHAMMER_SENT];
+ *     number = bailhammer_fragments(BAILHAMMER_HOUSE, BAILHAMMER_NO_ADDRESS, 7, packet, l, told, sizeof told, sent, sizeof sent);
+ */
 size_t bailhammer_fragments(size_t fec, size_t m, size_t mtu, size_t addressed, uint16_t source, uint16_t dest, uint16_t number,
                             const uint8_t *packet, size_t packet_len, uint8_t *told, size_t told_len, uint8_t *out, size_t out_len);
 
@@ -143,28 +241,53 @@ size_t bailhammer_parse(size_t addressed, uint16_t source, uint16_t dest, const 
  * is taken where addressed is yes and the address is source and dest. Tells 8 bytes: 1 where a packet was handed out (1), its length (2),
  * how many of its fragments are not held (2); then 1 and the number of the packet that lost its place before it was formed (1 and 2),
  * zeros where there is none. Gives 0; else the first that is due: for the record 1 and 14, then 14 and 1 to 12; or 13, which changes the
- * record and tells the number displaced too. So a packet that is handed out is always told. */
+ * record and tells the number displaced too. So a packet that is handed out is always told. 2 to 13 are ordinary on a line: go on with
+ * the next datagram; 1 and 14 are the caller's own fault.
+ *
+ *     static uint8_t record[BAILHAMMER_RECORD], lent[BAILHAMMER_LENT], out[BAILHAMMER_PACKET];
+ *     number = bailhammer_receive(BAILHAMMER_NO_ADDRESS, record, sizeof record, lent, sizeof lent, datagram, datagram_len, told,
+ *                                 sizeof told, out, sizeof out);
+ *     if (number == BAILHAMMER_DONE && told[0])
+ *         use(out, (size_t)told[1] * 256 + told[2]);
+ */
 size_t bailhammer_receive(size_t addressed, uint16_t source, uint16_t dest, uint8_t *table, size_t table_len, uint8_t *lent, size_t lent_len,
                           const uint8_t *datagram, size_t datagram_len, uint8_t *told, size_t told_len, uint8_t *out, size_t out_len);
 
 /* Shows the four places. Tells 12 bytes, three for each place: 0 where it is free, 1 open, 2 delivered, 3 spoiled (1), and its packet's
- * number, 0 where it is free (2). Gives 0; else the first that is due: for the record 1 and 14, then 14 and 1. */
+ * number, 0 where it is free (2). Gives 0; else the first that is due: for the record 1 and 14, then 14 and 1.
+ *
+ *     uint8_t told[BAILHAMMER_TOLD_QUERY];
+ *     number = bailhammer_query(record, sizeof record, lent, sizeof lent, told, sizeof told);
+ *     if (told[3] == BAILHAMMER_PLACE_OPEN) the second place waits for fragments of packet told[4] * 256 + told[5]
+ */
 size_t bailhammer_query(const uint8_t *table, size_t table_len, const uint8_t *lent, size_t lent_len, uint8_t *told, size_t told_len);
 
-/* Empties the four places: the record is a fresh one, and the lent bytes stay. Gives 0; else as bailhammer_query. */
+/* Empties the four places: the record is a fresh one, and the lent bytes stay. Gives 0; else as bailhammer_query.
+ *
+ *     number = bailhammer_clear(record, sizeof record, lent, sizeof lent);
+ */
 size_t bailhammer_clear(uint8_t *table, size_t table_len, const uint8_t *lent, size_t lent_len);
 
 /* The code's block calls, for those who cut and join themselves. */
 
 /* Writes the block of a packet at the front of out: c chunks of k bytes (1 to 207), the packet and zeros behind it, each followed by
  * its 48 parity bytes. c is at least 1, so nothing in no chunk is refused too; c * (k + 48) is 12,288 at most, and the packet ends in the
- * last chunk. Gives 0; else the first of 8 and 1 that is due. */
+ * last chunk. Gives 0; else the first of 8 and 1 that is due.
+ *
+ *     uint8_t block[BAILHAMMER_BLOCK];         a packet of 415 bytes: 3 chunks of 139
+ *     number = bailhammer_encode(packet, 415, 139, 3, block, sizeof block);
+ */
 size_t bailhammer_encode(const uint8_t *packet, size_t packet_len, size_t k, size_t c, uint8_t *out, size_t out_len);
 
 /* Fills in the missing cells of a block: f fragments of s bytes were sent, cell q is of fragment q mod f, and fragment i is kept where
  * i is below kept_len and kept[i] is not 0. The block is f * s / (k + 48) chunks of k data and 48 parity bytes; f * s is 12,288 at most and
  * at least k + 48, k is 1 to 207, and block has the chunks' bytes; those behind them stay. Gives 0; else the first of 7, 8 and 1 that is
- * due; else 257 or 256. */
+ * due; else 257 or 256.
+ *
+ *     uint8_t kept[12];                        that packet's 12 fragments of 47 bytes, of which the second was lost
+ *     memset(kept, 1, sizeof kept), kept[1] = 0;
+ *     number = bailhammer_fill(kept, sizeof kept, 12, 47, 139, block, sizeof block);
+ */
 size_t bailhammer_fill(const uint8_t *kept, size_t kept_len, size_t f, size_t s, size_t k, uint8_t *block, size_t block_len);
 
 #ifdef __cplusplus

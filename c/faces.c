@@ -1,0 +1,273 @@
+/* Holds every call of bailhammer.h against the call of card.h that it stands for: the number, every lent byte, and what is told, which is
+ * written again from the struct's fields. Each struct is filled before its call, so that a field left out shows. c/run faces makes and runs it;
+ * exit 1 at the first difference. It is C99 and C++11. */
+#include "faces.h"
+
+enum { ROUNDS = 200 };
+
+static uint8_t payload[BAILHAMMER_PACKET], packet[BAILHAMMER_PACKET], out[2][BAILHAMMER_SENT];
+static struct bailhammer_receiver receiver; /* behind the structs */
+static uint8_t record[BAILHAMMER_RECORD], lent[BAILHAMMER_LENT]; /* behind the bytes */
+
+/* ---- packets */
+
+static void faces_of_check(size_t length)
+{
+    uint8_t told[BAILHAMMER_TOLD_CHECK] = {0}, again[BAILHAMMER_TOLD_CHECK], *at = again;
+    struct bailhammer_af af;
+    memset(&af, 1, sizeof af);
+    size_t number = bailhammer_check(packet, length, told, sizeof told);
+    same_number("check", number, bailhammer_af_check(packet, length, &af));
+    at = put(put(at, 2, af.seq), 1, af.cf);
+    put(put(at, 1, af.minor), 4, af.payload_len);
+    same("check", told, again, sizeof told);
+    const uint8_t *due = number == BAILHAMMER_DONE ? packet + 10 : packet;
+    same("where the payload begins", &af.payload, &due, sizeof due);
+}
+
+static void faces_of_find(size_t length, const uint8_t *standing, size_t standing_len, uint32_t name)
+{
+    uint8_t told[BAILHAMMER_TOLD_FIND] = {0}, again[BAILHAMMER_TOLD_FIND], *at = again;
+    struct bailhammer_found found;
+    memset(&found, 1, sizeof found);
+    size_t number = bailhammer_find(payload, length, standing ? standing : payload, standing_len, name, told, sizeof told);
+    same_number("find", number, bailhammer_tag_find(payload, length, standing, standing_len, name, &found));
+    at = put(put(at, 1, found.standing), 4, found.bits);
+    put(put(at, 8, (size_t)(found.value - (found.standing ? standing : payload))), 4, found.value_len);
+    same("find", told, again, sizeof told);
+}
+
+/* Both walks step by step, and once past the end. */
+static void faces_of_walk(size_t length, const char *names, size_t names_len)
+{
+    uint8_t walker[BAILHAMMER_WALKER] = {0}, again[BAILHAMMER_TOLD_STEP];
+    struct bailhammer_walk walk;
+    struct bailhammer_step step;
+    size_t number = bailhammer_walk_open(payload, length, (const uint8_t *)names, names_len, walker, sizeof walker);
+    same_number("walk_open", number, bailhammer_tag_walk_open(&walk, payload, length, names, names_len));
+    same("walk_open", walker, walk.walker, sizeof walker);
+    size_t walked = number == BAILHAMMER_DONE ? length : 0;
+    same("what is walked through", &walk.packet_len, &walked, sizeof walked);
+    for (size_t ends = 0; ends < 2; ends += !step.item) {
+        uint8_t told[BAILHAMMER_TOLD_STEP] = {0}, *at = again;
+        memset(&step, 1, sizeof step);
+        number = bailhammer_walk_step(payload, walked, (const uint8_t *)names, names_len, walker, sizeof walker, told, sizeof told);
+        same_number("walk_step", number, bailhammer_tag_walk_step(&walk, &step));
+        at = put(put(put(at, 1, step.item), 1, step.depth), 4, step.name);
+        put(put(put(at, 4, step.bits), 8, (size_t)(step.value - payload)), 4, step.value_len + step.padding);
+        size_t beside = step.item ? step.padding : step.value_len, none = 0;
+        same("what an end or an item has not", &beside, &none, sizeof none);
+        same("walk_step", told, again, sizeof told);
+        same("the walk", walker, walk.walker, sizeof walker);
+    }
+}
+
+/* Writes an item at payload + at, its value drawn, and gives the place behind it. */
+static size_t add_item(size_t at, const char *name, size_t bytes)
+{
+    static uint8_t value[BAILHAMMER_PACKET];
+    for (size_t i = 0; i < bytes; i++)
+        value[i] = (uint8_t)drawn(256);
+    bailhammer_item(bailhammer_name(name), (uint32_t)(8 * bytes), value, bytes, payload + at, sizeof payload - at);
+    return at + BAILHAMMER_ITEM_HEAD + bytes;
+}
+
+/* Items, one of them in a container, and padding; at times a byte is changed. Gives the payload's length. */
+static size_t make_payload(void)
+{
+    size_t inner = add_item(BAILHAMMER_ITEM_HEAD, "afpf", drawn(40)) - BAILHAMMER_ITEM_HEAD;
+    memcpy(payload, "fio_", 4);
+    put(payload + 4, 4, 8 * inner);
+    size_t at = add_item(BAILHAMMER_ITEM_HEAD + inner, "demo", drawn(3000));
+    at = add_item(at, drawn(10) ? "time" : "demo", 8) + drawn(8);
+    if (drawn(4) == 0)
+        payload[drawn(at)] ^= (uint8_t)(1 + drawn(255));
+    return at;
+}
+
+/* The faces on a payload and on its AF packet, whose length it gives. */
+static size_t faces_of_packets(void)
+{
+    static uint8_t standing[] = {'r', 'a', 'r', 'e', 0, 0, 0, 12, 0xab, 0xc0};
+    size_t length = make_payload();
+    faces_of_find(length, standing, sizeof standing, bailhammer_name("demo"));
+    faces_of_find(length, standing, sizeof standing, BAILHAMMER_NAME('r', 'a', 'r', 'e'));
+    faces_of_find(length, NULL, 0, bailhammer_name("none"));
+    faces_of_walk(length, "fio_", 4);
+    faces_of_walk(length, "", 0);
+    faces_of_walk(length, "fio_x", 5);
+    bailhammer_wrap((uint16_t)drawn(65536), drawn(2), payload, length, packet, sizeof packet);
+    length += BAILHAMMER_AF_FRAME;
+    faces_of_check(length);
+    faces_of_check(length - 1);
+    packet[8] ^= 5; /* another minor revision, and with CF a wrong CRC */
+    faces_of_check(length);
+    packet[8] ^= 5;
+    packet[9] ^= 1;
+    faces_of_check(length);
+    packet[9] ^= 1;
+    return length;
+}
+
+/* ---- the sender */
+
+static struct bailhammer_settings draw_settings(void)
+{
+    struct bailhammer_settings settings = BAILHAMMER_HOUSE_SETTINGS;
+    settings.fec = drawn(3) != 0;
+    settings.m = settings.fec ? drawn(7) : drawn(10) == 0;
+    settings.mtu = 100 + drawn(1400);
+    if (drawn(2))
+        settings.address = bailhammer_address_of((uint16_t)drawn(3), (uint16_t)drawn(3));
+    return settings;
+}
+
+static void faces_of_plan(const struct bailhammer_settings *settings, size_t l)
+{
+    uint8_t told[BAILHAMMER_TOLD_PLAN] = {0}, again[BAILHAMMER_TOLD_PLAN], *at = again;
+    struct bailhammer_cut cut;
+    memset(&cut, 1, sizeof cut);
+    size_t number = bailhammer_plan(settings->fec, settings->m, settings->mtu, settings->address.given, l, told, sizeof told);
+    same_number("plan", number, bailhammer_sender_plan(settings, l, &cut));
+    at = put(put(put(put(put(at, 2, cut.c), 2, cut.k), 2, cut.z), 2, cut.n), 2, cut.h);
+    put(put(put(put(put(at, 2, cut.S), 2, cut.L), 2, cut.f), 2, cut.s), 2, cut.losses);
+    same("plan", told, again, sizeof told);
+}
+
+/* One fragment, as far as room goes; gives its length. */
+static size_t faces_of_fragment(const struct bailhammer_settings *settings, uint16_t pseq, size_t length, size_t i, size_t room)
+{
+    uint8_t told[BAILHAMMER_TOLD_FRAGMENT] = {0}, again[BAILHAMMER_TOLD_FRAGMENT];
+    size_t written;
+    memset(out, 0xa5, sizeof out);
+    size_t number = bailhammer_fragment(settings->fec, settings->m, settings->mtu, settings->address.given, settings->address.source,
+                                        settings->address.dest, pseq, packet, length, i, told, sizeof told, out[0], room);
+    same_number("fragment", number, bailhammer_sender_fragment(settings, pseq, packet, length, i, out[1], room, &written));
+    put(again, 2, written);
+    same("fragment", told, again, sizeof told);
+    same("the fragment", out[0], out[1], sizeof out[0]);
+    return written;
+}
+
+/* A part of what was sent is the fragment that is written alone; behind the last there is none. */
+static void faces_of_part(const struct bailhammer_settings *settings, uint16_t pseq, size_t length, const struct bailhammer_sent *sent, size_t i)
+{
+    size_t part, due = i < sent->f ? faces_of_fragment(settings, pseq, length, i, sizeof out[0]) : 0;
+    const uint8_t *fragment = bailhammer_sent_part(sent, i, &part);
+    same("a part's length", &part, &due, sizeof part);
+    if (fragment)
+        same("a part", fragment, out[1], part);
+    else
+        same("no part", &i, &sent->f, sizeof i);
+}
+
+/* All fragments: the bytes, and each part. Gives them in bytes. */
+static struct bailhammer_sent faces_of_fragments(const struct bailhammer_settings *settings, uint16_t pseq, size_t length, uint8_t *bytes)
+{
+    static uint8_t plain[BAILHAMMER_SENT];
+    uint8_t told[BAILHAMMER_TOLD_FRAGMENTS] = {0}, again[BAILHAMMER_TOLD_FRAGMENTS];
+    struct bailhammer_sent sent;
+    memset(&sent, 1, sizeof sent);
+    memset(plain, 0x5a, sizeof plain);
+    memset(bytes, 0x5a, sizeof plain);
+    size_t number = bailhammer_fragments(settings->fec, settings->m, settings->mtu, settings->address.given, settings->address.source,
+                                         settings->address.dest, pseq, packet, length, told, sizeof told, plain, sizeof plain);
+    same_number("fragments", number, bailhammer_sender_fragments(settings, pseq, packet, length, bytes, sizeof plain, &sent));
+    put(put(put(put(again, 2, sent.f), 2, sent.h), 2, sent.s), 2, sent.last);
+    same("fragments", told, again, sizeof told);
+    same("the fragments", plain, bytes, sizeof plain);
+    for (size_t i = 0; i <= sent.f; i++)
+        faces_of_part(settings, pseq, length, &sent, i);
+    return sent;
+}
+
+/* ---- the receiver */
+
+static void faces_of_places(void)
+{
+    uint8_t told[BAILHAMMER_TOLD_QUERY] = {0}, again[BAILHAMMER_TOLD_QUERY], *at = again;
+    struct bailhammer_places places;
+    memset(&places, 1, sizeof places);
+    size_t number = bailhammer_query(record, sizeof record, lent, sizeof lent, told, sizeof told);
+    same_number("query", number, bailhammer_receiver_query(&receiver, &places));
+    for (size_t i = 0; i < BAILHAMMER_PLACES; i++)
+        at = put(put(at, 1, places.place[i].condition), 2, places.place[i].number);
+    same("query", told, again, sizeof told);
+}
+
+static void same_receiver(void)
+{
+    same("the record", record, receiver.record, sizeof record);
+    same("the lent bytes", lent, receiver.lent, sizeof lent);
+    same("out", out[0], out[1], sizeof out[0]);
+    faces_of_places();
+}
+
+static void faces_of_receive(const uint8_t *datagram, size_t length, size_t room)
+{
+    uint8_t told[BAILHAMMER_TOLD_RECEIVE] = {0}, again[BAILHAMMER_TOLD_RECEIVE], *at = again;
+    struct bailhammer_receipt receipt;
+    memset(&receipt, 1, sizeof receipt);
+    size_t number = bailhammer_receive(receiver.own.given, receiver.own.source, receiver.own.dest, record, sizeof record, lent, sizeof lent,
+                                       datagram, length, told, sizeof told, out[0], room);
+    same_number("receive", number, bailhammer_receiver_receive(&receiver, datagram, length, out[1], room, &receipt));
+    at = put(put(put(at, 1, receipt.delivered), 2, receipt.length), 2, receipt.missing);
+    put(put(at, 1, receipt.displaced), 2, receipt.displaced_number);
+    same("receive", told, again, sizeof told);
+    same_receiver();
+    delivered += receipt.delivered;
+    displaced += receipt.displaced;
+}
+
+/* A packet's fragments, some lost, some repeated, some changed; the places hold those of earlier packets. */
+static void faces_of_line(size_t length)
+{
+    static uint8_t bytes[BAILHAMMER_SENT];
+    struct bailhammer_settings settings = draw_settings();
+    faces_of_plan(&settings, length);
+    faces_of_fragment(&settings, 1, length, drawn(20), drawn(1500));
+    struct bailhammer_sent sent = faces_of_fragments(&settings, (uint16_t)drawn(6), length, bytes);
+    receiver.own = settings.address;
+    receiver.own.source ^= (uint16_t)(drawn(10) == 0);
+    for (size_t i = 0, part; i < sent.f; i++) {
+        const uint8_t *fragment = bailhammer_sent_part(&sent, i, &part);
+        if (drawn(60) == 0)
+            bytes[i * (sent.h + sent.s) + drawn(part)] ^= (uint8_t)(1 + drawn(255));
+        for (size_t times = drawn(12) == 0 ? 0 : 1 + (drawn(8) == 0); times > 0; times--)
+            faces_of_receive(fragment, part, drawn(30) == 0 ? 8191 : sizeof out[0]);
+    }
+}
+
+/* A record that is none, a clearing, and a fresh receiver. */
+static void faces_of_clearing(size_t round)
+{
+    if (round % 7 == 0)
+        record[0] = receiver.record[0] = 9;
+    faces_of_places();
+    same_number("clear", bailhammer_clear(record, sizeof record, lent, sizeof lent), bailhammer_receiver_clear(&receiver));
+    same_receiver();
+    memset(record, 0, sizeof record);
+    bailhammer_receiver_fresh(&receiver);
+    same_receiver();
+}
+
+static void faces_of_names(void)
+{
+    char letters[5];
+    bailhammer_letters(0x64656dff, letters);
+    same("letters", letters, "dem\xff", 5);
+    uint32_t name = bailhammer_name(letters), constant = BAILHAMMER_NAME('d', 'e', 'm', '\xff'), due = 0x64656dff;
+    same("a name", &name, &due, sizeof name);
+    same("a constant name", &constant, &due, sizeof name);
+}
+
+int main(void)
+{
+    faces_of_names();
+    for (size_t round = 0; round < ROUNDS; round++) {
+        faces_of_line(faces_of_packets());
+        if (round % 20 == 19)
+            faces_of_clearing(round);
+    }
+    return told_all();
+}

@@ -1,0 +1,73 @@
+/* What c/faces.c compares with, counts and draws from. */
+#ifndef BAILHAMMER_FACES_H
+#define BAILHAMMER_FACES_H
+
+#include <stdio.h>
+#include <stdlib.h>
+#include <string.h>
+
+#include "bailhammer.h"
+
+static uint32_t seed = 20261116;
+static struct tally {
+    const char *call;
+    size_t done, refused;
+} tallies[] = {{"check", 0, 0},    {"find", 0, 0},      {"walk_open", 0, 0}, {"walk_step", 0, 0}, {"plan", 0, 0},
+               {"fragment", 0, 0}, {"fragments", 0, 0}, {"receive", 0, 0},   {"query", 0, 0},     {"clear", 0, 0}};
+static size_t compared, delivered, displaced;
+
+static void same(const char *what, const void *one, const void *other, size_t bytes)
+{
+    compared++;
+    if (memcmp(one, other, bytes) == 0)
+        return;
+    printf("%s differs\n", what);
+    exit(1);
+}
+
+/* The number that both calls gave: the same, and one with a meaning. */
+static void same_number(const char *call, size_t one, size_t other)
+{
+    if (one != other || strcmp(bailhammer_meaning(one), bailhammer_meaning(9999)) == 0) {
+        printf("%s gives %zu by its bytes and %zu by its struct\n", call, one, other);
+        exit(1);
+    }
+    struct tally *tally = tallies;
+    while (strcmp(tally->call, call) != 0)
+        tally++;
+    if (one == BAILHAMMER_DONE)
+        tally->done++;
+    else
+        tally->refused++;
+}
+
+/* Writes a number in so many bytes, the first one highest, and gives the place behind it. */
+static uint8_t *put(uint8_t *at, size_t bytes, size_t value)
+{
+    for (size_t i = bytes; i > 0; i--, value /= 256)
+        at[i - 1] = (uint8_t)(value % 256);
+    return at + bytes;
+}
+
+/* A number below `below`, from the seed on (xorshift32). */
+static size_t drawn(size_t below)
+{
+    seed ^= seed << 13;
+    seed ^= seed >> 17;
+    seed ^= seed << 5;
+    return seed % below;
+}
+
+/* Prints how often each call was done and refused; each must have been both. */
+static int told_all(void)
+{
+    int fault = delivered == 0 || displaced == 0;
+    for (size_t i = 0; i < sizeof tallies / sizeof tallies[0]; i++) {
+        printf("%-10s %6zu done %6zu refused\n", tallies[i].call, tallies[i].done, tallies[i].refused);
+        fault |= tallies[i].done == 0 || tallies[i].refused == 0;
+    }
+    printf("%zu packets handed out, %zu displaced, %zu comparisons, no difference\n", delivered, displaced, compared);
+    return fault;
+}
+
+#endif
