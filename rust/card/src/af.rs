@@ -10,8 +10,11 @@ pub const HEADER: usize = 10;
 /// What a packet that passes the checks tells.
 #[derive(Clone, Copy, Debug, PartialEq, Eq)]
 pub struct Checked {
+    /// The sender's count.
     pub seq: u16,
+    /// Whether it has a CRC, which is right then.
     pub cf: bool,
+    /// The minor revision; the major one is 1.
     pub minor: u8,
     /// The payload's bytes.
     pub len: usize,
@@ -19,6 +22,16 @@ pub struct Checked {
 
 /// Writes the packet of a payload at the front of `out`, with a CRC where `cf` is true, and gives
 /// its length. Refused: 22, 1.
+///
+/// ```
+/// use card::af;
+/// let mut packet = [0; 32];
+/// let length = af::wrap(7, true, b"payload", &mut packet)?;
+/// let checked = af::check(&packet[..length])?;
+/// assert_eq!((checked.seq, checked.cf), (7, true));
+/// assert_eq!(&packet[af::HEADER..][..checked.len], b"payload");
+/// # Ok::<(), card::Refused>(())
+/// ```
 pub fn wrap(seq: u16, cf: bool, payload: &[u8], out: &mut [u8]) -> Result<usize, Refused> {
     done(raw::wrap(seq, cf.into(), payload, out)).map(|()| payload.len() + FRAME)
 }

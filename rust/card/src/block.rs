@@ -18,6 +18,18 @@ pub enum Filled {
 
 /// Writes the block of a packet at the front of `out`, c chunks of k bytes each followed by its
 /// parity, and gives its length. Refused: 8, 1.
+///
+/// ```
+/// use card::block::{encode, fill, Filled};
+/// let (packet, mut block) = ([7; 415], [0; 3 * (139 + 48)]);
+/// encode(&packet, 139, 3, &mut block)?;
+/// let (sent, mut kept) = (block, [1; 12]);
+/// kept[1] = 0; // of 12 fragments of 47 bytes the second was lost
+/// (0..block.len()).filter(|cell| cell % 12 == 1).for_each(|cell| block[cell] = 0);
+/// assert_eq!(fill(&kept, 12, 47, 139, &mut block)?, Filled::Done);
+/// assert_eq!(block, sent);
+/// # Ok::<(), card::Refused>(())
+/// ```
 pub fn encode(packet: &[u8], k: usize, c: usize, out: &mut [u8]) -> Result<usize, Refused> {
     done(raw::encode(packet, k, c, out)).map(|()| c * (k + PARITY))
 }

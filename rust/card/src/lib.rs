@@ -1,9 +1,13 @@
 //! The proved link card for Rust: safe calls over the static library libcard.a.
 //!
-//! Slices go in, typed answers come out. A refusal is the number of document 01, which
-//! crates/card/card.h lists; it leaves all that was lent as it was. Nothing here allocates, and
-//! nothing here decides: each function is one call of the library. `raw` has the same calls with
-//! bare numbers and a slice for what they tell.
+//! Slices go in, typed answers come out. A refusal is [`Refused`] with document 01's number, name
+//! and meaning; it leaves all that was lent as it was, and what a call writes stands at the front
+//! of its `out`, with the bytes behind it as they were. Nothing here allocates, panics or decides:
+//! each function is one call of the library. `raw` has the same calls with bare numbers and a
+//! slice for what they tell; crates/card/card.h says what each does, and explains the letters.
+//!
+//! Two lots of bytes are the receiver's: its record, 1,081 bytes, says what the four places are;
+//! the lent bytes, 49,152, are what they keep of the fragments.
 #![no_std]
 
 pub mod af;
@@ -12,16 +16,19 @@ pub mod ffi;
 pub mod header;
 pub mod raw;
 pub mod receiver;
+mod refused;
 pub mod sender;
 pub mod tag;
 
 pub use receiver::{Place, Received, Receiver};
+pub use refused::Refused;
 pub use sender::{Address, Settings};
 pub use tag::{Step, Walk};
 
-/// The number of a refusal (document 01, "Numbers given back").
-#[derive(Clone, Copy, Debug, PartialEq, Eq)]
-pub struct Refused(pub u8);
+/// One more where a call, a number or a size is another than before.
+pub const VERSION: usize = 1;
+/// One more where a record or lent bytes that were kept mean something else than before.
+pub const RECORD_LAYOUT: usize = 1;
 
 /// 0 is done; the library gives no refusal above 255.
 fn done(number: usize) -> Result<(), Refused> {

@@ -187,7 +187,7 @@ pub fn receive(
     addressed: usize,
     source: u16,
     dest: u16,
-    table: &mut [u8],
+    record: &mut [u8],
     lent: &mut [u8],
     datagram: &[u8],
     told: &mut [u8],
@@ -199,8 +199,8 @@ pub fn receive(
             addressed,
             source,
             dest,
-            table.as_mut_ptr(),
-            table.len(),
+            record.as_mut_ptr(),
+            record.len(),
             lent.as_mut_ptr(),
             lent.len(),
             datagram.as_ptr(),
@@ -213,12 +213,12 @@ pub fn receive(
     }
 }
 
-pub fn query(table: &[u8], lent: &[u8], told: &mut [u8]) -> usize {
+pub fn query(record: &[u8], lent: &[u8], told: &mut [u8]) -> usize {
     // Safety: pointers and lengths are those of live slices, and those read may be the same.
     unsafe {
         ffi::bailhammer_query(
-            table.as_ptr(),
-            table.len(),
+            record.as_ptr(),
+            record.len(),
             lent.as_ptr(),
             lent.len(),
             told.as_mut_ptr(),
@@ -227,10 +227,10 @@ pub fn query(table: &[u8], lent: &[u8], told: &mut [u8]) -> usize {
     }
 }
 
-pub fn clear(table: &mut [u8], lent: &[u8]) -> usize {
-    let (record, bytes) = (table.len(), lent.len());
+pub fn clear(record: &mut [u8], lent: &[u8]) -> usize {
+    let (room, bytes) = (record.len(), lent.len());
     // Safety: pointers and lengths are those of live slices, which do not overlap.
-    unsafe { ffi::bailhammer_clear(table.as_mut_ptr(), record, lent.as_ptr(), bytes) }
+    unsafe { ffi::bailhammer_clear(record.as_mut_ptr(), room, lent.as_ptr(), bytes) }
 }
 
 pub fn encode(packet: &[u8], k: usize, c: usize, out: &mut [u8]) -> usize {

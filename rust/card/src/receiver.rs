@@ -62,7 +62,16 @@ impl<'a> Receiver<'a> {
     }
 
     /// Receives a datagram; `address` is the one that is taken beside none. A packet is handed out
-    /// at the front of `out`, which has at least 8,192 bytes. Refused: 14, 1 to 12.
+    /// at the front of `out`, which has at least 8,192 bytes. Refused: 14, 1 to 12. 2 to 12 are
+    /// ordinary on a line: go on with the next datagram; 1 and 14 are the caller's own fault.
+    ///
+    /// ```
+    /// use card::receiver::{Receiver, LENT, PACKET};
+    /// let (mut lent, mut out) = ([0; LENT], [0; PACKET]);
+    /// let mut receiver = Receiver::new(&mut lent);
+    /// let noise = receiver.receive(None, b"noise", &mut out);
+    /// assert_eq!(noise, Err(card::Refused::SHORT));
+    /// ```
     pub fn receive(
         &mut self,
         address: Option<Address>,

@@ -2,6 +2,9 @@
 
 use crate::{done, raw, short, Refused};
 
+/// The bytes that no packet's fragments exceed.
+pub const SENT: usize = 17_408;
+
 /// The address of a fragment, or the one that a receiver takes.
 #[derive(Clone, Copy, Debug, PartialEq, Eq)]
 pub struct Address {
@@ -18,27 +21,63 @@ pub struct Settings {
     pub address: Option<Address>,
 }
 
-/// The house default.
-pub const HOUSE: Settings = Settings { fec: true, m: 2, mtu: 1_400, address: None };
+impl Settings {
+    /// The house default.
+    ///
+    /// ```
+    /// let addressed = card::Settings {
+    ///     address: Some(card::Address { source: 1, dest: 2 }),
+    ///     ..card::Settings::HOUSE
+    /// };
+    /// ```
+    pub const HOUSE: Settings = Settings { fec: true, m: 2, mtu: 1_400, address: None };
+}
 
-/// The sizes of a cut under their names in document 01; `most` is S, `total` is L, and `losses` is
-/// m, the losses that the cut is made to bear, whichever they are. Without FEC c, k, z and n are 0.
+/// The house default.
+impl Default for Settings {
+    fn default() -> Settings {
+        Settings::HOUSE
+    }
+}
+
+/// The sizes of a cut under their letters in document 01. Without FEC c, k, z and n are 0.
 #[derive(Clone, Copy, Debug, PartialEq, Eq)]
 pub struct Plan {
+    /// Chunks.
     pub c: u16,
+    /// Bytes of the packet in a chunk.
     pub k: u16,
+    /// Zeros behind the packet in the last chunk.
     pub z: u16,
+    /// Bytes of a chunk with its parity.
     pub n: u16,
+    /// Bytes of a fragment's header.
     pub h: u16,
+    /// S, the most payload bytes that a fragment may have.
     pub most: u16,
+    /// L, the bytes that are cut.
     pub total: u16,
+    /// Fragments.
     pub f: u16,
+    /// Payload bytes of each; without FEC the last may have fewer.
     pub s: u16,
+    /// The lost fragments that the cut bears, whichever they are.
     pub losses: u16,
 }
 
 /// How the fragments of a packet stand one behind the other: f of them, each of h + s bytes, and
-/// the last one of h + last.
+/// the last one of h + last. None of its calls panics, whatever the figures are:
+///
+/// ```
+/// use card::sender::Split;
+/// let none = Split { f: 0, h: 16, s: 5, last: 5 };
+/// assert_eq!((none.total(), none.parts(&[0; 40]).count()), (0, 0));
+/// let short = Split { f: 3, h: 16, s: 5, last: 5 };
+/// assert_eq!((short.total(), short.parts(&[0; 50]).count()), (63, 2));
+/// let most = usize::MAX;
+/// let wild = Split { f: most, h: most, s: most, last: most };
+/// assert_eq!((wild.total(), wild.part(&[0; 50], 1)), (most, None));
+/// ```
 #[derive(Clone, Copy, Debug, PartialEq, Eq)]
 pub struct Split {
     pub f: usize,
@@ -48,14 +87,44 @@ pub struct Split {
 }
 
 impl Split {
-    /// The bytes of all fragments.
+    /// The bytes of all fragments; of figures that no packet has, at most the greatest number.
     pub fn total(&self) -> usize {
-        (self.f - 1) * (self.h + self.s) + self.h + self.last
+        let Some(before) = self.f.checked_sub(1) else { return 0 };
+        let whole = before.saturating_mul(self.h.saturating_add(self.s));
+        whole.saturating_add(self.h).saturating_add(self.last)
     }
 
-    /// The fragments, in the bytes that they were written to. Panics where `out` has fewer bytes than they take.
-    pub fn parts<'a>(&self, out: &'a [u8]) -> core::slice::Chunks<'a, u8> {
-        out[..self.total()].chunks(self.h + self.s)
+    /// Fragment `index`, in the bytes that they were written to; none where it is not below f, or
+    /// where `out` ends before it does.
+    pub fn part<'a>(&self, out: &'a [u8], index: usize) -> Option<&'a [u8]> {
+        let behind = self.f.checked_sub(index)?.checked_sub(1)?;
+        let from = index.checked_mul(self.h.checked_add(self.s)?)?;
+        let payload = if behind == 0 { self.last } else { self.s };
+        out.get(from..from.checked_add(self.h)?.checked_add(payload)?)
+    }
+
+    /// The fragments in their order, in the bytes that they were written to: all f of them, or
+    /// those before the first that does not stand whole in `out`.
+    pub fn parts<'a>(&self, out: &'a [u8]) -> Parts<'a> {
+        Parts { split: *self, out, next: 0 }
+    }
+}
+
+/// The fragments of a packet, one after another.
+#[derive(Clone, Debug)]
+pub struct Parts<'a> {
+    split: Split,
+    out: &'a [u8],
+    next: usize,
+}
+
+impl<'a> Iterator for Parts<'a> {
+    type Item = &'a [u8];
+
+    fn next(&mut self) -> Option<&'a [u8]> {
+        let part = self.split.part(self.out, self.next)?;
+        self.next += 1;
+        Some(part)
     }
 }
 
@@ -68,6 +137,12 @@ pub(crate) fn pair(address: Option<Address>) -> (usize, u16, u16) {
 }
 
 /// Plans the cut of a packet of l bytes. Refused: 40, 20, 22, 41.
+///
+/// ```
+/// let plan = card::sender::plan(&card::Settings::HOUSE, 8_192)?;
+/// assert!(plan.h + plan.s <= 1_400 && plan.f <= 256);
+/// # Ok::<(), card::Refused>(())
+/// ```
 pub fn plan(settings: &Settings, l: usize) -> Result<Plan, Refused> {
     let mut told = [0; raw::TOLD_PLAN];
     let Settings { fec, m, mtu, address } = *settings;
@@ -86,8 +161,8 @@ pub fn plan(settings: &Settings, l: usize) -> Result<Plan, Refused> {
     })
 }
 
-/// Writes fragment `index` of a packet at the front of `out`, and gives its length. Refused: 40,
-/// 20 to 25, 41, 42, 1.
+/// Writes fragment `index` of a packet at the front of `out`, and gives its length. Each call lays
+/// the whole packet's chunks; `fragments` does so once for all. Refused: 40, 20 to 25, 41, 42, 1.
 pub fn fragment(
     settings: &Settings,
     number: u16,
@@ -114,8 +189,21 @@ pub fn fragment(
     Ok(short(&told, 0).into())
 }
 
-/// Writes all fragments of a packet at the front of `out`, one behind the other. Refused: 40, 20
-/// to 25, 41, 1.
+/// Writes all fragments of a packet at the front of `out`, one behind the other; [`SENT`] bytes
+/// hold those of every packet. Refused: 40, 20 to 25, 41, 1.
+///
+/// ```
+/// use card::{af, receiver::PACKET, sender, Settings};
+/// let (mut packet, mut sent) = ([0; PACKET], [0; sender::SENT]);
+/// let length = af::wrap(1, true, b"payload", &mut packet)?;
+/// let split = sender::fragments(&Settings::HOUSE, 7, &packet[..length], &mut sent)?;
+/// let mut one = [0; 1_400];
+/// for (i, part) in split.parts(&sent).enumerate() {
+///     let alone = sender::fragment(&Settings::HOUSE, 7, &packet[..length], i, &mut one)?;
+///     assert_eq!(part, &one[..alone]);
+/// }
+/// # Ok::<(), card::Refused>(())
+/// ```
 pub fn fragments(
     settings: &Settings,
     number: u16,

@@ -15,7 +15,9 @@ const WALKER: usize = 56;
 pub struct Found<'a> {
     /// Whether the standing packet holds it.
     pub standing: bool,
+    /// The bits of its value.
     pub bits: u32,
+    /// The bytes that hold them.
     pub value: &'a [u8],
 }
 
@@ -30,6 +32,17 @@ pub enum Step<'a> {
 
 /// A walk through a packet and the containers in it. It borrows both, since a step is only right
 /// over the packet and the names that were checked when it was opened.
+///
+/// ```
+/// use card::{Step, Walk};
+/// let packet = *b"fio_\0\0\0\x48demo\0\0\0\x08!";
+/// let names = [*b"fio_"];
+/// let mut walk = Walk::open(&packet, &names)?;
+/// while let Step::Item { depth, name, value, .. } = walk.step()? {
+///     println!("{depth} {name:?} {} bytes", value.len());
+/// }
+/// # Ok::<(), card::Refused>(())
+/// ```
 #[derive(Clone, Debug)]
 pub struct Walk<'a> {
     packet: &'a [u8],
@@ -39,6 +52,15 @@ pub struct Walk<'a> {
 
 /// Writes an item at the front of `out`, unused bits as zeros, and gives its length. Refused: 43,
 /// 33, 1.
+///
+/// ```
+/// use card::tag;
+/// let mut packet = [0; 32];
+/// let length = tag::item(*b"demo", 12, &[0xab, 0xc0], &mut packet)?;
+/// let found = tag::find(&packet[..length], &[], *b"demo")?;
+/// assert_eq!((found.bits, found.value), (12, &[0xab, 0xc0][..]));
+/// # Ok::<(), card::Refused>(())
+/// ```
 pub fn item(name: Name, bits: u32, value: &[u8], out: &mut [u8]) -> Result<usize, Refused> {
     let number = raw::item(u32::from_be_bytes(name), bits, value, out);
     done(number).map(|()| value.len() + HEAD)
