@@ -16,7 +16,7 @@ returns c =
     let own = read .before in
     let a = own .before .before .before .args in
     told-as header-widths (a .told .now)
-    (ap parsedTold (read .parse .ensures ∙ ap (λ (x : Address). parsedOf x (a .datagram .now)) (own .address-of .ensures)))
+    (ap parsedTold (read .parse .ensures .0 ∙ ap (λ (x : Address). parsedOf x (a .datagram .now)) (own .address-of .ensures)))
     (said .tell-parsed .ensures)
 
 address-of-requires : tie.Need-address-of-requires
