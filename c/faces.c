@@ -203,8 +203,23 @@ static void same_receiver(void)
     faces_of_places();
 }
 
+static void faces_of_parse(const uint8_t *datagram, size_t length)
+{
+    uint8_t told[BAILHAMMER_TOLD_PARSE] = {0}, again[BAILHAMMER_TOLD_PARSE], *at = again;
+    struct bailhammer_header head;
+    memset(&head, 1, sizeof head);
+    size_t number = bailhammer_parse(receiver.own.given, receiver.own.source, receiver.own.dest, datagram, length, told, sizeof told);
+    same_number("parse", number, bailhammer_receiver_parse(&receiver, datagram, length, &head));
+    at = put(put(put(at, 2, head.number), 2, head.index), 2, head.f);
+    at = put(put(put(put(at, 1, head.fec), 1, head.k), 1, head.z), 1, head.address.given);
+    at = put(put(at, 2, head.address.source), 2, head.address.dest);
+    put(put(at, 2, head.payload_len), 1, (size_t)(head.payload - datagram));
+    same("parse", told, again, sizeof told);
+}
+
 static void faces_of_receive(const uint8_t *datagram, size_t length, size_t room)
 {
+    faces_of_parse(datagram, length);
     uint8_t told[BAILHAMMER_TOLD_RECEIVE] = {0}, again[BAILHAMMER_TOLD_RECEIVE], *at = again;
     struct bailhammer_receipt receipt;
     memset(&receipt, 1, sizeof receipt);

@@ -13,7 +13,8 @@ static struct tally {
     const char *call;
     size_t done, refused;
 } tallies[] = {{"check", 0, 0},    {"find", 0, 0},      {"walk_open", 0, 0}, {"walk_step", 0, 0}, {"plan", 0, 0},
-               {"fragment", 0, 0}, {"fragments", 0, 0}, {"receive", 0, 0},   {"query", 0, 0},     {"clear", 0, 0}};
+               {"fragment", 0, 0}, {"fragments", 0, 0}, {"parse", 0, 0},     {"receive", 0, 0},   {"query", 0, 0},
+               {"clear", 0, 0}};
 static size_t compared, delivered, displaced;
 
 static void same(const char *what, const void *one, const void *other, size_t bytes)

@@ -81,7 +81,7 @@ static void fragments(void)
 
 static void parse(void)
 {
-    number = bailhammer_parse(NO_ADDRESS, 0, 0, sent, h + s, told, sizeof told);
+    number = bailhammer_parse(BAILHAMMER_NO_ADDRESS, sent, h + s, told, sizeof told);
 }
 
 static void receive(void)

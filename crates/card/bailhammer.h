@@ -8,6 +8,7 @@
  *     bailhammer_sender_plan          bailhammer_plan
  *     bailhammer_sender_fragment      bailhammer_fragment
  *     bailhammer_sender_fragments     bailhammer_fragments
+ *     bailhammer_receiver_parse       bailhammer_parse
  *     bailhammer_receiver_receive     bailhammer_receive
  *     bailhammer_receiver_query       bailhammer_query
  *     bailhammer_receiver_clear       bailhammer_clear
@@ -170,6 +171,45 @@ static inline void bailhammer_receiver_fresh(struct bailhammer_receiver *receive
 {
     for (size_t i = 0; i < sizeof receiver->record; i++)
         receiver->record[i] = 0;
+}
+
+/* The header of a fragment. */
+struct bailhammer_header {
+    uint16_t number;                   /* Pseq, the number of its packet */
+    uint16_t index;                    /* Findex, which fragment it is */
+    uint16_t f;                        /* Fcount, how many fragments the packet has */
+    bool fec;                          /* with parity */
+    uint8_t k;                         /* RSk, bytes of the packet in a chunk; 0 without FEC */
+    uint8_t z;                         /* RSz, zeros behind the packet in the last chunk; 0 without FEC */
+    struct bailhammer_address address; /* Source and Dest, or none */
+    const uint8_t *payload;            /* the payload, a part of the datagram */
+    size_t payload_len;                /* its bytes, Plen */
+};
+
+/* Reads the header of a datagram as the receiver would take it: 0, or 2 to 8. Nothing is kept.
+ *
+ *     struct bailhammer_header header;
+ *     if (bailhammer_receiver_parse(&receiver, datagram, datagram_len, &header) == BAILHAMMER_DONE)
+ *         count(header.number, header.index, header.f);
+ */
+static inline size_t bailhammer_receiver_parse(const struct bailhammer_receiver *receiver, const uint8_t *datagram, size_t datagram_len,
+                                               struct bailhammer_header *header)
+{
+    uint8_t told[BAILHAMMER_TOLD_PARSE] = {0};
+    const struct bailhammer_address *own = &receiver->own;
+    size_t number = bailhammer_parse(own->given, own->source, own->dest, datagram, datagram_len, told, sizeof told);
+    header->number = (uint16_t)bailhammer_told(told, 2);
+    header->index = (uint16_t)bailhammer_told(told + 2, 2);
+    header->f = (uint16_t)bailhammer_told(told + 4, 2);
+    header->fec = told[6] != 0;
+    header->k = told[7];
+    header->z = told[8];
+    header->address.given = told[9] != 0;
+    header->address.source = (uint16_t)bailhammer_told(told + 10, 2);
+    header->address.dest = (uint16_t)bailhammer_told(told + 12, 2);
+    header->payload_len = bailhammer_told(told + 14, 2);
+    header->payload = datagram + told[16];
+    return number;
 }
 
 /* What became of a datagram that was taken (0 or 13). */

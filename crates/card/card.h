@@ -6,12 +6,10 @@
  * bailhammer.h beside this file has the same calls with structs in place of told bytes; c/rebuild.c is a program to begin from. A packet from
  * end to end (each call gives 0 where it is done):
  *
- *     bailhammer_wrap(seq, 1, payload, payload_len, packet, sizeof packet);
- *     bailhammer_fragments(BAILHAMMER_HOUSE, BAILHAMMER_NO_ADDRESS, number, packet, payload_len + BAILHAMMER_AF_FRAME, told, sizeof told,
- *                          sent, sizeof sent);
+ *     bailhammer_wrap(seq, 1, payload, l - BAILHAMMER_AF_FRAME, packet, sizeof packet);
+ *     bailhammer_fragments(BAILHAMMER_HOUSE, BAILHAMMER_NO_ADDRESS, number, packet, l, told, sizeof told, sent, sizeof sent);
  *     .. the line, on which fragments are lost, exchanged and repeated ..
- *     bailhammer_receive(BAILHAMMER_NO_ADDRESS, record, sizeof record, lent, sizeof lent, datagram, datagram_len, told, sizeof told, out,
- *                        sizeof out);
+ *     bailhammer_receive(BAILHAMMER_NO_ADDRESS, record, sizeof record, lent, sizeof lent, datagram, length, told, sizeof told, out, sizeof out);
  *     if told[0] is 1, out holds the packet
  */
 #ifndef BAILHAMMER_CARD_H
@@ -229,7 +227,12 @@ size_t bailhammer_fragments(size_t fec, size_t m, size_t mtu, size_t addressed, 
 /* Reads the header of a datagram, so that its packet's number is known before the datagram is handed on to bailhammer_receive. An address
  * is taken as there. Tells 17 bytes: Pseq, which is the packet's number (2), Findex (2), Fcount (2), 1 with FEC (1), RSk (1), RSz (1), 1
  * with an address (1), Source (2), Dest (2), Plen (2), and h, where the payload begins (1); RSk and RSz are 0 without FEC, Source and Dest
- * without an address. Gives 0; else the first of 2 to 8 and 1 that is due. */
+ * without an address. Gives 0; else the first of 2 to 8 and 1 that is due.
+ *
+ *     uint8_t told[BAILHAMMER_TOLD_PARSE];
+ *     number = bailhammer_parse(BAILHAMMER_NO_ADDRESS, datagram, datagram_len, told, sizeof told);
+ *     if (number == BAILHAMMER_DONE) it is of packet told[0] * 256 + told[1]
+ */
 size_t bailhammer_parse(size_t addressed, uint16_t source, uint16_t dest, const uint8_t *datagram, size_t datagram_len, uint8_t *told,
                         size_t told_len);
 
@@ -245,8 +248,8 @@ size_t bailhammer_parse(size_t addressed, uint16_t source, uint16_t dest, const 
  * the next datagram; 1 and 14 are the caller's own fault.
  *
  *     static uint8_t record[BAILHAMMER_RECORD], lent[BAILHAMMER_LENT], out[BAILHAMMER_PACKET];
- *     number = bailhammer_receive(BAILHAMMER_NO_ADDRESS, record, sizeof record, lent, sizeof lent, datagram, datagram_len, told,
- *                                 sizeof told, out, sizeof out);
+ *     number = bailhammer_receive(BAILHAMMER_NO_ADDRESS, record, sizeof record, lent, sizeof lent, datagram, datagram_len, told, sizeof told,
+ *                                 out, sizeof out);
  *     if (number == BAILHAMMER_DONE && told[0])
  *         use(out, (size_t)told[1] * 256 + told[2]);
  */
@@ -262,10 +265,8 @@ size_t bailhammer_receive(size_t addressed, uint16_t source, uint16_t dest, uint
  */
 size_t bailhammer_query(const uint8_t *table, size_t table_len, const uint8_t *lent, size_t lent_len, uint8_t *told, size_t told_len);
 
-/* Empties the four places: the record is a fresh one, and the lent bytes stay. Gives 0; else as bailhammer_query.
- *
- *     number = bailhammer_clear(record, sizeof record, lent, sizeof lent);
- */
+/* Empties the four places: the record is a fresh one, and the lent bytes stay. Gives 0; else as bailhammer_query. So after
+ * bailhammer_clear(record, sizeof record, lent, sizeof lent) the packets that were waited for begin anew. */
 size_t bailhammer_clear(uint8_t *table, size_t table_len, const uint8_t *lent, size_t lent_len);
 
 /* The code's block calls, for those who cut and join themselves. */

@@ -6,7 +6,9 @@ use crate::{done, raw, short, Refused};
 /// RSk and RSz, there with FEC.
 #[derive(Clone, Copy, Debug, PartialEq, Eq)]
 pub struct Chunks {
+    /// Bytes of the packet in a chunk.
     pub k: u8,
+    /// Zeros behind the packet in the last chunk.
     pub z: u8,
 }
 
@@ -25,6 +27,16 @@ pub struct Header {
 
 /// Reads the header of a datagram; `address` is the one that is taken beside none. Refused: 2 to 8,
 /// as a receiver refuses the datagram.
+///
+/// ```
+/// use card::{af, header, sender, Settings};
+/// let (mut packet, mut fragment) = ([0; 32], [0; 1_400]);
+/// let length = af::wrap(1, true, b"payload", &mut packet)?;
+/// let sent = sender::fragment(&Settings::HOUSE, 7, &packet[..length], 2, &mut fragment)?;
+/// let header = header::parse(None, &fragment[..sent])?;
+/// assert_eq!((header.number, header.findex), (7, 2));
+/// # Ok::<(), card::Refused>(())
+/// ```
 pub fn parse(address: Option<Address>, datagram: &[u8]) -> Result<Header, Refused> {
     let mut told = [0; raw::TOLD_PARSE];
     let (addressed, source, dest) = pair(address);
