@@ -1,6 +1,6 @@
 # One way in to the commands of this repository: each target is one of them, which answers --help.
 .POSIX:
-.PHONY: help test relay ask listing bench interop compare c declared inputs
+.PHONY: help test relay ask listing bench interop compare c declared inputs plans
 
 ## make NAME runs the command beside it; the command itself answers --help and takes arguments
 ##
@@ -19,6 +19,10 @@ listing:
 ##   ask       ./run ask         seconds *   answers questions on standard input, one a line
 ask:
 	@./run ask
+
+##   plans     tools/plans       seconds *   prints what plans cost and stand, and draws docs/plans.svg
+plans:
+	@tools/plans
 
 ##   c         c/run             minutes     calls the card from C: cuts a packet and rebuilds it
 c:
