@@ -1,5 +1,4 @@
 -- `put_figures` is safe: only a place in range with FEC is drawn. Assumes nothing.
-use mathlib.Core.Path.{_≡_}
 use native.Mathlib.Omega.{arith}
 use borrow.Author.Needs.{needs}
 use borrow.Author.Tests.{not-false}
