@@ -22,7 +22,6 @@
 extern "C" {
 #endif
 
-/* What this header is. */
 #define BAILHAMMER_VERSION 1       /* one more where a call, a number or a size is another than before */
 #define BAILHAMMER_RECORD_LAYOUT 1 /* one more where a receiver's record or lent bytes that were kept mean something else than before */
 
@@ -45,14 +44,14 @@ extern "C" {
 #define BAILHAMMER_TOLD_QUERY 12
 
 /* Figures of the format. */
-#define BAILHAMMER_AF_HEADER 10 /* where the payload of an AF packet begins */
-#define BAILHAMMER_AF_FRAME 12  /* the bytes of an AF packet beside its payload */
-#define BAILHAMMER_ITEM_HEAD 8  /* the bytes of a TAG item before its value */
-#define BAILHAMMER_PARITY 48    /* the parity bytes of a chunk */
-#define BAILHAMMER_BLOCK 12288  /* the most bytes of a packet's chunks with their parity, and of a place */
+#define BAILHAMMER_AF_HEADER 10  /* where the payload of an AF packet begins */
+#define BAILHAMMER_AF_FRAME 12   /* the bytes of an AF packet beside its payload */
+#define BAILHAMMER_ITEM_HEAD 8   /* the bytes of a TAG item before its value */
+#define BAILHAMMER_PARITY 48     /* the parity bytes of a chunk */
+#define BAILHAMMER_BLOCK 12288   /* the most bytes of a packet's chunks with their parity, and of a place */
 #define BAILHAMMER_FRAGMENTS 256 /* the most fragments of a packet */
-#define BAILHAMMER_MTU 16384    /* the most that mtu may be */
-#define BAILHAMMER_PLACES 4     /* the packets that the receiver holds at a time */
+#define BAILHAMMER_MTU 16384     /* the most that mtu may be */
+#define BAILHAMMER_PLACES 4      /* the packets that the receiver holds at a time */
 
 /* A TAG name from its four letters, as the calls take it: BAILHAMMER_NAME('d', 'e', 'm', 'o'). */
 #define BAILHAMMER_NAME(a, b, c, d) ((uint32_t)(uint8_t)(a) << 24 | (uint32_t)(uint8_t)(b) << 16 | (uint32_t)(uint8_t)(c) << 8 | (uint8_t)(d))
@@ -236,8 +235,8 @@ size_t bailhammer_fragments(size_t fec, size_t m, size_t mtu, size_t addressed, 
 size_t bailhammer_parse(size_t addressed, uint16_t source, uint16_t dest, const uint8_t *datagram, size_t datagram_len, uint8_t *told,
                         size_t told_len);
 
-/* The receiver. What its four places hold is the caller's between the calls: table is their record, of 1,081 bytes, all zeros for a fresh
- * one, and lent their bytes, 49,152, which may be any at first. Both are as the last call left them. */
+/* The receiver. What its four places hold is the caller's between the calls: record_bytes is their record, of 1,081 bytes, all zeros for a
+ * fresh one, and lent their bytes, 49,152, which may be any at first. Both are as the last call left them. */
 
 /* Receives a datagram: a fragment, of up to four packets at a time, that is kept until those of its packet suffice; then the packet is
  * handed out, at the front of out. out has at least 8,192 bytes; a call that hands no packet out leaves them. A datagram with an address
@@ -253,8 +252,9 @@ size_t bailhammer_parse(size_t addressed, uint16_t source, uint16_t dest, const 
  *     if (number == BAILHAMMER_DONE && told[0])
  *         use(out, (size_t)told[1] * 256 + told[2]);
  */
-size_t bailhammer_receive(size_t addressed, uint16_t source, uint16_t dest, uint8_t *table, size_t table_len, uint8_t *lent, size_t lent_len,
-                          const uint8_t *datagram, size_t datagram_len, uint8_t *told, size_t told_len, uint8_t *out, size_t out_len);
+size_t bailhammer_receive(size_t addressed, uint16_t source, uint16_t dest, uint8_t *record_bytes, size_t record_bytes_len, uint8_t *lent,
+                          size_t lent_len, const uint8_t *datagram, size_t datagram_len, uint8_t *told, size_t told_len, uint8_t *out,
+                          size_t out_len);
 
 /* Shows the four places. Tells 12 bytes, three for each place: 0 where it is free, 1 open, 2 delivered, 3 spoiled (1), and its packet's
  * number, 0 where it is free (2). Gives 0; else the first that is due: for the record 1 and 14, then 14 and 1.
@@ -263,11 +263,12 @@ size_t bailhammer_receive(size_t addressed, uint16_t source, uint16_t dest, uint
  *     number = bailhammer_query(record, sizeof record, lent, sizeof lent, told, sizeof told);
  *     if (told[3] == BAILHAMMER_PLACE_OPEN) the second place waits for fragments of packet told[4] * 256 + told[5]
  */
-size_t bailhammer_query(const uint8_t *table, size_t table_len, const uint8_t *lent, size_t lent_len, uint8_t *told, size_t told_len);
+size_t bailhammer_query(const uint8_t *record_bytes, size_t record_bytes_len, const uint8_t *lent, size_t lent_len, uint8_t *told,
+                        size_t told_len);
 
 /* Empties the four places: the record is a fresh one, and the lent bytes stay. Gives 0; else as bailhammer_query. So after
  * bailhammer_clear(record, sizeof record, lent, sizeof lent) the packets that were waited for begin anew. */
-size_t bailhammer_clear(uint8_t *table, size_t table_len, const uint8_t *lent, size_t lent_len);
+size_t bailhammer_clear(uint8_t *record_bytes, size_t record_bytes_len, const uint8_t *lent, size_t lent_len);
 
 /* The code's block calls, for those who cut and join themselves. */
 

@@ -85,28 +85,28 @@ pub extern "C" fn bailhammer_receive(
     addressed: usize,
     source: u16,
     dest: u16,
-    table: &mut [u8],
+    record_bytes: &mut [u8],
     lent: &mut [u8],
     datagram: &[u8],
     told: &mut [u8],
     out: &mut [u8],
 ) -> usize
     ensures { λ r. ⌜ CardReceived (addressOf addressed source dest) (now (datagram .entry))
-        (record { record-bytes = now (table .entry); lent = now (lent .entry); told = now (told .entry); out = now (out .entry) })
-        (record { record-bytes = now (table .exit); lent = now (lent .exit); told = now (told .exit); out = now (out .exit) }) r ⌝ }
+        (record { record-bytes = now (record_bytes .entry); lent = now (lent .entry); told = now (told .entry); out = now (out .entry) })
+        (record { record-bytes = now (record_bytes .exit); lent = now (lent .exit); told = now (told .exit); out = now (out .exit) }) r ⌝ }
 {
     // The record, then 14, then 1, as of a query with no bytes lent.
     if told.len() < TOLD_RECEIVE {
-        return bailhammer_query(table, &[], &mut []);
+        return bailhammer_query(record_bytes, &[], &mut []);
     }
-    let unpacked = packed::unpack(table);
+    let unpacked = packed::unpack(record_bytes);
     let fault = unpacked.answer;
     match fault {
         Written::Refused(n) => n as usize,
         Written::Done => {
             let own = address_of(addressed, source, dest);
             let reply = receiver::receive(own, unpacked.table, lent, datagram, out);
-            packed::pack(reply.table, table);
+            packed::pack(reply.table, record_bytes);
             let answer = reply.answer;
             tell_receipt(answer, told)
         }
@@ -157,10 +157,10 @@ fn tell_places(q: Queried, told: &mut [u8]) -> usize
 
 // Shows the four places of the record in its bytes, and gives the number of the answer.
 #[no_mangle]
-pub extern "C" fn bailhammer_query(table: &[u8], lent: &[u8], told: &mut [u8]) -> usize
-    ensures { λ r. ⌜ CardTold places-widths (queryFor (now (table .entry)) (length (now (lent .entry)))) (now (told .entry)) (now (told .exit)) r ⌝ }
+pub extern "C" fn bailhammer_query(record_bytes: &[u8], lent: &[u8], told: &mut [u8]) -> usize
+    ensures { λ r. ⌜ CardTold places-widths (queryFor (now (record_bytes .entry)) (length (now (lent .entry)))) (now (told .entry)) (now (told .exit)) r ⌝ }
 {
-    let unpacked = packed::unpack(table);
+    let unpacked = packed::unpack(record_bytes);
     let fault = unpacked.answer;
     match fault {
         Written::Refused(n) => n as usize,
@@ -173,10 +173,10 @@ pub extern "C" fn bailhammer_query(table: &[u8], lent: &[u8], told: &mut [u8]) -
 
 // Empties the four places: a fresh record in the bytes. Gives the number of the answer.
 #[no_mangle]
-pub extern "C" fn bailhammer_clear(table: &mut [u8], lent: &[u8]) -> usize
-    ensures { λ r. ⌜ CardWritten (clearFor (now (table .entry)) (length (now (lent .entry)))) (now (table .exit)) r ⌝ }
+pub extern "C" fn bailhammer_clear(record_bytes: &mut [u8], lent: &[u8]) -> usize
+    ensures { λ r. ⌜ CardWritten (clearFor (now (record_bytes .entry)) (length (now (lent .entry)))) (now (record_bytes .exit)) r ⌝ }
 {
-    let unpacked = packed::unpack(table);
+    let unpacked = packed::unpack(record_bytes);
     let fault = unpacked.answer;
     match fault {
         Written::Refused(n) => n as usize,
@@ -186,7 +186,7 @@ pub extern "C" fn bailhammer_clear(table: &mut [u8], lent: &[u8]) -> usize
             match answer {
                 Written::Refused(n) => n as usize,
                 Written::Done => {
-                    packed::pack(cleared.table, table);
+                    packed::pack(cleared.table, record_bytes);
                     0
                 }
             }

@@ -103,8 +103,8 @@ extern "C" {
         addressed: usize,
         source: u16,
         dest: u16,
-        table: *mut u8,
-        table_len: usize,
+        record_bytes: *mut u8,
+        record_bytes_len: usize,
         lent: *mut u8,
         lent_len: usize,
         datagram: *const u8,
@@ -115,16 +115,16 @@ extern "C" {
         out_len: usize,
     ) -> usize;
     pub fn bailhammer_query(
-        table: *const u8,
-        table_len: usize,
+        record_bytes: *const u8,
+        record_bytes_len: usize,
         lent: *const u8,
         lent_len: usize,
         told: *mut u8,
         told_len: usize,
     ) -> usize;
     pub fn bailhammer_clear(
-        table: *mut u8,
-        table_len: usize,
+        record_bytes: *mut u8,
+        record_bytes_len: usize,
         lent: *const u8,
         lent_len: usize,
     ) -> usize;

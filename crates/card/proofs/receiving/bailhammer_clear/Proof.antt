@@ -12,7 +12,7 @@ returns : tie.Need-returns
 returns c =
     let opened = c .before .before .before in
     let a = opened .before .before .before .before .args in
-    clear-no-record (a .table .now) (length (a .lent .now)) (opened .unpack .result .answer) (opened .unpack .result .table)
+    clear-no-record (a .record-bytes .now) (length (a .lent .now)) (opened .unpack .result .answer) (opened .unpack .result .table)
     (opened .unpack .ensures) _ (c .before .fault .given .1)
 
 returns-2 : tie.Need-returns-2
@@ -20,7 +20,7 @@ returns-2 c =
     let cleared = c .before .before .before in
     let opened = cleared .before .before .before in
     let a = opened .before .before .before .before .args in
-    clear-refused (a .table .now) (length (a .lent .now)) (opened .unpack .result .answer) (opened .unpack .result .table) (opened .unpack .ensures)
+    clear-refused (a .record-bytes .now) (length (a .lent .now)) (opened .unpack .result .answer) (opened .unpack .result .table) (opened .unpack .ensures)
     (cleared .clear .result .answer) (cleared .clear .result .table) (cleared .clear .ensures) (cleared .before .enum-told .given .1) _
     (c .before .answer .given .1)
 
@@ -31,7 +31,7 @@ returns-3 c =
     let cleared = done .before .before in
     let opened = cleared .before .before .before in
     let a = opened .before .before .before .before .args in
-    clear-done (a .table .now) (length (a .lent .now)) (opened .unpack .result .answer) (opened .unpack .result .table) (opened .unpack .ensures)
+    clear-done (a .record-bytes .now) (length (a .lent .now)) (opened .unpack .result .answer) (opened .unpack .result .table) (opened .unpack .ensures)
     (cleared .clear .result .answer) (cleared .clear .result .table) (cleared .clear .ensures) (cleared .before .enum-told .given .1) _
     (packed .pack .result)
     (done .enum-told2 .given .1) (packed .pack .ensures)

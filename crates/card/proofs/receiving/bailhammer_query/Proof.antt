@@ -12,7 +12,7 @@ returns : tie.Need-returns
 returns c =
     let opened = c .before .before .before in
     let a = opened .before .before .before .before .args in
-    query-refused (a .table .now) (length (a .lent .now)) (a .told .now) (opened .unpack .result .answer) (opened .unpack .result .table)
+    query-refused (a .record-bytes .now) (length (a .lent .now)) (a .told .now) (opened .unpack .result .answer) (opened .unpack .result .table)
     (opened .unpack .ensures) _ (c .before .fault .given .1)
 
 returns-2 : tie.Need-returns-2
@@ -21,7 +21,7 @@ returns-2 c =
     let asked = said .before .before in
     let opened = asked .before .before .before in
     let a = opened .before .before .before .before .args in
-    query-done (a .table .now) (length (a .lent .now)) (a .told .now) (opened .unpack .result .answer) (opened .unpack .result .table)
+    query-done (a .record-bytes .now) (length (a .lent .now)) (a .told .now) (opened .unpack .result .answer) (opened .unpack .result .table)
     (opened .unpack .ensures) (asked .query .result) (asked .before .enum-told .given .1) (asked .query .ensures) (said .tell-places .ensures)
 
 unpack-requires : tie.Need-unpack-requires
