@@ -7,7 +7,8 @@ use header::Header;
 use header::Parsed;
 ghost use mathlib.Core.Path.{_≡_};
 ghost use Rattle.card_rules.specs.Calls.{addressOf};
-ghost use Rattle.card_rules.specs.Headers.{addressTold, headerLength, headerTold, header-widths, parsedTold, parseCall};
+ghost use Rattle.card_rules.specs.Headers.{addressTold, headerTold, header-widths, parseFor};
+ghost use Rattle.card_rules.specs.inner.Parsed.{parsedTold};
 ghost use Rattle.card_rules.specs.Told.{CardTold};
 
 // The bytes that parsing tells, and their widths; specs/Headers.antt says of what.
@@ -25,23 +26,13 @@ fn address_values(a: Address) -> [usize; 3]
     }
 }
 
-// The bytes of a header, with HCRC: behind them the payload begins.
-fn header_length(h: Header) -> usize
-    ensures { λ r. ⌜ r ≡ headerLength h ⌝ }
-{
-    let address = h.address;
-    match address {
-        Address::None => if h.fec { 16 } else { 14 },
-        Address::Pair { source: _, dest: _ } => if h.fec { 20 } else { 18 },
-    }
-}
-
 // What is told of a header.
 fn header_values(h: Header) -> [usize; 11]
     ensures { λ r. ⌜ r ≡ headerTold h ⌝ }
 {
     let address = h.address;
     let a = address_values(address);
+    let length = cut::header_length(h.fec, address);
     [
         h.number as usize,
         h.index as usize,
@@ -53,7 +44,7 @@ fn header_values(h: Header) -> [usize; 11]
         a[1],
         a[2],
         h.plen as usize,
-        header_length(h),
+        length,
     ]
 }
 
@@ -76,7 +67,7 @@ pub extern "C" fn bailhammer_parse(
     datagram: &[u8],
     told: &mut [u8],
 ) -> usize
-    ensures { λ r. ⌜ CardTold header-widths (parseCall (addressOf addressed source dest) (now (datagram .entry))) (now (told .entry))
+    ensures { λ r. ⌜ CardTold header-widths (parseFor (addressOf addressed source dest) (now (datagram .entry))) (now (told .entry))
         (now (told .exit)) r ⌝ }
 {
     let own = address_of(addressed, source, dest);

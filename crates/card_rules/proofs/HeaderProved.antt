@@ -4,21 +4,21 @@ use mathlib.Core.Bool.{Bool}
 use mathlib.Core.List.{List, [], _∷_, _++_}
 use Prim.Native.Nat.{ℕ, _^_, _<_, _≤_}
 use native.Mathlib.Omega.{arith}
-use lib.Dec.{lit<, lit≤}
+use lib.Dec.{lit<}
 use lib.ListN.{getD, drop}
 use Rattle.base_rules.specs.Answer.{Answer, granted, refused, answered}
 use Rattle.base_rules.specs.Bytes.{Bytes}
 use Rattle.base_rules.specs.Tests.{bit}
 use Rattle.base_rules.proofs.Logic.{either}
 use Rattle.code_rules.proofs.CallCases.{granted-by, refused-by}
-use Rattle.cut_rules.specs.Sizes.{addressBytes}
+use Rattle.cut_rules.proofs.PlanCases.{length-most}
 use Rattle.cut_rules.specs.declared.Address.{Address}
 use Rattle.cut_rules.specs.declared.Address.the-variants.{None, Pair}
 use Rattle.header_rules.specs.declared.Header.{Header}
 use Rattle.header_rules.specs.declared.Parsed.{Parsed}
 use Rattle.header_rules.specs.declared.Parsed.the-variants.{Fragment, Refused}
 use Rattle.header_rules.specs.Claims.{Fitting, Sound}
-use Rattle.header_rules.specs.Read.{hasFec, addressAt, fieldsOf, bodyLength, lengthOf, parsedOf}
+use Rattle.header_rules.specs.Read.{hasFec, addressAt, fieldsOf, bodyLength, lengthOf, faultOf, parsedOf}
 use Rattle.header_rules.proofs.Proved.{passed-sound, payload-stands}
 use Rattle.packed_rules.specs.Packed.{tableFrom}
 use Rattle.receiver_rules.specs.Promise as promise
@@ -27,22 +27,18 @@ use Rattle.receiver_rules.specs.Claims.{dueFor}
 use Rattle.receiver_rules.proofs.Steps.{header-refused, header-passed, header-due}
 use Rattle.receiver_rules.proofs.Unique.{step-refused}
 use Rattle.card_rules.specs.Told.{refusalIn, tooShort, roomFor}
-use Rattle.card_rules.specs.Headers.{addressTold, headerLength, headerTold, header-widths, parsedTold, parseCall}
+use Rattle.card_rules.specs.Headers.{addressTold, payloadAt, headerTold, header-widths, parseFor}
+use Rattle.card_rules.specs.inner.Parsed.{parsedTold}
 use Rattle.card_rules.specs.Claims.{Fits, no-more, then, HeaderWhole, PayloadBegins, RefusedAlike}
+use Rattle.card_rules.proofs.HeaderLaws.{last-two, parsed-told}
 use Rattle.card_rules.proofs.RefusalLaws.{header-other}
 use Rattle.card_rules.proofs.SendProved.{at-most}
 use Rattle.card_rules.proofs.ReceiveProved.{with-record, refused-unchanged}
 
 -- ---- what is told is not cut off
 
-address-few : (a : Address) → addressBytes a ≤ 4
-unfolding addressBytes
-address-few None = lit≤ tt
-address-few (Pair source dest) = lit≤ tt
-
-few-length : (h : Header) → headerLength h < 256
-unfolding headerLength
-few-length h = omega (arith, at-most (h .fec) 2, address-few (h .address))
+few-length : (h : Header) → payloadAt h < 256
+few-length h = omega (arith, length-most (h .fec) (h .address))
 
 few-bit : (b : Bool) → bit b < 256
 few-bit b = omega (arith, at-most b 1)
@@ -64,7 +60,7 @@ told-fits h sound =
     let index : h .index < below 1 = omega (arith, sound .below, sound .few) in
     let count : h .count < below 2 = omega (arith, sound .few) in
     let plen : h .plen < below 9 = omega (arith, written .plen) in
-    let behind : Fits (2 ∷ 1 ∷ []) (h .plen ∷ headerLength h ∷ []) = then plen (then (few-length h) no-more) in
+    let behind : Fits (2 ∷ 1 ∷ []) (h .plen ∷ payloadAt h ∷ []) = then plen (then (few-length h) no-more) in
     then (written .number) (then index (then count (then (few-bit (h .fec)) (then (written .rsk) (then (written .rsz)
     (address-fits (h .address) (written .address) behind))))))
 
@@ -79,23 +75,24 @@ parsed-fits own s bytes (Refused n) is values e = let z = refused-by n 0 values 
 
 -- no figure that parsing tells is cut off
 pub header-whole : HeaderWhole
-unfolding parseCall
-header-whole own s values bytes e = parsed-fits own s bytes (parsedOf own s) refl values e
+header-whole own s values bytes e = parsed-fits own s bytes (parsedOf own s) refl values (parsed-told own s ∙ e)
 
 -- ---- where the payload begins
 
-length-there : (s : List ℕ) → headerLength (fieldsOf s) ≡ lengthOf s
-unfolding headerLength fieldsOf lengthOf bodyLength addressAt
+length-there : (s : List ℕ) → payloadAt (fieldsOf s) ≡ lengthOf s
+unfolding fieldsOf lengthOf bodyLength addressAt
 length-there s = either (hasFec s) (λ e. rw e (omega arith)) (λ e. rw e (omega arith))
 
 -- the length told is that of the header in the datagram, and Plen bytes stand behind it
 pub payload-begins : PayloadBegins
-unfolding payloadOf
-payload-begins own s h is =
-    let passed = header-passed own s (sym is) refl in
-    let there : headerLength h ≡ lengthOf s = ap headerLength (passed .1) ∙ length-there s in (
+unfolding payloadOf parseFor
+payload-begins own s values e =
+    let said = granted-by (faultOf own s) values (headerTold (fieldsOf s)) (sym e) in
+    let figures = last-two (fieldsOf s) in
+    let plen : getD values 9 0 ≡ fieldsOf s .plen = ap (λ (l : List ℕ). getD l 9 0) (said .1) ∙ figures .0 in
+    let there : getD values 10 0 ≡ lengthOf s = ap (λ (l : List ℕ). getD l 10 0) (said .1) ∙ figures .1 ∙ length-there s in (
       ap (λ (n : ℕ). drop n s) there,
-      rw (passed .1) (omega (arith, length-there s, payload-stands own s (passed .0))),
+      omega (arith, there, plen, payload-stands own s (sym (said .0))),
     )
 
 -- ---- parsing and receiving refuse alike
@@ -116,9 +113,9 @@ parsed-refused (Refused m) e = ap Refused (ap refusalIn e)
 
 -- what parsing refuses for its header receiving refuses with the same number, and leaves all that is lent
 pub refused-alike : RefusedAlike
-unfolding parseCall promise.reception promise.numberOf
+unfolding promise.reception promise.numberOf
 refused-alike own s told told-after n said some before after r ready bytes promised =
-    let due = header-refused own s refl (parsed-refused (parsedOf own s) (above-room header-widths told _ (said .number) some)) in
+    let due = header-refused own s refl (parsed-refused (parsedOf own s) (parsed-told own s ∙ above-room header-widths told _ (said .number) some)) in
     let state : State = record { table = tableFrom (before .record-bytes); bytes = before .lent } in
     let is : n ≡ dueFor own state s (before .out) = header-due own _ _ s _ refl (ready .room) (due .0) (due .1) in
     let p = with-record own s before after r promised (ready .taken) (ready .tells) in

@@ -10,9 +10,6 @@ use Rattle.base_rules.specs.Bytes.{Bytes, splice}
 use Rattle.cut_rules.specs.Plan.{planFault, figuresOf}
 use Rattle.cut_rules.specs.declared.Address.{Address}
 use Rattle.cut_rules.specs.declared.Settings.{Settings}
-use Rattle.header_rules.specs.declared.Header.{Header}
-use Rattle.header_rules.specs.declared.Parsed.the-variants.{Fragment}
-use Rattle.header_rules.specs.Read.{parsedOf}
 use Rattle.sender_rules.specs.Calls.{fragmentCall, fragmentsCall}
 use Rattle.packed_rules.specs.Packed.{table-bytes, tableFrom, unpackFault, unpackCall}
 use Rattle.places_rules.specs.Places.{freshTable}
@@ -30,7 +27,7 @@ use Rattle.walk_rules.specs.declared.Walker.{Walker}
 use Rattle.walk_rules.specs.Names.{deepest, namesFault}
 use Rattle.walk_rules.specs.Step.{opens, walkStep}
 use Rattle.card_rules.specs.Told.{refusalIn, inWidths, bytesFor, CardWritten, CardTold}
-use Rattle.card_rules.specs.Headers.{headerLength, header-widths, parseCall}
+use Rattle.card_rules.specs.Headers.{header-widths, parseFor}
 use Rattle.card_rules.specs.Receiving.{receiptTold, receipt-widths, Held, RefusedWith, CardReceived, clearFor}
 use Rattle.card_rules.specs.Items.{walker-bytes, walkerBytes, walkerFrom, step-widths, walkStepCall}
 use Rattle.card_rules.specs.Blocks.{CardFilled}
@@ -116,13 +113,14 @@ pub data Fits : List ℕ → List ℕ → Type 0 where
 
 -- clause 7.1: no field of a header is cut off where it is told, nor is its length
 abbrev pub HeaderWhole : Type 0
-HeaderWhole = (own : Address) (datagram values : List ℕ) → Bytes datagram → parseCall own datagram ≡ granted values → Fits header-widths values
+HeaderWhole = (own : Address) (datagram values : List ℕ) → Bytes datagram → parseFor own datagram ≡ granted values → Fits header-widths values
 
--- card.h, "where the payload begins": at the length told; and so many bytes as Plen says stand from there on, to the datagram's end
+-- card.h, "where the payload begins": what a receiving keeps of the datagram stands from the last figure told on, and the figure before it,
+-- Plen, is how many bytes that is, to the datagram's end
 abbrev pub PayloadBegins : Type 0
 PayloadBegins =
-    (own : Address) (datagram : List ℕ) (h : Header) → parsedOf own datagram ≡ Fragment h
-    → (drop (headerLength h) datagram ≡ payloadOf datagram) × (headerLength h + h .plen ≡ length datagram)
+    (own : Address) (datagram values : List ℕ) → parseFor own datagram ≡ granted values
+    → (drop (getD values 10 0) datagram ≡ payloadOf datagram) × (getD values 10 0 + getD values 9 0 ≡ length datagram)
 
 -- a record that is taken, and of each kind of bytes as many as a receiving asks for
 pub record Ready (before : Held) : Type 0 where
@@ -133,7 +131,7 @@ pub record Ready (before : Held) : Type 0 where
 -- what parsing refuses for its header, with a number above 1, receiving refuses with the same number and changes nothing
 abbrev pub RefusedAlike : Type 0
 RefusedAlike =
-    (own : Address) (datagram told told-after : List ℕ) (n : ℕ) → CardTold header-widths (parseCall own datagram) told told-after n → 1 < n
+    (own : Address) (datagram told told-after : List ℕ) (n : ℕ) → CardTold header-widths (parseFor own datagram) told told-after n → 1 < n
     → (before after : Held) (r : ℕ) → Ready before → Bytes (before .record-bytes) → CardReceived own datagram before after r
     → RefusedWith before after r n
 

@@ -1,1 +1,2 @@
 pub mod Queried
+pub mod Parsed

@@ -8,5 +8,6 @@ pub use cut_rules::LEAST_H;
 pub use cut_rules::MOST_H;
 pub use cut_rules::Planned;
 pub use cut_rules::Settings;
+pub use plans::header_length;
 pub use plans::house;
 pub use plans::plan;

@@ -17,7 +17,7 @@ ghost use Prim.Native.Nat.{_+_, _≤_, _<_};
 ghost use lib.Dec.{ltb, leb};
 ghost use Rattle.base_rules.specs.Bounds.{least-l, most-l, most-f, most-k, place, most-mtu};
 ghost use Rattle.base_rules.specs.Round.{ceil};
-ghost use Rattle.cut_rules.specs.Sizes.{c, k, h, most-h, addressBytes, divisor, S, L, assured};
+ghost use Rattle.cut_rules.specs.Sizes.{c, k, h, headerLength, most-h, addressBytes, divisor, S, L, assured};
 ghost use Rattle.cut_rules.specs.Sizes.{f as Sizes·f};
 ghost use Rattle.cut_rules.specs.Plan.{houseOf, fit, planOf, figuresOf, valuesOf, numberOf};
 
@@ -52,12 +52,20 @@ fn address_bytes(a: Address) -> usize
 }
 
 // The bytes of a header, with HCRC.
+pub fn header_length(fec: bool, address: Address) -> usize
+    ensures { λ r. ⌜ (r ≡ headerLength fec address) × (r ≤ most-h) ⌝ }
+{
+    let least = LEAST_H + address_bytes(address);
+    if fec { least + 2 } else { least }
+}
+
+// Those that the settings call for.
 fn header(g: Settings) -> usize
     ensures { λ r. ⌜ (r ≡ h g) × (r ≤ most-h) ⌝ }
 {
-    let a = g.address;
-    let least = LEAST_H + address_bytes(a);
-    if g.fec { least + 2 } else { least }
+    let fec = g.fec;
+    let address = g.address;
+    header_length(fec, address)
 }
 
 // Whether the MTU leaves room for a byte, and is no more than may be.

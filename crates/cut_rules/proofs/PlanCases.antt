@@ -15,7 +15,7 @@ use Rattle.base_rules.specs.Tests.{first}
 use Rattle.base_rules.proofs.Logic.{either, and-left, and-right}
 use Rattle.base_rules.proofs.Firsts.{due, skip, none-due, clear, clear-rest}
 use Rattle.base_rules.proofs.Answers.{grants, refuses}
-use Rattle.cut_rules.specs.Sizes.{c, k, z, n, addressBytes, most-h, h, divisor, S, L, f, s, assured}
+use Rattle.cut_rules.specs.Sizes.{c, k, z, n, addressBytes, headerLength, most-h, h, divisor, S, L, f, s, assured}
 use Rattle.cut_rules.specs.Plan.{fit, planFault, withFec, figuresOf, planOf, valuesOf, numberOf}
 use Rattle.cut_rules.specs.declared.Address.{Address}
 use Rattle.cut_rules.specs.declared.Address.the-variants.{None, Pair}
@@ -78,26 +78,19 @@ module _ (g : Settings) where
 
 -- ---- the header
 
--- with FEC a header has 16 bytes besides those of the address
-pub h-fec : (g : Settings) → g .fec ≡ true → h g ≡ 16 + addressBytes (g .address)
-unfolding h
-h-fec g e = rw e
-
--- without FEC a header has 14 bytes besides those of the address
-pub h-plain : (g : Settings) → g .fec ≡ false → h g ≡ 14 + addressBytes (g .address)
-unfolding h
-h-plain g e = rw e
-
-address-most : (a : Address) → addressBytes a ≤ 4
+-- no address takes more than four bytes
+pub address-most : (a : Address) → addressBytes a ≤ 4
 unfolding addressBytes
 address-most None = omega arith
 address-most (Pair source dest) = omega arith
 
 -- no header has more than 20 bytes
+pub length-most : (fec : Bool) (a : Address) → headerLength fec a ≤ most-h
+length-most fec a = let four = address-most a in either fec (λ e. rw e (omega arith)) (λ e. rw e (omega arith))
+
 pub h-most : (g : Settings) → h g ≤ most-h
-h-most g =
-    let four = address-most (g .address) in
-    either (g .fec) (λ e. omega (arith, h-fec g e)) (λ e. omega (arith, h-plain g e))
+unfolding h
+h-most g = length-most (g .fec) (g .address)
 
 -- ---- the divisor: these two, and `each-bears` of Bearing, are all that know it
 

@@ -1,6 +1,6 @@
 -- The sizes of a cut of an AF packet of l bytes at the settings g (clause 7.2; document 01, "PFT layer"). The letters are the standard's, but
 -- n, S and L are document 01's: S is the standard's s max, and L with FEC its l + cp + z, where the standard's own L is fs.
-use mathlib.Core.Bool.{cond}
+use mathlib.Core.Bool.{Bool, cond}
 use Prim.Native.Nat.{ℕ, _+_, _-_, _*_, _/_, min}
 use lib.Dec.{eqb}
 use Rattle.base_rules.specs.Bounds.{most-k, parity}
@@ -43,8 +43,12 @@ abbrev pub most-h : ℕ
 most-h = 20
 
 -- document 01: the bytes of a header: the least, two more with FEC, four more with an address
+abbrev pub headerLength : Bool → Address → ℕ
+headerLength fec address = least-h + cond fec 2 0 + addressBytes address
+
+-- document 01: those of the settings
 unfoldable pub h : Settings → ℕ
-h g = least-h + cond (g .fec) 2 0 + addressBytes (g .address)
+h g = headerLength (g .fec) (g .address)
 
 -- clause 7.2.2: by what 48 c is divided, m + 1
 unfoldable pub divisor : Settings → ℕ

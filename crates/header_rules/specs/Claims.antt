@@ -1,12 +1,12 @@
 -- What is claimed of headers: the proofs are in proofs/Proved.antt.
-use mathlib.Core.Bool.{true, false, cond}
+use mathlib.Core.Bool.{true, false}
 use mathlib.Core.List.{List, _++_}
 use mathlib.Core.Path.{_≡_}
 use Prim.Native.Nat.{ℕ, _+_, _*_, _≤_, _<_}
 use lib.ListN.{length}
 use Rattle.base_rules.specs.Bytes.{Bytes}
 use Rattle.base_rules.specs.Bounds.{most-f, most-k, place, parity}
-use Rattle.cut_rules.specs.Sizes.{least-h, addressBytes}
+use Rattle.cut_rules.specs.Sizes.{headerLength}
 use Rattle.cut_rules.specs.declared.Address.{Address}
 use Rattle.cut_rules.specs.declared.Address.the-variants.{None, Pair}
 use Rattle.header_rules.specs.declared.Header.{Header}
@@ -59,7 +59,7 @@ PayloadStands = (own : Address) (s : List ℕ) → faultOf own s ≡ 0 → lengt
 
 -- document 01: h is 14, two more with FEC, four more with an address
 abbrev pub HeaderLength : Type 0
-HeaderLength = (h : Header) → length (headerBytes h) ≡ least-h + cond (h .fec) 2 0 + addressBytes (h .address)
+HeaderLength = (h : Header) → length (headerBytes h) ≡ headerLength (h .fec) (h .address)
 
 -- no second answer of the parser has the same number and values
 abbrev pub OneParsed : Type 0

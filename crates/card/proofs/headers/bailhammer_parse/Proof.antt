@@ -2,21 +2,23 @@
 use mathlib.Core.Path.{ap, _∙_}
 use Rattle.cut_rules.specs.declared.Address.{Address}
 use Rattle.header_rules.specs.Read.{parsedOf}
-use Rattle.card_rules.specs.Headers.{header-widths, parsedTold, parseCall}
+use Rattle.card_rules.specs.Headers.{header-widths}
+use Rattle.card_rules.specs.inner.Parsed.{parsedTold}
+use Rattle.card_rules.proofs.HeaderLaws.{parsed-told}
 use Rattle.card_rules.proofs.ToldLaws.{told-as}
 use borrow.Author.Needs.{needs}
 use Rattle.card.proofs.headers.bailhammer_parse.Statement.{statement}
 use Rattle.card.proofs.headers.bailhammer_parse.Tie as tie
 
 returns : tie.Need-returns
-unfolding parseCall
 returns c =
     let said = c .before .before in
     let read = said .before .before in
     let own = read .before in
     let a = own .before .before .before .args in
     told-as header-widths (a .told .now)
-    (ap parsedTold (read .parse .ensures .0 ∙ ap (λ (x : Address). parsedOf x (a .datagram .now)) (own .address-of .ensures)))
+    (ap parsedTold (read .parse .ensures .0 ∙ ap (λ (x : Address). parsedOf x (a .datagram .now)) (own .address-of .ensures))
+    ∙ parsed-told _ (a .datagram .now))
     (said .tell-parsed .ensures)
 
 address-of-requires : tie.Need-address-of-requires

@@ -1,7 +1,8 @@
 -- `tell_parsed` meets its contract: a refusal tells nothing. Assumes nothing.
 use mathlib.Core.Path.{refl, ap}
 use Rattle.card_rules.specs.Told.{bytesFor}
-use Rattle.card_rules.specs.Headers.{header-widths, parsedTold}
+use Rattle.card_rules.specs.Headers.{header-widths}
+use Rattle.card_rules.specs.inner.Parsed.{parsedTold}
 use Rattle.card_rules.proofs.HeaderLaws.{eleven-long}
 use Rattle.card_rules.proofs.ToldLaws.{told-granted, told-refused}
 use borrow.Author.Needs.{needs}
