@@ -11,6 +11,7 @@ import functools
 import pathlib
 
 import fields
+import usage
 
 HERE = pathlib.Path(__file__).resolve().parent
 PARITY = 48  # parity bytes behind each chunk
@@ -165,6 +166,7 @@ PARTS = (("parities, of parity.txt", parity_questions), ("chunks that are filled
 
 
 if __name__ == "__main__":
+    usage.help_or_use(__doc__)
     for title, questions in PARTS:
         print("#", title)
         for question, answer in questions():

@@ -6,6 +6,8 @@ It is the measure for the program's answers, so it shares nothing with it: no ta
 """
 import sys
 
+import usage
+
 POLYNOMIAL = 0b100011101  # x^8 + x^4 + x^3 + x^2 + 1
 ALPHA = 2
 
@@ -52,4 +54,5 @@ def answer(question):
 
 
 if __name__ == "__main__":
+    usage.help_or_use(__doc__, (2, 3))
     print(answer(" ".join(sys.argv[1:])))

@@ -13,6 +13,7 @@ import chunks
 import fields
 import packets
 import plans
+import usage
 
 PARITY = 48  # parity bytes behind each chunk
 MOST_DATA = 207  # data bytes of the longest chunk
@@ -381,6 +382,7 @@ PARTS = (("fragments with FEC: \"With FEC, the l bytes and z zeros form c chunks
 
 
 if __name__ == "__main__":
+    usage.help_or_use(__doc__)
     for title, questions in PARTS:
         print("#", title)
         for question, answer in questions():

@@ -5,6 +5,8 @@
 The answers at the edges are written out here by hand. Those of the spread at the end are worked out by a reader of its own below, which is
 first held against all that is written out.
 """
+import usage
+
 CONTAINER = b"fio_"
 
 
@@ -437,6 +439,7 @@ def malformed_questions():
 
 
 if __name__ == "__main__":
+    usage.help_or_use(__doc__)
     for title, edges in EDGES:
         print("#", title)
         for says, question, answer in edges():

@@ -7,6 +7,8 @@ It is the measure for the program's answers, so it shares nothing with it.
 """
 import sys
 
+import usage
+
 PARITY = 48  # parity bytes behind each chunk
 MOST_DATA = 207  # data bytes of the longest chunk
 MOST_M = 5
@@ -59,6 +61,7 @@ def answer(words):
 
 
 def main():
+    usage.help_or_use(__doc__, (0, 5))
     if len(sys.argv) == 6:
         print(answer(sys.argv[1:]))
         return

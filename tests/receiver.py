@@ -17,6 +17,7 @@ import chunks
 import fragments
 import packets
 import plans
+import usage
 
 MOST_TABLE, MOST_OUT = 65536, 32768  # the longest buffers that a question can name for the table and for the packet
 MOST_DATAGRAM = 32768  # bytes of the longest datagram of a question
@@ -982,6 +983,7 @@ PARTS = (("lost fragments: \"l 415, m 2: [..] Any three lost still rebuild, no f
 
 
 if __name__ == "__main__":
+    usage.help_or_use(__doc__)
     for title, questions in PARTS:
         print("#", title)
         for question, answer in questions():

@@ -15,6 +15,9 @@ the fragment is kept already: 12.
 """
 import pathlib
 
+import usage
+
+usage.help_or_use(__doc__)
 IN, OUT = "2 0 0", "14 14 14"
 FIELDS = (
     ("condition", ((0, IN), (3, IN), (4, OUT), (255, OUT))),  # free, open, delivered, spoiled are 0 to 3

@@ -17,6 +17,7 @@ import fragments
 import packets
 import plans
 import receiver
+import usage
 
 RELAY = pathlib.Path(__file__).resolve().parent.parent / "crates" / "relay"
 NUMBER = 1  # of the packet on the line
@@ -79,6 +80,7 @@ def longest():
 
 
 if __name__ == "__main__":
+    usage.help_or_use(__doc__)
     fragments.held()
     receiver.held()
     packet = longest()

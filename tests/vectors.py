@@ -17,6 +17,7 @@ import fragments
 import packets
 import plans
 import receiver
+import usage
 
 HERE = pathlib.Path(__file__).resolve().parent
 ASK = HERE.parent / "crates" / "ask"
@@ -357,4 +358,5 @@ def main():
 
 
 if __name__ == "__main__":
+    usage.help_or_use(__doc__)
     main()
