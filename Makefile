@@ -28,7 +28,7 @@ plans:
 c:
 	@c/run
 
-##   test      .ci/run           27 minutes  the gate: proves and tries everything, from nothing
+##   test      .ci/run           22 minutes  the gate: proves and tries everything, from nothing
 test:
 	@.ci/run
 
@@ -54,6 +54,6 @@ bench:
 
 ##
 ## * and minutes the first time: what is not proved yet is proved first, and says how far it is. The
-## gate was timed on two processors, which had other work for nine of the minutes.
+## gate was timed on two processors.
 ## Each needs rt, the Rattle kit's command (kit.txt names the kit), but declared; c and bench need a
 ## C compiler, bench libfec too, compare cargo, interop tshark.
