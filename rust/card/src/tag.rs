@@ -1,4 +1,5 @@
-//! The TAG layer: writing an item, finding one by its name, walking through containers.
+//! The TAG layer: writing an item, finding one by its name, going through the items of a packet and
+//! of the containers in it.
 
 use crate::{done, long, place, raw, Refused};
 
@@ -20,6 +21,22 @@ pub struct Found<'a> {
     /// The bytes that hold them.
     pub value: &'a [u8],
 }
+
+/// An item of a packet; its value is a part of the packet.
+#[derive(Clone, Copy, Debug, PartialEq, Eq)]
+pub struct Item<'a> {
+    /// Its name.
+    pub name: Name,
+    /// The bits of its value.
+    pub bits: u32,
+    /// The bytes that hold them.
+    pub value: &'a [u8],
+}
+
+/// The items of a packet in their order, containers unopened: a walk with no names, which is proved
+/// to be the packet's run of items.
+#[derive(Clone, Debug)]
+pub struct Items<'a>(Walk<'a>);
 
 /// What a step of a walk hands out.
 #[derive(Clone, Copy, Debug, PartialEq, Eq)]
@@ -104,3 +121,29 @@ impl<'a> Walk<'a> {
         Ok(Step::Item { depth: told[1], name, bits: long(&told, 6), value })
     }
 }
+
+/// Checks a packet whole and gives its items. Refused: 30, 31 or 33 of the leftmost item at fault.
+///
+/// ```
+/// use card::tag;
+/// let packet = *b"demo\0\0\0\x08!*dmy\0\0\0\0";
+/// let names: Vec<_> = tag::items(&packet)?.map(|item| item.name).collect();
+/// assert_eq!(names, [*b"demo", *b"*dmy"]);
+/// # Ok::<(), card::Refused>(())
+/// ```
+pub fn items(packet: &[u8]) -> Result<Items<'_>, Refused> {
+    Walk::open(packet, &[]).map(Items)
+}
+
+impl<'a> Iterator for Items<'a> {
+    type Item = Item<'a>;
+
+    fn next(&mut self) -> Option<Item<'a>> {
+        match self.0.step() {
+            Ok(Step::Item { depth: _, name, bits, value }) => Some(Item { name, bits, value }),
+            Ok(Step::End { padding: _ }) | Err(_) => None,
+        }
+    }
+}
+
+impl core::iter::FusedIterator for Items<'_> {}

@@ -168,6 +168,21 @@ pub fn place(packet: &[u8], part: &[u8]) -> usize {
     part.as_ptr() as usize - packet.as_ptr() as usize
 }
 
+/// Name, bits and value of each item of a packet, or the number with which it is refused.
+type Listed<'a> = Result<Vec<(Name, u32, &'a [u8])>, u8>;
+
+/// As the typed call gives them.
+fn in_order(packet: &[u8]) -> Listed<'_> {
+    let items = tag::items(packet).map_err(|refused| refused.0)?;
+    Ok(items.map(|item| (item.name, item.bits, item.value)).collect())
+}
+
+/// As the reference reads them.
+fn due_in_order(packet: &[u8]) -> Listed<'_> {
+    let (items, _) = expected::items(packet)?;
+    Ok(items.into_iter().map(|item| (item.name, item.bits, item.value)).collect())
+}
+
 pub fn find(rng: &mut Rng, tally: &mut Tally) {
     let style = Style::new(rng, Vec::new());
     let (packet, standing) = (some_packet(rng, &style), some_packet(rng, &style));
@@ -199,6 +214,7 @@ pub fn find(rng: &mut Rng, tally: &mut Tally) {
     let value = |found: Found| (found.item.value.as_ptr(), found.item.value.len());
     let expected = expected.map(|e| (e.standing, e.item.bits, value(e).0, value(e).1));
     judge.same("typed", typed, expected);
+    judge.same("items", in_order(&packet), due_in_order(&packet));
     tally.count(number, judge, || {
         let (packet, standing) = (hex(&packet), hex(&standing));
         format!("packet={packet} standing={standing} name={} told={}", hex(&wanted), hex(&before))
