@@ -14,7 +14,7 @@ use receiver::Shown;
 ghost use mathlib.Core.Path.{_≡_};
 ghost use Prim.Native.Nat.{_≤_};
 ghost use lib.ListN.{length};
-ghost use Rattle.card_rules.specs.Told.{bytesFor, CardWritten, CardTold};
+ghost use Rattle.card_rules.specs.Told.{toldLength, CardWritten, CardTold};
 ghost use Rattle.card_rules.specs.Calls.{addressOf};
 ghost use Rattle.card_rules.specs.Receiving.{places-widths, queryFor, clearFor, receiptTold, receipt-widths, toldAfter, CardReceived};
 ghost use Rattle.card_rules.specs.inner.Queried.{seenTold, shownTold, queriedIn};
@@ -40,7 +40,7 @@ fn receipt_values(handed: usize, length: usize, missing: usize, d: Displaced) ->
 
 // Tells an answer, and gives its number.
 fn tell_receipt(a: Received, told: &mut [u8]) -> usize
-    requires { ⌜ bytesFor receipt-widths ≤ length (now told) ⌝ }
+    requires { ⌜ toldLength receipt-widths ≤ length (now told) ⌝ }
     ensures { λ r. ⌜ (r ≡ numberOf a .0) × (now (told .exit) ≡ toldAfter a (now (told .entry))) ⌝ }
 {
     match a {

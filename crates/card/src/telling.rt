@@ -4,7 +4,7 @@ ghost use Prim.Native.Nat.{_-_, _≤_};
 ghost use lib.ListN.{length};
 ghost use Rattle.base_rules.specs.Answer.{granted};
 ghost use Rattle.base_rules.specs.Bytes.{splice, bytesOf};
-ghost use Rattle.card_rules.specs.Told.{bytesFor, CardTold};
+ghost use Rattle.card_rules.specs.Told.{toldLength, CardTold};
 
 // Writes the low bytes of a number from `from` up to `to`: from the last on, as each is the remainder of what is left of the number.
 fn put_number(d: &mut [u8], from: usize, to: usize, x: usize)
@@ -23,7 +23,7 @@ fn put_number(d: &mut [u8], from: usize, to: usize, x: usize)
 // Tells numbers one behind the other at the front of what is lent, each in as many bytes as its width says, n in all, and gives 0; 1 where
 // fewer are lent.
 pub(crate) fn tell(told: &mut [u8], n: usize, widths: &[usize], values: &[usize]) -> usize
-    requires { ⌜ (length (now values) ≡ length (now widths)) × (bytesFor (now widths) ≡ n) ⌝ }
+    requires { ⌜ (length (now values) ≡ length (now widths)) × (toldLength (now widths) ≡ n) ⌝ }
     ensures { λ r. ⌜ CardTold (now (widths .entry)) (granted (now (values .entry))) (now (told .entry)) (now (told .exit)) r ⌝ }
 {
     if told.len() < n {

@@ -16,7 +16,7 @@ use Rattle.base_rules.proofs.Logic.{hit, same, other}
 use Rattle.walk_rules.specs.declared.Walked.{Walked}
 use Rattle.walk_rules.specs.declared.Walker.{Walker}
 use Rattle.walk_rules.specs.Step.{opens}
-use Rattle.card_rules.specs.Told.{refusalIn, inWidths, bytesFor, roomFor, toldOf, CardTold}
+use Rattle.card_rules.specs.Told.{refusalIn, inWidths, toldLength, roomFor, toldOf, CardTold}
 use Rattle.card_rules.specs.Items.{walker-widths, walker-bytes, walkerBytes, walkerFrom, walkOpenFault, walkOpenCall}
 use Rattle.card_rules.specs.Items.{step-widths, steppedNumber, stepped, stepRoom, walkStepCall, walkerAfter, CardStepped}
 use Rattle.card_rules.proofs.TellLaws.{fits-room, told-room, whole}
@@ -54,7 +54,7 @@ pub walker-laid : (d : List ℕ) (w : Walker) {y : List ℕ} {r : ℕ} → lengt
     → (let ends = w .ends in
     CardTold walker-widths (granted (w .at ∷ w .depth ∷ getD ends 0 0 ∷ getD ends 1 0 ∷ getD ends 2 0 ∷ getD ends 3 0 ∷ getD ends 4 0 ∷ [])) d y r)
     → y ≡ walkerBytes w
-unfolding walkerBytes inWidths bytesOf bytesFor
+unfolding walkerBytes inWidths bytesOf toldLength
 walker-laid d w long ends said =
     said .told ∙ told-room walker-widths _ d (omega arith) ∙ whole d _ (sym long)
     ∙ ap (λ (l : List ℕ). inWidths walker-widths (w .at ∷ w .depth ∷ l)) (sym (five (w .ends) ends))
@@ -92,17 +92,17 @@ module _ (walker told : List ℕ) where
   no-walk h = sym (hit _ (other h))
 
   -- or too few to tell in,
-  no-place : length told < bytesFor step-widths → stepRoom walker told ≡ true
+  no-place : length told < toldLength step-widths → stepRoom walker told ≡ true
   unfolding stepRoom
-  no-place short = rw (lt-ltb (length told) (bytesFor step-widths) short) (or-true (not (eqb (length walker) walker-bytes)))
+  no-place short = rw (lt-ltb (length told) (toldLength step-widths) short) (or-true (not (eqb (length walker) walker-bytes)))
 
   -- and else not
-  room : length walker ≡ walker-bytes → bytesFor step-widths ≤ length told → stepRoom walker told ≡ false
+  room : length walker ≡ walker-bytes → toldLength step-widths ≤ length told → stepRoom walker told ≡ false
   unfolding stepRoom
-  room long fits = rw (same long, le-ltb (length told) (bytesFor step-widths) fits)
+  room long fits = rw (same long, le-ltb (length told) (toldLength step-widths) fits)
 
 -- what is answered where there is room
-pub answers : (packet names walker told : List ℕ) (x : Walked) → length walker ≡ walker-bytes → bytesFor step-widths ≤ length told
+pub answers : (packet names walker told : List ℕ) (x : Walked) → length walker ≡ walker-bytes → toldLength step-widths ≤ length told
     → x ≡ stepped packet names walker → steppedNumber (x .handed) ≡ walkStepCall packet names walker told
 unfolding walkStepCall
 answers packet names walker told x long fits is-x = rw (room walker told long fits) (ap (λ (y : Walked). steppedNumber (y .handed)) is-x)
@@ -117,10 +117,10 @@ module _ (packet names walker told : List ℕ) where
   step-short h = no-room (no-walk walker told h)
 
   -- and where those to tell in are too few
-  pub step-untold : length told < bytesFor step-widths → CardStepped packet names walker walker told told 1
+  pub step-untold : length told < toldLength step-widths → CardStepped packet names walker walker told told 1
   step-untold short = no-room (no-place walker told short)
 
-  module _ (x : Walked) (long : length walker ≡ walker-bytes) (fits : bytesFor step-widths ≤ length told) (is-x : x ≡ stepped packet names walker) where
+  module _ (x : Walked) (long : length walker ≡ walker-bytes) (fits : toldLength step-widths ≤ length told) (is-x : x ≡ stepped packet names walker) where
     -- where a step goes on, and where it is refused
     module _ {r : ℕ} {told-after : List ℕ} (said : CardTold step-widths (steppedNumber (x .handed)) told told-after r) where
       answered-so : roomFor step-widths told (steppedNumber (x .handed)) ≡ walkStepCall packet names walker told

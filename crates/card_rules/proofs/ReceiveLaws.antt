@@ -35,7 +35,7 @@ use Rattle.places_rules.proofs.Records.{as-long}
 use Rattle.receiver_rules.specs.Promise as promise
 use Rattle.receiver_rules.specs.Promise.{badRoom, roomFault, Step}
 use Rattle.receiver_rules.specs.declared.Received.{Received}
-use Rattle.card_rules.specs.Told.{refusalIn, bytesFor, roomFor, CardTold}
+use Rattle.card_rules.specs.Told.{refusalIn, toldLength, roomFor, CardTold}
 use Rattle.card_rules.specs.Receiving.{onRecord, placesTold, places-widths, queryFor, receipt-widths, toldAfter, shortFault}
 use Rattle.card_rules.specs.Receiving.{Held, ReceivedWith, CardReceived}
 use Rattle.card_rules.proofs.ToldLaws.{chosen}
@@ -129,12 +129,12 @@ asked-short t = either (badTable t) (λ e. rw e refl) (λ e. rw e refl)
 
 -- a receiving with too few bytes to tell in gives the number of a query with none lent, and changes nothing
 pub receive-short : (own : Address) (datagram : List ℕ) (before after : Held) (r : ℕ) {told : List ℕ}
-    → length (before .told) < bytesFor receipt-widths → CardTold places-widths (queryFor (before .record-bytes) 0) [] told r → after ≡ before
+    → length (before .told) < toldLength receipt-widths → CardTold places-widths (queryFor (before .record-bytes) 0) [] told r → after ≡ before
     → CardReceived own datagram before after r
 unfolding CardReceived onRecord queryFor roomFor refusalIn
 receive-short own datagram before after r short asked same =
     let number = asked .number in
-    let none = lt-ltb (length (before .told)) (bytesFor receipt-widths) short in
+    let none = lt-ltb (length (before .told)) (toldLength receipt-widths) short in
     either (eqb (unpackFault (before .record-bytes)) 0)
     (λ e. rw (e, none) ((rw e at number) ∙ asked-short (tableFrom (before .record-bytes)), same))
     (λ e. rw e (rw e at number, same))
@@ -150,7 +150,7 @@ module _ (own : Address) (datagram : List ℕ) (before after : Held) (r : ℕ) (
   pub received-there : (o : Address) (v : Written) (t : Table) (a : Received) → w ≡ Done → o ≡ own
       → Step o (record { table = x; bytes = before .lent }) datagram (before .out) (promise.reception a t (after .lent) (after .out))
       → TypedTable t → outcome (numberOf v) (after .record-bytes) ≡ packCall t (before .record-bytes)
-      → bytesFor receipt-widths ≤ length (before .told)
+      → toldLength receipt-widths ≤ length (before .told)
       → (r ≡ promise.numberOf a .0) × (after .told ≡ toldAfter a (before .told)) → CardReceived own datagram before after r
   unfolding CardReceived
   received-there o v t a done is-own step typed packed room said =
@@ -167,4 +167,4 @@ module _ (own : Address) (datagram : List ℕ) (before after : Held) (r : ℕ) (
         told = said .1;
         number = said .0;
       } in
-      rw (taken-record s w x e _ _ done, le-ltb (length (before .told)) (bytesFor receipt-widths) room) with-record
+      rw (taken-record s w x e _ _ done, le-ltb (length (before .told)) (toldLength receipt-widths) room) with-record

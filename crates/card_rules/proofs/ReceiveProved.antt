@@ -26,7 +26,7 @@ use Rattle.receiver_rules.specs.declared.Received.{Received}
 use Rattle.receiver_rules.specs.declared.Received.the-variants.{Kept, Delivered, Damaged, Refused}
 use Rattle.receiver_rules.proofs.Proved.{one-reception, one-received, delivery-writes, count-told}
 use Rattle.receiver_rules.proofs.Unique.{step-settled, step-refused}
-use Rattle.card_rules.specs.Told.{refusalIn, inWidths, bytesFor, tooShort}
+use Rattle.card_rules.specs.Told.{refusalIn, inWidths, toldLength, tooShort}
 use Rattle.card_rules.specs.Receiving.{onRecord, receiptTold, receipt-widths, toldAfter, shortFault}
 use Rattle.card_rules.specs.Receiving.{Held, ReceivedWith, RefusedWith, CardReceived, clearFor}
 use Rattle.card_rules.specs.Claims.{ZerosFresh, ClearedZeros, OneReceipt, RefusedUnchanged, Shown, handed-out, only-kept, Said, NoSilence, ReceiptWhole}
@@ -87,8 +87,8 @@ cleared-zeros s after lent cleared = cleared .out ∙ cleared-by s lent (clearFo
 
 -- whatever is lent: no record; one, and too few bytes to tell in; or a record and room
 cases {ℓ} : {P : Type ℓ} (before : Held) → ((unpackFault (before .record-bytes) ≡ 0 → ⊥) → P)
-    → (unpackFault (before .record-bytes) ≡ 0 → length (before .told) < bytesFor receipt-widths → P)
-    → (unpackFault (before .record-bytes) ≡ 0 → bytesFor receipt-widths ≤ length (before .told) → P) → P
+    → (unpackFault (before .record-bytes) ≡ 0 → length (before .told) < toldLength receipt-widths → P)
+    → (unpackFault (before .record-bytes) ≡ 0 → toldLength receipt-widths ≤ length (before .told) → P) → P
 cases before none short full =
     either (eqb (unpackFault (before .record-bytes)) 0)
     (λ e.
@@ -98,17 +98,17 @@ cases before none short full =
 
 module _ (own : Address) (datagram : List ℕ) (before after : Held) (r : ℕ) (promised : CardReceived own datagram before after r) where
   -- a record and room: `receive` meets its promise
-  pub with-record : unpackFault (before .record-bytes) ≡ 0 → bytesFor receipt-widths ≤ length (before .told)
+  pub with-record : unpackFault (before .record-bytes) ≡ 0 → toldLength receipt-widths ≤ length (before .told)
       → ReceivedWith own datagram before after r (tableFrom (before .record-bytes))
   unfolding CardReceived onRecord
   with-record good room =
-      rw (eq-eqb (unpackFault (before .record-bytes)) 0 good, le-ltb (length (before .told)) (bytesFor receipt-widths) room) at promised
+      rw (eq-eqb (unpackFault (before .record-bytes)) 0 good, le-ltb (length (before .told)) (toldLength receipt-widths) room) at promised
 
-  no-told : unpackFault (before .record-bytes) ≡ 0 → length (before .told) < bytesFor receipt-widths
+  no-told : unpackFault (before .record-bytes) ≡ 0 → length (before .told) < toldLength receipt-widths
       → RefusedWith before after r (shortFault (tableFrom (before .record-bytes)))
   unfolding CardReceived onRecord
   no-told good short =
-      rw (eq-eqb (unpackFault (before .record-bytes)) 0 good, lt-ltb (length (before .told)) (bytesFor receipt-widths) short) at promised
+      rw (eq-eqb (unpackFault (before .record-bytes)) 0 good, lt-ltb (length (before .told)) (toldLength receipt-widths) short) at promised
 
   no-record : (unpackFault (before .record-bytes) ≡ 0 → ⊥) → RefusedWith before after r (unpackFault (before .record-bytes))
   unfolding CardReceived onRecord
@@ -208,11 +208,11 @@ refusal is some other (inl z) = absurd (some (sym is ∙ z))
 refusal is some other (inr z) = absurd (other (sym is ∙ z))
 
 module _ (own : Address) (datagram : List ℕ) (before after : Held) (r : ℕ) (t : Table) (p : ReceivedWith own datagram before after r t)
-    (room : bytesFor receipt-widths ≤ length (before .told)) where
+    (room : toldLength receipt-widths ≤ length (before .told)) where
   says : (handed l missing : ℕ) (d : Displaced) (a : Received) → p .answer ≡ a
       → toldAfter a (before .told) ≡ splice (before .told) 0 (inWidths receipt-widths (receiptTold handed l missing d))
       → Shown (before .out) (after .out) handed l → Said before after
-  unfolding bytesFor
+  unfolding toldLength
   says handed l missing d a is tells shown = record {
     handed = handed;
     l = l;

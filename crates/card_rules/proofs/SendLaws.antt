@@ -9,7 +9,7 @@ use Rattle.base_rules.specs.Answer.{Answer, granted, refused, outcome, settled,
 use Rattle.base_rules.specs.Tests.{first}
 use Rattle.cut_rules.specs.declared.Settings.{Settings}
 use Rattle.sender_rules.specs.Calls.{fragmentFault, fragmentCall, fragmentsFault, fragmentsCall}
-use Rattle.card_rules.specs.Told.{refusalIn, bytesFor, roomFor, toldOf, CardTold, SentAs}
+use Rattle.card_rules.specs.Told.{refusalIn, toldLength, roomFor, toldOf, CardTold, SentAs}
 use Rattle.card_rules.specs.Sending.{twos}
 use Rattle.card_rules.proofs.ToldLaws.{answer-in}
 
@@ -18,16 +18,16 @@ abbrev orRoom : ℕ → ℕ
 orRoom zero = 1
 orRoom (suc n) = suc n
 
-module _ (widths told : List ℕ) (short : length told < bytesFor widths) where
+module _ (widths told : List ℕ) (short : length told < toldLength widths) where
   no-room : (a : Answer) → toldOf widths (roomFor widths told a) told ≡ told
   unfolding roomFor toldOf
-  no-room (granted values) = rw (lt-ltb (length told) (bytesFor widths) short)
+  no-room (granted values) = rw (lt-ltb (length told) (toldLength widths) short)
   no-room (refused n) = refl
 
   or-room : (fault : ℕ) (values written before : List ℕ)
       → refusalIn (roomFor widths told (answerIn (settled fault values written before))) ≡ orRoom fault
   unfolding answerIn settled roomFor refusalIn
-  or-room zero values written before = rw (lt-ltb (length told) (bytesFor widths) short)
+  or-room zero values written before = rw (lt-ltb (length told) (toldLength widths) short)
   or-room (suc n) values written before = refl
 
   sent-short : (fault other : ℕ) (values written written′ before : List ℕ) {told-after after : List ℕ} {r : ℕ} {a : Answer}
@@ -40,7 +40,7 @@ module _ (widths told : List ℕ) (short : length told < bytesFor widths) where
           ∙ or-room other values _ [] ∙ alike ∙ sym (or-room fault values written before);
       told = said .told ∙ no-room _ ∙ sym (no-room (answerIn (settled fault values written before)));
     };
-    out = rw (lt-ltb (length told) (bytesFor widths) short) refl;
+    out = rw (lt-ltb (length told) (toldLength widths) short) refl;
   }
 
 -- ---- 1 ROOM stands last among the tests
@@ -60,14 +60,14 @@ or-more false n ts us e = e
 
 module _ (g : Settings) (number : ℕ) (packet out told : List ℕ) {told-after after : List ℕ} {r : ℕ} {a : Answer} where
   -- so it is of one fragment,
-  pub fragment-short : (i : ℕ) → length told < bytesFor (twos 1) → outcome a after ≡ fragmentCall g number packet i []
+  pub fragment-short : (i : ℕ) → length told < toldLength (twos 1) → outcome a after ≡ fragmentCall g number packet i []
       → CardTold (twos 1) a told told-after r → SentAs (twos 1) (fragmentCall g number packet i out) told told-after out out r
   unfolding fragmentCall fragmentFault
   fragment-short i short e said =
       sent-short (twos 1) told short _ _ _ _ _ out (or-more _ 40 _ _ (or-more _ _ _ _ (or-more _ 41 _ _ (or-more _ 42 _ _ (or-last _ _))))) e said
 
   -- and of all
-  pub fragments-short : length told < bytesFor (twos 4) → outcome a after ≡ fragmentsCall g number packet []
+  pub fragments-short : length told < toldLength (twos 4) → outcome a after ≡ fragmentsCall g number packet []
       → CardTold (twos 4) a told told-after r → SentAs (twos 4) (fragmentsCall g number packet out) told told-after out out r
   unfolding fragmentsCall fragmentsFault
   fragments-short short e said =

@@ -12,24 +12,24 @@ use Rattle.base_rules.specs.Bytes.{splice, bytesOf}
 use Rattle.base_rules.proofs.Logic.{either}
 use Rattle.base_rules.proofs.Numbers.{length-bytes}
 use Rattle.base_rules.proofs.Splice.{splice-none, splice-then, splice-length}
-use Rattle.card_rules.specs.Told.{refusalIn, inWidths, bytesFor, tooShort, roomFor, toldOf, CardTold}
+use Rattle.card_rules.specs.Told.{refusalIn, inWidths, toldLength, tooShort, roomFor, toldOf, CardTold}
 
 -- ---- bytes that have place, and that are as many as all
 
 -- where what is lent has room, what is due is due as it is,
-pub fits-room : (widths told : List ℕ) (a : Answer) → bytesFor widths ≤ length told → roomFor widths told a ≡ a
+pub fits-room : (widths told : List ℕ) (a : Answer) → toldLength widths ≤ length told → roomFor widths told a ≡ a
 unfolding roomFor
-fits-room widths told (granted values) fits = rw (le-ltb (length told) (bytesFor widths) fits)
+fits-room widths told (granted values) fits = rw (le-ltb (length told) (toldLength widths) fits)
 fits-room widths told (refused n) fits = refl
 
 -- what was granted had room,
-pub had-room : (widths told values : List ℕ) → 0 ≡ refusalIn (roomFor widths told (granted values)) → bytesFor widths ≤ length told
+pub had-room : (widths told values : List ℕ) → 0 ≡ refusalIn (roomFor widths told (granted values)) → toldLength widths ≤ length told
 unfolding roomFor refusalIn
 had-room widths told values e =
     either (tooShort widths told) (λ short. let z : _≡_ {A = ℕ} 0 1 = rw short at e in absurd (omega arith)) (λ fits. ltb-false _ _ fits)
 
 -- and the values of an answer that refuses nothing stand at its front
-pub told-room : (widths values before : List ℕ) → bytesFor widths ≤ length before
+pub told-room : (widths values before : List ℕ) → toldLength widths ≤ length before
     → toldOf widths (roomFor widths before (granted values)) before ≡ splice before 0 (inWidths widths values)
 unfolding toldOf
 told-room widths values before fits = ap (λ (a : Answer). toldOf widths a before) (fits-room widths before (granted values) fits)
@@ -74,8 +74,8 @@ bytes-put d from left x none =
 -- ---- number by number
 
 -- as many numbers as there are widths take as many bytes as the widths say, whatever the numbers are
-pub length-in : (widths values : List ℕ) → length values ≡ length widths → length (inWidths widths values) ≡ bytesFor widths
-unfolding inWidths bytesFor
+pub length-in : (widths values : List ℕ) → length values ≡ length widths → length (inWidths widths values) ≡ toldLength widths
+unfolding inWidths toldLength
 length-in [] values e = refl
 length-in (w ∷ widths) [] e = absurd (omega arith)
 length-in (w ∷ widths) (x ∷ values) e =
@@ -101,7 +101,7 @@ pub record Telling (widths values before : List ℕ) (n : ℕ) (told : List ℕ)
   -- with the rest told from there on, all the numbers stand from the front
   pub whole : splice told at (leftOf widths values i) ≡ splice before 0 (inWidths widths values)
 
-module _ (widths values before : List ℕ) (n : ℕ) (alike : (length values ≡ length widths) × (bytesFor widths ≡ n)) where
+module _ (widths values before : List ℕ) (n : ℕ) (alike : (length values ≡ length widths) × (toldLength widths ≡ n)) where
   long : length (inWidths widths values) ≡ n
   long = length-in widths values (alike .0) ∙ alike .1
 
@@ -149,7 +149,7 @@ module _ (widths values before : List ℕ) (n : ℕ) (alike : (length values ≡
     pub tells-all : n ≤ length before → length widths ≤ i → CardTold widths (granted values) before told 0
     unfolding inWidths refusalIn
     tells-all fits end =
-        let room : bytesFor widths ≤ length before = omega (arith, alike .1) in
+        let room : toldLength widths ≤ length before = omega (arith, alike .1) in
         record {
           number = sym (ap refusalIn (fits-room widths before (granted values) room));
           told =
@@ -163,5 +163,5 @@ module _ (widths values before : List ℕ) (n : ℕ) (alike : (length values ≡
   pub tells-short : length before < n → CardTold widths (granted values) before before 1
   unfolding roomFor refusalIn toldOf
   tells-short short =
-      let no : tooShort widths before ≡ true = lt-ltb (length before) (bytesFor widths) (omega (arith, alike .1)) in
+      let no : tooShort widths before ≡ true = lt-ltb (length before) (toldLength widths) (omega (arith, alike .1)) in
       record { number = rw no refl; told = rw no refl }

@@ -7,7 +7,7 @@ use borrow.Author.Tests.{le-ltb}
 use lib.ListN.{length}
 use Rattle.base_rules.specs.Answer.{Answer, granted, refused, Outcome, outcome, settled, answerIn, bytesIn}
 use Rattle.base_rules.specs.Tests.{first}
-use Rattle.card_rules.specs.Told.{refusalIn, bytesFor, roomFor, toldOf, CardWritten, CardTold, SentAs}
+use Rattle.card_rules.specs.Told.{refusalIn, toldLength, roomFor, toldOf, CardWritten, CardTold, SentAs}
 
 -- ---- a call that writes
 
@@ -51,9 +51,9 @@ told-refused widths before is = told-as widths before (sym is) (record { number 
 -- ---- a call that does both
 
 -- a call that leaves the bytes that are due and tells its answer keeps both promises, where there is room to tell in
-pub sent-as : (widths told before : List ℕ) {told-after after : List ℕ} {r : ℕ} {a : Answer} {due : Outcome} → bytesFor widths ≤ length told
+pub sent-as : (widths told before : List ℕ) {told-after after : List ℕ} {r : ℕ} {a : Answer} {due : Outcome} → toldLength widths ≤ length told
     → outcome a after ≡ due → CardTold widths a told told-after r → SentAs widths due told told-after before after r
 sent-as widths told before {after = after} room e said = record {
   tells = told-as widths told (answer-in e) said;
-  out = rw (le-ltb (length told) (bytesFor widths) room) (bytes-in e);
+  out = rw (le-ltb (length told) (toldLength widths) room) (bytes-in e);
 }

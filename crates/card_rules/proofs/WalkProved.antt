@@ -20,7 +20,7 @@ use Rattle.walk_rules.specs.Step.{opens, goesOn, endOf, stepFrom}
 use Rattle.walk_rules.proofs.ContainerNames.{fault-is}
 use Rattle.walk_rules.proofs.StepCases.{list-stays, steps-on}
 use Rattle.walk_rules.proofs.StepLaws.{by-steps, by-walker, item-within, end-within}
-use Rattle.card_rules.specs.Told.{refusalIn, inWidths, bytesFor}
+use Rattle.card_rules.specs.Told.{refusalIn, inWidths, toldLength}
 use Rattle.card_rules.specs.Items.{walker-widths, walker-bytes, walkerBytes, walkerFrom, steppedNumber, step-widths, stepped, walkStepCall}
 use Rattle.card_rules.specs.Claims.{TypedWalk, OpensTyped, StepsTyped, ReadBack, StepNumbers}
 use Rattle.card_rules.proofs.ItemLaws.{five, walker-read, answers}
@@ -138,7 +138,7 @@ numbered s cs ends d at =
     by-steps s cs ends Numbered (λ (a b : ℕ). Unit {0}) (λ a b i q e. inl refl) (λ a p q e. inl refl)
     (λ a b n q e. inr (refused-is s a (endOf s ends b) n e)) (λ a b q. tt) d at tt
 
-module _ (packet names walker told : List ℕ) (long : length walker ≡ walker-bytes) (fits : bytesFor step-widths ≤ length told) where
+module _ (packet names walker told : List ℕ) (long : length walker ≡ walker-bytes) (fits : toldLength step-widths ≤ length told) where
   -- the number of the call is that of the step, and the walk in the bytes is not refused
   called : (x : Walked) → stepped packet names walker ≡ x → number x ≡ refusalIn (walkStepCall packet names walker told)
   called x e = ap refusalIn (answers packet names walker told x long fits (sym e))

@@ -26,7 +26,7 @@ use Rattle.walk_rules.specs.declared.Handed.the-variants as handed
 use Rattle.walk_rules.specs.declared.Walker.{Walker}
 use Rattle.walk_rules.specs.Names.{deepest, namesFault}
 use Rattle.walk_rules.specs.Step.{opens, walkStep}
-use Rattle.card_rules.specs.Told.{refusalIn, inWidths, bytesFor, CardWritten, CardTold}
+use Rattle.card_rules.specs.Told.{refusalIn, inWidths, toldLength, CardWritten, CardTold}
 use Rattle.card_rules.specs.Headers.{header-widths, parseFor}
 use Rattle.card_rules.specs.Receiving.{receiptTold, receipt-widths, Held, RefusedWith, CardReceived, clearFor}
 use Rattle.card_rules.specs.Items.{walker-bytes, walkerBytes, walkerFrom, step-widths, walkStepCall}
@@ -87,7 +87,7 @@ pub record Said (before after : Held) : Type 0 where
   pub l : ℕ
   pub missing : ℕ
   pub displaced : Displaced
-  pub room : bytesFor receipt-widths ≤ length (before .told)
+  pub room : toldLength receipt-widths ≤ length (before .told)
   pub told : after .told ≡ splice (before .told) 0 (inWidths receipt-widths (receiptTold handed l missing displaced))
   pub shown : Shown (before .out) (after .out) handed l
 
@@ -126,7 +126,7 @@ PayloadBegins =
 pub record Ready (before : Held) : Type 0 where
   pub taken : unpackFault (before .record-bytes) ≡ 0
   pub room : roomFault (tableFrom (before .record-bytes)) (length (before .lent)) (length (before .out)) ≡ 0
-  pub tells : bytesFor receipt-widths ≤ length (before .told)
+  pub tells : toldLength receipt-widths ≤ length (before .told)
 
 -- what parsing refuses for its header, with a number above 1, receiving refuses with the same number and changes nothing
 abbrev pub RefusedAlike : Type 0
@@ -171,7 +171,7 @@ pub record StepNumber (names : List ℕ) (n : ℕ) : Type 0 where
 -- and with any other list 0 or 30
 abbrev pub StepNumbers : Type 0
 StepNumbers =
-    (packet names walker told : List ℕ) → length walker ≡ walker-bytes → bytesFor step-widths ≤ length told
+    (packet names walker told : List ℕ) → length walker ≡ walker-bytes → toldLength step-widths ≤ length told
     → StepNumber names (refusalIn (walkStepCall packet names walker told))
 
 -- ---- items: what is told of them

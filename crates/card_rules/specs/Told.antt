@@ -20,13 +20,13 @@ inWidths (w ∷ widths) [] = []
 inWidths (w ∷ widths) (v ∷ values) = bytesOf w v ++ inWidths widths values
 
 -- how many bytes that takes
-unfoldable pub bytesFor : List ℕ → ℕ
-bytesFor [] = 0
-bytesFor (w ∷ widths) = w + bytesFor widths
+unfoldable pub toldLength : List ℕ → ℕ
+toldLength [] = 0
+toldLength (w ∷ widths) = w + toldLength widths
 
 -- document 01, "1 ROOM: lent buffer too small": fewer bytes are lent for what is told than it takes
 abbrev pub tooShort : List ℕ → List ℕ → Bool
-tooShort widths told = ltb (length told) (bytesFor widths)
+tooShort widths told = ltb (length told) (toldLength widths)
 
 -- what is due where `told` is lent: the refusal that is due anyway; then 1 ROOM where `told` is too short
 unfoldable pub roomFor : List ℕ → List ℕ → Answer → Answer

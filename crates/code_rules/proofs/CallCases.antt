@@ -21,7 +21,7 @@ use Rattle.base_rules.proofs.Firsts.{due, skip, none-due}
 use Rattle.base_rules.proofs.Logic.{or-left, or-right}
 use Rattle.base_rules.proofs.Splice.{splice-next}
 use Rattle.base_rules.proofs.Parts.{part-first, part-next, part-whole}
-use Rattle.cut_rules.specs.Block.{padded, wordOf, blockOf}
+use Rattle.cut_rules.specs.Block.{padded, withParity, blockOf}
 use Rattle.cut_rules.proofs.Blocks.{length-block, length-padded}
 use Rattle.codeword.proofs.Encoder.{length-parity}
 use Rattle.codeword.specs.Erasure.{marks, count}
@@ -110,8 +110,8 @@ pad-take packet n m h q =
     ∙ take-at (replicate (n - l) 0) (replicate (m - n) 0) (n - l) (length-replicate {A = ℕ} (n - l) 0))
 
 module _ (k c : ℕ) (src out : List ℕ) where
-  head : suc c * k ≤ length src → length out ≡ suc c * (k + 48) → Encoded k (suc c) src out → take (k + 48) out ≡ wordOf parityOf (take k src)
-  unfolding wordOf encode
+  head : suc c * k ≤ length src → length out ≡ suc c * (k + 48) → Encoded k (suc c) src out → take (k + 48) out ≡ withParity parityOf (take k src)
+  unfolding withParity encode
   head hs e d = sym (part-first (k + 48) out) ∙ d .each 0 (omega arith) ∙ ap encode (part-first k src)
 
   behind : Encoded k (suc c) src out → Encoded k c (drop k src) (drop (k + 48) out)

@@ -9,11 +9,11 @@ use lib.Seq.{take-at, drop-at, length-take-le, take-append-seam}
 use Rattle.base_rules.specs.Bounds.{parity}
 use Rattle.base_rules.specs.Bytes.{partOf}
 use Rattle.base_rules.proofs.Parts.{part-first, part-next}
-use Rattle.cut_rules.specs.Block.{padded, wordOf, blockOf}
+use Rattle.cut_rules.specs.Block.{padded, withParity, blockOf}
 
 module _ (parityOf : List ℕ → List ℕ) (k : ℕ) (full : (xs : List ℕ) → length xs ≡ k → length (parityOf xs) ≡ parity) where
-  length-word : (xs : List ℕ) → k ≤ length xs → length (wordOf parityOf (take k xs)) ≡ k + parity
-  unfolding wordOf
+  length-word : (xs : List ℕ) → k ≤ length xs → length (withParity parityOf (take k xs)) ≡ k + parity
+  unfolding withParity
   length-word xs h =
       let e : length (take k xs) ≡ k = length-take-le k xs h in
       length-append (take k xs) (parityOf (take k xs)) ∙ ap₂ (λ (x y : ℕ). x + y) e (full (take k xs) e)
@@ -23,26 +23,26 @@ module _ (parityOf : List ℕ → List ℕ) (k : ℕ) (full : (xs : List ℕ) �
   unfolding blockOf
   length-block xs zero h = sym (zero-mul (k + parity))
   length-block xs (suc c) h =
-      length-append (wordOf parityOf (take k xs)) (blockOf parityOf (drop k xs) k c)
+      length-append (withParity parityOf (take k xs)) (blockOf parityOf (drop k xs) k c)
       ∙ omega (arith, length-word xs (omega arith), length-block (drop k xs) c (omega (arith, length-drop k xs)))
 
   -- the k + 48 bytes of a block from j (k + 48) on are chunk j and its parity
   pub window : (xs : List ℕ) (c j : ℕ) → c * k ≤ length xs → j < c
-      → partOf (blockOf parityOf xs k c) (k + parity) j ≡ wordOf parityOf (partOf xs k j)
+      → partOf (blockOf parityOf xs k c) (k + parity) j ≡ withParity parityOf (partOf xs k j)
   unfolding blockOf
   window xs zero j h l = absurd (not-suc-le-zero l)
   window xs (suc c) zero h l =
-      part-first (k + parity) (wordOf parityOf (take k xs) ++ blockOf parityOf (drop k xs) k c)
-      ∙ take-at (wordOf parityOf (take k xs)) (blockOf parityOf (drop k xs) k c) (k + parity) (length-word xs (omega arith))
-      ∙ ap (wordOf parityOf) (sym (part-first k xs))
+      part-first (k + parity) (withParity parityOf (take k xs) ++ blockOf parityOf (drop k xs) k c)
+      ∙ take-at (withParity parityOf (take k xs)) (blockOf parityOf (drop k xs) k c) (k + parity) (length-word xs (omega arith))
+      ∙ ap (withParity parityOf) (sym (part-first k xs))
   window xs (suc c) (suc j) h l =
       let n : ℕ = k + parity in
-      let block = wordOf parityOf (take k xs) ++ blockOf parityOf (drop k xs) k c in
+      let block = withParity parityOf (take k xs) ++ blockOf parityOf (drop k xs) k c in
       sym (part-next n j block)
       ∙ ap (λ (ys : List ℕ). partOf ys n j)
-      (drop-at (wordOf parityOf (take k xs)) (blockOf parityOf (drop k xs) k c) n (length-word xs (omega arith)))
+      (drop-at (withParity parityOf (take k xs)) (blockOf parityOf (drop k xs) k c) n (length-word xs (omega arith)))
       ∙ window (drop k xs) c j (omega (arith, length-drop k xs)) (le-of-suc-le-suc l)
-      ∙ ap (wordOf parityOf) (part-next k j xs)
+      ∙ ap (withParity parityOf) (part-next k j xs)
 
 -- the packet again, off its zeros
 pub unpadded : (packet : List ℕ) (z : ℕ) → take (length packet) (padded packet z) ≡ packet

@@ -9,10 +9,10 @@ unfoldable pub padded : List ℕ → ℕ → List ℕ
 padded packet z = packet ++ replicate z 0
 
 -- clause 7.3.1: a chunk and its parity
-unfoldable pub wordOf : (List ℕ → List ℕ) → List ℕ → List ℕ
-wordOf parityOf chunk = chunk ++ parityOf chunk
+unfoldable pub withParity : (List ℕ → List ℕ) → List ℕ → List ℕ
+withParity parityOf chunk = chunk ++ parityOf chunk
 
 -- clause 7.3.1: c of them, one behind the other
 unfoldable pub blockOf : (List ℕ → List ℕ) → List ℕ → ℕ → ℕ → List ℕ
 blockOf parityOf xs k zero = []
-blockOf parityOf xs k (suc c) = wordOf parityOf (take k xs) ++ blockOf parityOf (drop k xs) k c
+blockOf parityOf xs k (suc c) = withParity parityOf (take k xs) ++ blockOf parityOf (drop k xs) k c

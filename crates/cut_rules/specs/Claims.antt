@@ -6,7 +6,7 @@ use Prim.Native.Nat.{ℕ, _+_, _-_, _*_, _/_, _%_, _≤_, _<_}
 use lib.ListN.{length, getD}
 use Rattle.base_rules.specs.Bounds.{most-k, place, parity}
 use Rattle.base_rules.specs.Bytes.{partOf}
-use Rattle.cut_rules.specs.Block.{wordOf, blockOf}
+use Rattle.cut_rules.specs.Block.{withParity, blockOf}
 use Rattle.cut_rules.specs.Cells.{fragmentOf, cellOf}
 use Rattle.cut_rules.specs.Edge.{fec}
 use Rattle.cut_rules.specs.Missing.{losses, missing, suffice, worst, firsts}
@@ -53,7 +53,7 @@ pub record Joined (block : List ℕ) (f s q : ℕ) : Type 0 where
 abbrev pub Windows : Type 0
 Windows = (parityOf : List ℕ → List ℕ) (k : ℕ) → ((xs : List ℕ) → length xs ≡ k → length (parityOf xs) ≡ parity)
     → (xs : List ℕ) (c j : ℕ) → c * k ≤ length xs → j < c
-    → partOf (blockOf parityOf xs k c) (k + parity) j ≡ wordOf parityOf (partOf xs k j)
+    → partOf (blockOf parityOf xs k c) (k + parity) j ≡ withParity parityOf (partOf xs k j)
 
 -- without FEC byte q stands in fragment floor(q / s) at q mod s; each has s bytes, and the last 1 to s
 pub record Parted (packet : List ℕ) (f s : ℕ) : Type 0 where

@@ -10,7 +10,7 @@ use Rattle.base_rules.specs.Bounds.{most-k, parity}
 use Rattle.base_rules.specs.Bytes.{Bytes, partOf}
 use Rattle.base_rules.proofs.ByteLaws.{bytes-append, bytes-take}
 use Rattle.base_rules.proofs.Parts.{part-first, part-next}
-use Rattle.cut_rules.specs.Block.{wordOf, blockOf}
+use Rattle.cut_rules.specs.Block.{withParity, blockOf}
 use Rattle.codeword.specs.Code.{Coded, parityOf, encode}
 use Rattle.codeword.proofs.Proved.{systematic}
 use Rattle.form_rules.specs.inner.Proposals.{dataOf}
@@ -51,7 +51,7 @@ module _ (k : ℕ) where
   -- and their block is the chunks again
   pub block-data : (l : List ℕ) (c : ℕ) → k ≤ most-k → c * (k + parity) ≤ length l → ((j : ℕ) → j < c → Coded k (partOf l (k + parity) j))
       → blockOf parityOf (dataOf l k c) k c ≡ take (c * (k + parity)) l
-  unfolding dataOf blockOf wordOf encode
+  unfolding dataOf blockOf withParity encode
   block-data l zero short h each = sym (ap (λ (x : ℕ). take x l) (zero-mul (k + parity)))
   block-data l (suc c) short h each =
       let n : ℕ = k + parity in

@@ -14,7 +14,7 @@ use Rattle.base_rules.specs.Bytes.{Bytes, partOf}
 use Rattle.base_rules.specs.Tests.{bit}
 use Rattle.base_rules.proofs.Tables.{at-table}
 use Rattle.base_rules.proofs.Parts.{part-room, length-part, part-at, parts-same}
-use Rattle.cut_rules.specs.Block.{padded, wordOf, blockOf}
+use Rattle.cut_rules.specs.Block.{padded, withParity, blockOf}
 use Rattle.cut_rules.specs.Cells.{cellOf}
 use Rattle.cut_rules.specs.Missing.{gone, suffice}
 use Rattle.cut_rules.specs.Sizes.{receivedC}
@@ -126,7 +126,7 @@ module _ (f s k z : ℕ) (lost : ℕ → Bool) (held P : List ℕ) (fills : Fill
     -- and stands in the block
     word-at : (i : ℕ) → i < k + parity
         → getD (encode (partOf (padded P z) k j)) i 0 ≡ getD (blockOf parityOf (padded P z) k (receivedC f s k)) (j * (k + parity) + i) 0
-    unfolding wordOf encode
+    unfolding withParity encode
     word-at i h =
         sym (ap (λ (w : List ℕ). getD w i 0) (window parityOf k (λ d e. r1 .size d) (padded P z) (receivedC f s k) j long below))
         ∙ part-at (k + parity) j i (blockOf parityOf (padded P z) k (receivedC f s k)) h

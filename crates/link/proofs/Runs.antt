@@ -75,10 +75,10 @@ bytes-table rule small a zero = tt
 bytes-table rule small a (suc n) = (small a, bytes-table rule small (suc a) n)
 
 bytes-block : (xs : List ℕ) (k c : ℕ) → Bytes xs → Bytes (block.blockOf parityOf xs k c)
-unfolding block.blockOf block.wordOf
+unfolding block.blockOf block.withParity
 bytes-block xs k zero b = tt
 bytes-block xs k (suc c) b =
-    bytes-append (block.wordOf parityOf (take k xs)) _
+    bytes-append (block.withParity parityOf (take k xs)) _
     (bytes-append (take k xs) _ (bytes-take k xs b) (bytes-parity (take k xs)))
     (bytes-block (drop k xs) k c (bytes-drop k xs b))
 

@@ -21,7 +21,7 @@ use Rattle.places_rules.specs.Places.{four, free, open-now, placeAt, keyIn, hel
 use Rattle.places_rules.proofs.Ranges.{range-from}
 use Rattle.receiver_rules.specs.Calls.{shownOf}
 use Rattle.receiver_rules.proofs.Ranges.{place-fine}
-use Rattle.card_rules.specs.Told.{refusalIn, inWidths, bytesFor, roomFor, toldOf}
+use Rattle.card_rules.specs.Told.{refusalIn, inWidths, toldLength, roomFor, toldOf}
 use Rattle.card_rules.specs.Receiving.{onRecord, placeTold, placesTold, places-widths, queryFor}
 use Rattle.card_rules.proofs.TellLaws.{fits-room}
 use Rattle.link.proofs.Basic.{each-place, held-found, held-some, holds-yes, holds-number, holds-some}
@@ -34,8 +34,8 @@ use Rattle.shipped.proofs.Typed.{key-small}
 -- ---- what is told
 
 -- 12 bytes are room for it
-room-told : (told : List ℕ) → query-bytes ≤ length told → bytesFor places-widths ≤ length told
-unfolding bytesFor
+room-told : (told : List ℕ) → query-bytes ≤ length told → toldLength places-widths ≤ length told
+unfolding toldLength
 room-told told room = omega arith
 
 -- what is told of a place's number

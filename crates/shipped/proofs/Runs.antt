@@ -21,7 +21,7 @@ use Rattle.receiver_rules.specs.Promise.{Reception, reception, Step}
 use Rattle.receiver_rules.specs.declared.Received.{Received}
 use Rattle.receiver_rules.proofs.Proved.{some-reception}
 use Rattle.card_rules.specs.Calls.{addressOf}
-use Rattle.card_rules.specs.Told.{bytesFor}
+use Rattle.card_rules.specs.Told.{toldLength}
 use Rattle.card_rules.specs.Receiving.{onRecord, receipt-widths, toldAfter, Held, ReceivedWith, CardReceived}
 use Rattle.card_rules.proofs.Proved.{zeros-fresh}
 use Rattle.card_rules.proofs.ReceiveLaws.{good-record}
@@ -60,8 +60,8 @@ fresh-stands lent all =
 -- ---- a call
 
 -- 8 bytes are room for what it tells
-room-told : (told : List ℕ) → receipt-bytes ≤ length told → bytesFor receipt-widths ≤ length told
-unfolding bytesFor
+room-told : (told : List ℕ) → receipt-bytes ≤ length told → toldLength receipt-widths ≤ length told
+unfolding toldLength
 room-told told room = omega arith
 
 -- the answer that it gave, which its number and the bytes told are, and which is read off them
@@ -176,7 +176,7 @@ module _ (s : Buffers) (stands : Stands s) (own : Address) (datagram told out : 
   received : CardReceived own datagram (record { record-bytes = s .table; lent = s .lent; told = told; out = out }) left-by
       (promise.numberOf (answers .0) .0)
   unfolding CardReceived onRecord
-  received = rw (eq-eqb (unpackFault (s .table)) 0 (stands .read), le-ltb (length told) (bytesFor receipt-widths) (room-told told told-room)) (record {
+  received = rw (eq-eqb (unpackFault (s .table)) 0 (stands .read), le-ltb (length told) (toldLength receipt-widths) (room-told told told-room)) (record {
     answer = answers .0;
     table = y .table;
     step = subst (Step own (stateOf s) datagram out) is-reception step;

@@ -25,7 +25,7 @@ use Rattle.sender_rules.proofs.Splitting.{all-passed}
 use Rattle.card_rules.specs.Calls.{addressOf}
 use Rattle.card_rules.specs.Claims.{InTwo, none, more}
 use Rattle.card_rules.specs.Sending.{settingsOf, twos}
-use Rattle.card_rules.specs.Told.{refusalIn, inWidths, bytesFor, roomFor, SentAs}
+use Rattle.card_rules.specs.Told.{refusalIn, inWidths, toldLength, roomFor, SentAs}
 use Rattle.card_rules.proofs.Proved.{length-whole, split-whole}
 use Rattle.card_rules.proofs.TellLaws.{had-room, told-room}
 use Rattle.link.specs.Demand as link
@@ -68,7 +68,7 @@ done n zero values written before told told-after after said =
       faultless = refl;
       values-due = refl;
       values-told = said .tells .told ∙ told-room (twos n) values told room;
-      out = rw (le-ltb (length told) (bytesFor (twos n)) room) at (said .out);
+      out = rw (le-ltb (length told) (toldLength (twos n)) room) at (said .out);
     }
 done n (suc fault) values written before told told-after after said = absurd (omega (arith, said .tells .number))
 

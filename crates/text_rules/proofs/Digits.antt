@@ -10,7 +10,7 @@ use lib.Dec.{lit<}
 use lib.ListN.{length, getD, take, length-append, List·getD-append}
 use lib.Seq.{take-suc}
 use Rattle.text_rules.specs.Text.{letterOf, digitsOf, decimalOf, hexOf}
-use Rattle.text_rules.specs.Claims.{numberFrom, digitIn, bytesIn}
+use Rattle.text_rules.specs.Claims.{numberFrom, digitIn, fromHex}
 use Rattle.text_rules.proofs.Laws.{whether}
 
 -- the two kinds of letters
@@ -110,8 +110,8 @@ digit-back x =
     (λ h. let e : letterOf x ≡ 48 + x = letter-low h in rw e (simp (lt-ltb (48 + x) 97 (omega arith)) (omega arith)))
 
 -- bytes in hex are read back as those bytes
-pub hex-back : (s : List ℕ) → bytesIn (hexOf s) ≡ s
-unfolding bytesIn hexOf
+pub hex-back : (s : List ℕ) → fromHex (hexOf s) ≡ s
+unfolding fromHex hexOf
 hex-back [] = refl
 hex-back (b ∷ s) =
     ap₂ (λ (x : ℕ) (l : List ℕ). x ∷ l) (omega (arith, digit-back (b / 16), digit-back (b % 16), div-add-mod' b 16)) (hex-back s)

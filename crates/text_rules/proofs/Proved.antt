@@ -1,7 +1,7 @@
 -- The claims of specs/Claims.antt, each by citation. Assumes nothing.
 use mathlib.Core.Path.{ap, sym, _∙_}
 use native.Mathlib.Omega.{arith}
-use Rattle.text_rules.specs.Claims.{Decimal, Hex, Bounded, numberFrom, bytesIn}
+use Rattle.text_rules.specs.Claims.{Decimal, Hex, Bounded, numberFrom, fromHex}
 use Rattle.text_rules.proofs.Digits.{decimal-back, decimal-front, hex-back}
 use Rattle.text_rules.proofs.Writing.{wrote-none, wrote-behind}
 
@@ -17,7 +17,7 @@ pub hex : Hex
 hex =
     record {
       back = hex-back;
-      one = λ s t e. sym (hex-back s) ∙ ap bytesIn e ∙ hex-back t;
+      one = λ s t e. sym (hex-back s) ∙ ap fromHex e ∙ hex-back t;
     }
 
 pub bounded : Bounded

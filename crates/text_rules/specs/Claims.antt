@@ -19,10 +19,10 @@ unfoldable pub digitIn : ℕ → ℕ
 digitIn a = cond (ltb a 97) (a - 48) (a - 87)
 
 -- the bytes that hex digits say, two digits a byte
-unfoldable pub bytesIn : List ℕ → List ℕ
-bytesIn [] = []
-bytesIn (a ∷ []) = []
-bytesIn (a ∷ b ∷ t) = (digitIn a * 16 + digitIn b) ∷ bytesIn t
+unfoldable pub fromHex : List ℕ → List ℕ
+fromHex [] = []
+fromHex (a ∷ []) = []
+fromHex (a ∷ b ∷ t) = (digitIn a * 16 + digitIn b) ∷ fromHex t
 
 -- the digits of a number are read back, so no two numbers have the same; no number but 0 has a `0` in front
 pub record Decimal : Type 0 where
@@ -32,7 +32,7 @@ pub record Decimal : Type 0 where
 
 -- bytes in hex are read back, so no two runs of bytes have the same
 pub record Hex : Type 0 where
-  pub back : (s : List ℕ) → bytesIn (hexOf s) ≡ s
+  pub back : (s : List ℕ) → fromHex (hexOf s) ≡ s
   pub one : (s t : List ℕ) → hexOf s ≡ hexOf t → s ≡ t
 
 -- what a writer leaves: where it wrote nothing the buffer is as it was, and what it wrote is within the buffer and before each byte that stayed

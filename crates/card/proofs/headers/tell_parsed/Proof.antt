@@ -1,6 +1,6 @@
 -- `tell_parsed` meets its contract: a refusal tells nothing. Assumes nothing.
 use mathlib.Core.Path.{refl, ap}
-use Rattle.card_rules.specs.Told.{bytesFor}
+use Rattle.card_rules.specs.Told.{toldLength}
 use Rattle.card_rules.specs.Headers.{header-widths}
 use Rattle.card_rules.specs.inner.Parsed.{parsedTold}
 use Rattle.card_rules.proofs.HeaderLaws.{eleven-long}
@@ -10,7 +10,7 @@ use Rattle.card.proofs.headers.tell_parsed.Statement.{statement}
 use Rattle.card.proofs.headers.tell_parsed.Tie as tie
 
 tell-requires : tie.Need-tell-requires
-unfolding bytesFor
+unfolding toldLength
 tell-requires c κs = rw (c .before .header-values .ensures) (eleven-long _, refl)
 
 returns : tie.Need-returns

@@ -2,7 +2,7 @@
 use mathlib.Core.Path.{ap, _∙_}
 use native.Mathlib.Omega.{arith}
 use Rattle.walk_rules.specs.Step.{walkStep}
-use Rattle.card_rules.specs.Told.{bytesFor}
+use Rattle.card_rules.specs.Told.{toldLength}
 use Rattle.card_rules.proofs.ItemLaws.{step-short, step-untold, step-on, step-not}
 use borrow.Author.Needs.{needs}
 use Rattle.card.proofs.items.bailhammer_walk_step.Statement.{statement}
@@ -14,13 +14,13 @@ returns c =
     step-short (a .packet .now) (a .names .now) (a .walker .now) (a .told .now) (c .if1 .taken)
 
 returns-2 : tie.Need-returns-2
-unfolding bytesFor
+unfolding toldLength
 returns-2 c =
     let a = c .before .before .before .before .before .before .args in
     step-untold (a .packet .now) (a .names .now) (a .walker .now) (a .told .now) (omega arith)
 
 returns-3 : tie.Need-returns-3
-unfolding bytesFor
+unfolding toldLength
 returns-3 c =
     let written = c .before .before in
     let tested = written .before .before .before in
@@ -38,7 +38,7 @@ returns-3 c =
     (written .write-walker .ensures)
 
 returns-4 : tie.Need-returns-4
-unfolding bytesFor
+unfolding toldLength
 returns-4 c =
     let told = c .before .before .before in
     let stepped = told .before .before in

@@ -1,7 +1,7 @@
 -- `tell_found` meets its contract, case by case: a refusal tells nothing. Assumes nothing.
 use mathlib.Core.Path.{refl, ap}
 use Rattle.tag_rules.specs.Calls.{locatedNumber}
-use Rattle.card_rules.specs.Told.{bytesFor}
+use Rattle.card_rules.specs.Told.{toldLength}
 use Rattle.card_rules.specs.Items.{found-widths}
 use Rattle.card_rules.proofs.ToldLaws.{told-granted, told-refused}
 use borrow.Author.Needs.{needs}
@@ -9,11 +9,11 @@ use Rattle.card.proofs.items.tell_found.Statement.{statement}
 use Rattle.card.proofs.items.tell_found.Tie as tie
 
 tell-requires : tie.Need-tell-requires
-unfolding bytesFor
+unfolding toldLength
 tell-requires c κs = rw (c .before .found-values .ensures) (refl, refl)
 
 tell-requires-2 : tie.Need-tell-requires-2
-unfolding bytesFor
+unfolding toldLength
 tell-requires-2 c κs = rw (c .before .found-values2 .ensures) (refl, refl)
 
 returns : tie.Need-returns

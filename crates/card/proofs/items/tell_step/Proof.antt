@@ -1,6 +1,6 @@
 -- `tell_step` meets its contract, case by case: a refusal tells nothing. Assumes nothing.
 use mathlib.Core.Path.{refl, ap}
-use Rattle.card_rules.specs.Told.{bytesFor}
+use Rattle.card_rules.specs.Told.{toldLength}
 use Rattle.card_rules.specs.Items.{step-widths, steppedNumber}
 use Rattle.card_rules.proofs.ToldLaws.{told-granted, told-refused}
 use borrow.Author.Needs.{needs}
@@ -8,11 +8,11 @@ use Rattle.card.proofs.items.tell_step.Statement.{statement}
 use Rattle.card.proofs.items.tell_step.Tie as tie
 
 tell-requires : tie.Need-tell-requires
-unfolding bytesFor
+unfolding toldLength
 tell-requires c κs = (refl, refl)
 
 tell-requires-2 : tie.Need-tell-requires-2
-unfolding bytesFor
+unfolding toldLength
 tell-requires-2 c κs = (refl, refl)
 
 returns : tie.Need-returns

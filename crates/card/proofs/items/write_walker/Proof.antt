@@ -1,14 +1,14 @@
 -- `write_walker` meets its contract: the numbers told are all of the bytes. Assumes nothing.
 use mathlib.Core.Path.{refl}
 use Rattle.places_rules.proofs.Records.{as-long}
-use Rattle.card_rules.specs.Told.{bytesFor}
+use Rattle.card_rules.specs.Told.{toldLength}
 use Rattle.card_rules.proofs.ItemLaws.{walker-laid}
 use borrow.Author.Needs.{needs}
 use Rattle.card.proofs.items.write_walker.Statement.{statement}
 use Rattle.card.proofs.items.write_walker.Tie as tie
 
 tell-requires : tie.Need-tell-requires
-unfolding bytesFor
+unfolding toldLength
 tell-requires c κs = (refl, refl)
 
 returns : tie.Need-returns

@@ -3,7 +3,7 @@ use mathlib.Core.Path.{refl, sym, ap, _∙_}
 use mathlib.Core.List.{[], _∷_}
 use Prim.Native.Nat.{ℕ}
 use Rattle.af_rules.specs.Calls.{numberOf}
-use Rattle.card_rules.specs.Told.{bytesFor}
+use Rattle.card_rules.specs.Told.{toldLength}
 use Rattle.card_rules.specs.Packets.{check-widths}
 use Rattle.card_rules.proofs.ToldLaws.{told-granted, told-refused}
 use borrow.Author.Needs.{needs}
@@ -11,7 +11,7 @@ use Rattle.card.proofs.packets.bailhammer_check.Statement.{statement}
 use Rattle.card.proofs.packets.bailhammer_check.Tie as tie
 
 tell-requires : tie.Need-tell-requires
-unfolding bytesFor
+unfolding toldLength
 tell-requires c κs = (refl, refl)
 
 returns : tie.Need-returns

@@ -8,7 +8,7 @@ use Rattle.packed_rules.specs.Claims.{TypedTable}
 use Rattle.places_rules.specs.Places.{four, placeAt}
 use Rattle.places_rules.proofs.Records.{as-long}
 use Rattle.card_rules.specs.Calls.{addressOf}
-use Rattle.card_rules.specs.Told.{bytesFor}
+use Rattle.card_rules.specs.Told.{toldLength}
 use Rattle.card_rules.proofs.ReceiveLaws.{receive-refused, receive-short, received-there, typed-place}
 use borrow.Author.Needs.{needs}
 use Rattle.card.proofs.receiving.bailhammer_receive.Statement.{statement}
@@ -18,7 +18,7 @@ enum-told : tie.Need-enum-told
 enum-told c = search needs
 
 returns : tie.Need-returns
-unfolding bytesFor
+unfolding toldLength
 returns c =
     let asked = c .before in
     let short = asked .before .before .before .before in
@@ -35,7 +35,7 @@ returns-2 c =
     (opened .unpack .ensures) (c .before .fault .given .1) refl
 
 returns-3 : tie.Need-returns-3
-unfolding placeAt bytesFor
+unfolding placeAt toldLength
 returns-3 c =
     let said = c .before .before in
     let packed = said .before .before .before .before in
@@ -88,7 +88,7 @@ pack-requires : tie.Need-pack-requires
 pack-requires c κs = search needs
 
 tell-receipt-requires : tie.Need-tell-receipt-requires
-unfolding bytesFor
+unfolding toldLength
 tell-receipt-requires c κs = search needs
 
 same-length : tie.Need-same-length

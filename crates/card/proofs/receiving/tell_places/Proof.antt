@@ -1,6 +1,6 @@
 -- `tell_places` meets its contract: a refusal tells nothing. Assumes nothing.
 use mathlib.Core.Path.{refl, ap}
-use Rattle.card_rules.specs.Told.{bytesFor}
+use Rattle.card_rules.specs.Told.{toldLength}
 use Rattle.card_rules.specs.Receiving.{places-widths}
 use Rattle.card_rules.specs.inner.Queried.{queriedIn}
 use Rattle.card_rules.proofs.ToldLaws.{told-granted, told-refused}
@@ -9,7 +9,7 @@ use Rattle.card.proofs.receiving.tell_places.Statement.{statement}
 use Rattle.card.proofs.receiving.tell_places.Tie as tie
 
 tell-requires : tie.Need-tell-requires
-unfolding bytesFor
+unfolding toldLength
 tell-requires c κs = (search needs, refl)
 
 returns : tie.Need-returns

@@ -7,7 +7,7 @@ use Rattle.base_rules.specs.Answer.{granted}
 use Rattle.base_rules.specs.Bytes.{splice}
 use Rattle.receiver_rules.specs.Promise.{numberOf}
 use Rattle.receiver_rules.specs.declared.Received.{Received}
-use Rattle.card_rules.specs.Told.{inWidths, bytesFor, CardTold}
+use Rattle.card_rules.specs.Told.{inWidths, toldLength, CardTold}
 use Rattle.card_rules.specs.Receiving.{receipt-widths, toldAfter}
 use Rattle.card_rules.proofs.TellLaws.{told-room}
 use borrow.Author.Needs.{needs}
@@ -18,7 +18,7 @@ abbrev number : Received → ℕ
 number a = numberOf a .0
 
 -- the number and what is told, where the answer a is the case x, which shows these figures
-told-in : (before after : List ℕ) {a x : Received} {values shown : List ℕ} {r : ℕ} → bytesFor receipt-widths ≤ length before → a ≡ x
+told-in : (before after : List ℕ) {a x : Received} {values shown : List ℕ} {r : ℕ} → toldLength receipt-widths ≤ length before → a ≡ x
     → values ≡ shown → CardTold receipt-widths (granted values) before after r
     → splice before 0 (inWidths receipt-widths shown) ≡ toldAfter x before → (number x ≡ number a) × (after ≡ toldAfter a before)
 told-in before after room is e h same = (
@@ -31,15 +31,15 @@ told-in before after room is e h same = (
 )
 
 tell-requires : tie.Need-tell-requires
-unfolding bytesFor
+unfolding toldLength
 tell-requires c κs = (search needs, refl)
 
 tell-requires-2 : tie.Need-tell-requires-2
-unfolding bytesFor
+unfolding toldLength
 tell-requires-2 c κs = (search needs, refl)
 
 tell-requires-3 : tie.Need-tell-requires-3
-unfolding bytesFor
+unfolding toldLength
 tell-requires-3 c κs = (search needs, refl)
 
 returns : tie.Need-returns
