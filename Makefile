@@ -1,6 +1,6 @@
 # One way in to the commands of this repository: each target is one of them, which answers --help.
 .POSIX:
-.PHONY: help test relay ask listing bench interop compare c declared inputs plans
+.PHONY: help test relay ask listing bench interop compare c rust declared inputs plans
 
 ## make NAME runs the command beside it; the command itself answers --help and takes arguments
 ##
@@ -27,6 +27,10 @@ plans:
 ##   c         c/run             minutes     calls the card from C: cuts a packet and rebuilds it
 c:
 	@c/run
+
+##   rust      rust/run          minutes     calls the card from Rust: the same
+rust:
+	@rust/run
 
 ##   test      .ci/run           22 minutes  the gate: proves and tries everything, from nothing
 test:
@@ -56,4 +60,4 @@ bench:
 ## * and minutes the first time: what is not proved yet is proved first, and says how far it is. The
 ## gate was timed on two processors.
 ## Each needs rt, the Rattle kit's command (kit.txt names the kit), but declared; c and bench need a
-## C compiler, bench libfec too, compare cargo, interop tshark.
+## C compiler, bench libfec too, rust and compare cargo, interop tshark.

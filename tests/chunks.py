@@ -1,11 +1,14 @@
-"""Questions on chunks with the answers that they must get, from parity.txt (made by a peer, libfec) and not from the program.
+"""Questions on chunks with the answers that they must get, from parity.txt (made by a peer, libfec)
+and not from the program.
 
     python3 tests/chunks.py      prints each question and its answer
 
-A chunk of the code is a row's data and parity. Whatever stands in the places of up to 48 missing bytes, the chunk itself has to come
-back, for any two chunks of the code of one length differ in at least 49 places. For the same reason no chunk of the code has the bytes that
-are there where one of them is wrong and up to 47 are missing: it would differ from the row's chunk in at most 48 places. With 48
-missing and one wrong another chunk fits, which `solved` works out by elimination from the roots of the code.
+A chunk of the code is a row's data and parity. Whatever stands in the places of up to 48 missing
+bytes, the chunk itself has to come back, for any two chunks of the code of one length differ in at
+least 49 places. For the same reason no chunk of the code has the bytes that are there where one of
+them is wrong and up to 47 are missing: it would differ from the row's chunk in at most 48 places.
+With 48 missing and one wrong another chunk fits, which `solved` works out by elimination from the
+roots of the code.
 """
 import functools
 import pathlib

@@ -1,8 +1,10 @@
-"""The field of 256 elements, computed by itself from document 01: polynomials over two elements, reduced by long division.
+"""The field of 256 elements, computed by itself from document 01: polynomials over two elements,
+reduced by long division.
 
     fields.py mul A B | div A B | log A | pow E      prints the answer to one question
 
-It is the measure for the program's answers, so it shares nothing with it: no table, no shift and add.
+It is the measure for the program's answers, so it shares nothing with it: no table, no shift and
+add.
 """
 import sys
 

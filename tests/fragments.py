@@ -1,10 +1,12 @@
-"""Questions on fragments of AF packets with the answers that they must get, each group under the sentence of document 01 that gives it.
+"""Questions on fragments of AF packets with the answers that they must get, each group under the
+sentence of document 01 that gives it.
 
     python3 tests/fragments.py      prints each question and its answer
 
-The fragments are worked out by a plain sender of its own below, from document 01. Its parity is first held against every row of parity.txt
-(made by a peer, libfec), its cuts against the figures of "On each side of the edge". The number of each refusal is written out by hand, and the
-sender has to give the same.
+The fragments are worked out by a plain sender of its own below, from document 01. Its parity is
+first held against every row of parity.txt (made by a peer, libfec), its cuts against the figures of
+"On each side of the edge". The number of each refusal is written out by hand, and the sender has to
+give the same.
 """
 import functools
 import itertools

@@ -2,7 +2,7 @@
 
 The numbers given back, with names and meanings, in card.h, in what bailhammer.h prints and in rust/card, and with names alone in rust/reference
 and the source; the conditions of a place; the house default; the versions, that of the record with its layout; a struct in bailhammer.h for
-each call that tells; what comments of definitions quote of card.h.
+each call that tells; what comments of definitions quote of card.h; the programs that the READMEs show.
 """
 import re
 
@@ -16,6 +16,8 @@ FILLED = "crates/card/src/blocks.rt"
 CONDITIONS = "crates/places_rules/src/lib.rt"
 LAYOUT = "crates/packed_rules/specs/Packed.antt"
 DEFINITIONS = "crates/*/specs/**/*.antt"
+# a page, the language of the one program in it, and the file whose program that is
+SHOWN = [("README.md", "c", "c/first.c"), ("rust/README.md", "rust", "rust/card/examples/first.rs")]
 
 # the figures of a place in each layout of the record, in their order, each with its bytes: the last one is that of today
 LAYOUTS = ["condition 1, number 2, count 4, fec 1, rsk 1, rsz 1, size 2, last 2"]
@@ -116,5 +118,13 @@ def quoted(root):
                 yield f"{path.relative_to(root)}: quotes '{quote}', which {HEADER} does not say"
 
 
+def shown(root):
+    """The pages that do not show the program that they name, all but the comment at its head."""
+    for page, language, path in SHOWN:
+        programs = re.findall(rf"^```{language}\n(.*?)^```$", (root / page).read_text(), flags=re.S | re.M)
+        if [program.strip() for program in programs] != [(root / path).read_text().split("\n", 1)[1].strip()]:
+            yield f"{page}: the program that it shows is not that of {path}"
+
+
 def differing(root):
-    return [*numbers(root), *conditions(root), *house(root), *layout(root), *structs(root), *quoted(root)]
+    return [*numbers(root), *conditions(root), *house(root), *layout(root), *structs(root), *quoted(root), *shown(root)]

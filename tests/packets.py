@@ -1,9 +1,10 @@
-"""Questions on AF packets and TAG items with the answers that they must get, each with the sentence of document 01 that gives it.
+"""Questions on AF packets and TAG items with the answers that they must get, each with the sentence
+of document 01 that gives it.
 
     python3 tests/packets.py      prints each question and its answer
 
-The answers at the edges are written out here by hand. Those of the spread at the end are worked out by a reader of its own below, which is
-first held against all that is written out.
+The answers at the edges are written out here by hand. Those of the spread at the end are worked out
+by a reader of its own below, which is first held against all that is written out.
 """
 import usage
 

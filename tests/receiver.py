@@ -1,13 +1,17 @@
-"""Questions on the receiver with the answers that they must get, each group under the sentence of document 01 that gives it.
+"""Questions on the receiver with the answers that they must get, each group under the sentence of
+document 01 that gives it.
 
     python3 tests/receiver.py      prints each question and its answer
 
-Every answer is written out by hand at its question: kept, delivered with the count of fragments not held, the number of a refusal, the displaced
-number, the four places. A plain receiver of its own below works it out as well, from document 01, and has to say the same; the spread at the
-end is by that receiver alone. It fills a chunk by elimination from the roots of the code (chunks.py, held against a peer's parity), lays
-the block of the packet anew with the sender's parity (fragments.py, held against the same peer) and compares every kept byte. The fragments are
-those of the sender in fragments.py; what no sender makes is made of them by changing a field, or by a cut that is written out.
-The places live from line to line, so each group begins with `fresh`. 14 is not asked: no question can put a field of the record out of range.
+Every answer is written out by hand at its question: kept, delivered with the count of fragments not
+held, the number of a refusal, the displaced number, the four places. A plain receiver of its own
+below works it out as well, from document 01, and has to say the same; the spread at the end is by
+that receiver alone. It fills a chunk by elimination from the roots of the code (chunks.py, held
+against a peer's parity), lays the block of the packet anew with the sender's parity (fragments.py,
+held against the same peer) and compares every kept byte. The fragments are those of the sender in
+fragments.py; what no sender makes is made of them by changing a field, or by a cut that is written
+out. The places live from line to line, so each group begins with `fresh`. 14 is not asked: no
+question can put a field of the record out of range.
 """
 import dataclasses
 import functools

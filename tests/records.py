@@ -2,16 +2,19 @@
 
     python3 tests/records.py
 
-A line for each record: the place, the field, its value, and the numbers of receive, query and clear. By document 01, "14 STATE: a field of
-the table's own record is outside its range", all three refuse a record out of range with 14. One in range is refused by receive with 2, for the
-datagram is empty, and by query and clear not at all. Which value is in range is written here by hand, from document 01's bounds: four
-conditions; at most 256 fragments, which fit 12,288 bytes, as does the last, which is no longer than the others; with FEC k 1 to 207 and z
-below k. The sound place that one field is changed of has FEC, f 10, s 100, k 100, z 5.
+A line for each record: the place, the field, its value, and the numbers of receive, query and
+clear. By document 01, "14 STATE: a field of the table's own record is outside its range", all three
+refuse a record out of range with 14. One in range is refused by receive with 2, for the datagram is
+empty, and by query and clear not at all. Which value is in range is written here by hand, from
+document 01's bounds: four conditions; at most 256 fragments, which fit 12,288 bytes, as does the
+last, which is no longer than the others; with FEC k 1 to 207 and z below k. The sound place that
+one field is changed of has FEC, f 10, s 100, k 100, z 5.
 
-Behind them stand three records in range that no calls leave, and what a fragment is answered there: its number, and how many bytes are handed
-out. Without FEC, f 2, the fragments that are there make all: where fragment 0 is marked kept with s unknown, the last one alone, and where the
-last is marked kept with no bytes, fragment 0 alone, each an AF packet of 12 bytes that passes the AF checks. With FEC, all kept and the place open,
-the fragment is kept already: 12.
+Behind them stand three records in range that no calls leave, and what a fragment is answered there:
+its number, and how many bytes are handed out. Without FEC, f 2, the fragments that are there make
+all: where fragment 0 is marked kept with s unknown, the last one alone, and where the last is
+marked kept with no bytes, fragment 0 alone, each an AF packet of 12 bytes that passes the AF
+checks. With FEC, all kept and the place open, the fragment is kept already: 12.
 """
 import pathlib
 

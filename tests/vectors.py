@@ -1,11 +1,13 @@
-"""Writes the questions and the answers that the gate compares: crates/ask/stdin and crates/ask/stdout.
+"""Writes the questions and the answers that the gate compares: crates/ask/stdin and
+crates/ask/stdout.
 
     python3 tests/vectors.py
 
-The answers come from crc.txt (made by a peer), from plans.py and fields.py (computed from document 01), from chunks.py (of
-parity.txt, made by a peer), from packets.py (written out beside the sentence of document 01 that gives it, or by its own reader), from
-fragments.py (by its own sender), from receiver.py (by hand and by its own receiver) and from the lists below. None is taken from the program.
-Running this again gives the same bytes.
+The answers come from crc.txt (made by a peer), from plans.py and fields.py (computed from document
+01), from chunks.py (of parity.txt, made by a peer), from packets.py (written out beside the
+sentence of document 01 that gives it, or by its own reader), from fragments.py (by its own sender),
+from receiver.py (by hand and by its own receiver) and from the lists below. None is taken from the
+program. Running this again gives the same bytes.
 """
 import pathlib
 import sys

@@ -3,8 +3,8 @@
  *
  *     cc -I crates/card yours.c target/staticlib/libcard.a
  *
- * bailhammer.h beside this file has the same calls with structs in place of told bytes; c/rebuild.c is a program to begin from. A packet from
- * end to end (each call gives 0 where it is done):
+ * bailhammer.h beside this file has the same calls with structs in place of told bytes; c/first.c is the shortest program with it, c/rebuild.c
+ * the one to copy. A packet from end to end (each call gives 0 where it is done):
  *
  *     bailhammer_wrap(seq, 1, payload, l - BAILHAMMER_AF_FRAME, packet, sizeof packet);
  *     bailhammer_fragments(BAILHAMMER_HOUSE, BAILHAMMER_NO_ADDRESS, number, packet, l, told, sizeof told, sent, sizeof sent);

@@ -12,7 +12,7 @@ Bytes (x ∷ s) = (x < 256) × Bytes s
 unfoldable pub splice : List ℕ → ℕ → List ℕ → List ℕ
 splice d at s = take at d ++ (s ++ drop (at + length s) d)
 
--- part i of s, cut into parts of n bytes each; the last may be shorter
+-- clauses 7.2 and 7.3: part i of s, cut into parts of n bytes each, as a packet is into chunks and fragments; the last may be shorter
 unfoldable pub partOf : List ℕ → ℕ → ℕ → List ℕ
 partOf s n i = take n (drop (i * n) s)
 

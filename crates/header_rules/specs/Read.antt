@@ -21,11 +21,11 @@ use Rattle.header_rules.specs.Header.{sync, fecBit, addrBit}
 unfoldable pub flagsAt : List ℕ → ℕ
 flagsAt s = numberAt 2 s 10
 
--- the FEC bit is set
+-- clause 7.1: the FEC bit is set
 unfoldable pub hasFec : List ℕ → Bool
 hasFec s = leb fecBit (flagsAt s)
 
--- the Addr bit is set
+-- clause 7.1: the Addr bit is set
 unfoldable pub hasAddress : List ℕ → Bool
 hasAddress s = leb addrBit (flagsAt s % fecBit)
 
@@ -105,12 +105,12 @@ faultOf own s =
 unfoldable pub parsedOf : Address → List ℕ → Parsed
 parsedOf own s = cond (eqb (faultOf own s) 0) (parsed.Fragment (fieldsOf s)) (parsed.Refused (faultOf own s))
 
--- the values of an address: none, or Source and Dest
+-- clause 7.1: the values of an address: none, or Source and Dest
 unfoldable pub addressValues : Address → List ℕ
 addressValues None = []
 addressValues (Pair source dest) = source ∷ dest ∷ []
 
--- the values of a header: Pseq, Findex, Fcount, FEC, RSk, RSz, Plen, and the address
+-- clause 7.1: the values of a header in its order: Pseq, Findex, Fcount, FEC, RSk, RSz, Plen, and the address
 unfoldable pub headerValues : Header → List ℕ
 headerValues h = h .number ∷ h .index ∷ h .count ∷ bit (h .fec) ∷ h .rsk ∷ h .rsz ∷ h .plen ∷ addressValues (h .address)
 

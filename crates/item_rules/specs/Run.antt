@@ -37,19 +37,19 @@ runIn (suc steps) s at end = onStep (stepIn s at end) (λ i. item i (runIn steps
 unfoldable pub runOf : List ℕ → ℕ → ℕ → Run
 runOf s at end = runIn (end - at) s at end
 
--- the first item of that name
+-- document 01, "Finding by name looks in the packet": the first item of that name
 unfoldable pub firstOf : ℕ → Run → Found
 firstOf name (item i r) = cond (eqb (i .name) name) (found.At i) (firstOf name r)
 firstOf name (padding n) = found.Nothing
 firstOf name (refused n) = found.Nothing
 
--- whether an item has that name
+-- document 01, 34 ABSENT: whether the packet "holds the name"
 unfoldable pub hasName : ℕ → Run → Bool
 hasName name (item i r) = eqb (i .name) name || hasName name r
 hasName name (padding n) = false
 hasName name (refused n) = false
 
--- what the first item of that name tells; no values where none has it
+-- document 01, "the part shown": what the first item of that name tells; no values where none has it
 unfoldable pub firstValues : ℕ → Run → List ℕ
 firstValues name (item i r) = cond (eqb (i .name) name) (valuesOf i) (firstValues name r)
 firstValues name (padding n) = []

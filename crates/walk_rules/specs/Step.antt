@@ -63,7 +63,8 @@ walkStep s l w =
 
 -- ---- a step as document 01's number and values
 
--- the position and the depth of what a step hands out: from the end of an inner packet it goes on behind the container, one depth up
+-- document 01, "outer items come before their contents, which follow at once": the position and the depth of what a step hands out;
+-- from the end of an inner packet it goes on behind the container, one depth up
 unfoldable pub comesTo : List ℕ → ℕ → ℕ → List ℕ → ℕ × ℕ
 comesTo s at zero ends = (at, 0)
 comesTo s at (suc d) ends = cond (ltb (endOf s ends (suc d) - at) head) (comesTo s (endOf s ends (suc d)) d ends) (at, suc d)
@@ -72,12 +73,12 @@ comesTo s at (suc d) ends = cond (ltb (endOf s ends (suc d) - at) head) (comesTo
 unfoldable pub overrunAt : List ℕ → List ℕ → ℕ × ℕ → ℕ
 overrunAt s ends p = overrunIn s (p .0) (endOf s ends (p .1))
 
--- what is told there: the count of outer padding bytes, or the item's depth and what it tells
+-- document 01, "END with the count of padding bytes", or the item's depth and what it tells
 unfoldable pub handedValues : List ℕ → List ℕ → ℕ × ℕ → List ℕ
 handedValues s ends p =
     cond (ltb (endOf s ends (p .1) - p .0) head) ((endOf s ends (p .1) - p .0) ∷ []) (p .1 ∷ valuesOf (itemAt s (p .0)))
 
--- where the step of a walk comes to
+-- document 01, "hands out its items one after another": where the step of a walk comes to
 unfoldable pub placeOf : List ℕ → Walker → ℕ × ℕ
 placeOf s w = comesTo s (w .at) (min (w .depth) deepest) (w .ends)
 
