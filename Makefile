@@ -1,6 +1,6 @@
 # One way in to the commands of this repository: each target is one of them, which answers --help.
 .POSIX:
-.PHONY: help test relay ask listing bench interop compare c rust declared inputs plans
+.PHONY: help test relay ask listing bench interop compare c rust declared examples inputs plans
 
 ## make NAME runs the command beside it; the command itself answers --help and takes arguments
 ##
@@ -44,6 +44,10 @@ inputs:
 declared:
 	@tests/declared && echo alike
 
+##   examples  tests/examples    a second    compiles the examples of the C headers
+examples:
+	@tests/examples
+
 ##   compare   rust/compare/run  minutes     compares the card with one in plain Rust, at random
 compare:
 	@rust/compare/run
@@ -59,5 +63,5 @@ bench:
 ##
 ## * and minutes the first time: what is not proved yet is proved first, and says how far it is. The
 ## gate was timed on two processors.
-## Each needs rt, the Rattle kit's command (kit.txt names the kit), but declared; c and bench need a
-## C compiler, bench libfec too, rust and compare cargo, interop tshark.
+## Each needs rt, the Rattle kit's command (kit.txt names the kit), but declared and examples; c,
+## examples and bench need a C compiler, bench libfec too, rust and compare cargo, interop tshark.

@@ -2,7 +2,7 @@
 
 The numbers given back, with names and meanings, in card.h, in what bailhammer.h prints and in rust/card, and with names alone in rust/reference
 and the source; the conditions of a place; the house default; the versions, that of the record with its layout; a struct in bailhammer.h for
-each call that tells; what comments of definitions quote of card.h; the programs that the READMEs show.
+each call that tells; what comments of definitions quote of card.h; the programs that the READMEs show, and the kit that README names.
 """
 import re
 
@@ -16,6 +16,7 @@ FILLED = "crates/card/src/blocks.rt"
 CONDITIONS = "crates/places_rules/src/lib.rt"
 LAYOUT = "crates/packed_rules/specs/Packed.antt"
 DEFINITIONS = "crates/*/specs/**/*.antt"
+KIT = "kit.txt"
 # a page, the language of the one program in it, and the file whose program that is
 SHOWN = [("README.md", "c", "c/first.c"), ("rust/README.md", "rust", "rust/card/examples/first.rs")]
 
@@ -124,6 +125,9 @@ def shown(root):
         programs = re.findall(rf"^```{language}\n(.*?)^```$", (root / page).read_text(), flags=re.S | re.M)
         if [program.strip() for program in programs] != [(root / path).read_text().split("\n", 1)[1].strip()]:
             yield f"{page}: the program that it shows is not that of {path}"
+    kit = re.sub(r"^#.*\n", "", (root / KIT).read_text(), flags=re.M).strip()
+    if f"`{kit}`" not in (root / SHOWN[0][0]).read_text():
+        yield f"{SHOWN[0][0]}: does not name the kit of {KIT}, '{kit}'"
 
 
 def differing(root):

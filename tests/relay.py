@@ -20,6 +20,7 @@ import fragments
 import packets
 import plans
 import receiver
+import runs
 import usage
 
 RELAY = pathlib.Path(__file__).resolve().parent.parent / "crates" / "relay"
@@ -66,7 +67,7 @@ def printed(packet):
     far, handed, held = receiver.Receiver(), None, set()
     for i, times in line(len(whole)):
         for _ in range(times):
-            words, more, out = shown(far.answer(receiver.recv(whole[i])))
+            words, more, out = shown(far.answer(runs.recv(whole[i])))
             handed = handed or out
             held |= {i} if words in ("kept", "delivered") else set()
             lines.append(f"fragment {i} {words}".ljust(COLUMN) + drawn(figures, held) + more)
@@ -85,7 +86,7 @@ def longest():
 if __name__ == "__main__":
     usage.help_or_use(__doc__)
     fragments.held()
-    receiver.held()
+    runs.held()
     packet = longest()
     assert len(packet) == 8192
     (RELAY / "stdin").write_bytes(packet)

@@ -6,7 +6,7 @@ crates/ask/stdout.
 The answers come from crc.txt (made by a peer), from plans.py and fields.py (computed from document
 01), from chunks.py (of parity.txt, made by a peer), from packets.py (written out beside the
 sentence of document 01 that gives it, or by its own reader), from fragments.py (by its own sender),
-from receiver.py (by hand and by its own receiver) and from the lists below. None is taken from the
+from receiving.py (by hand and by its own receiver) and from the lists below. None is taken from the
 program. Running this again gives the same bytes.
 """
 import pathlib
@@ -19,6 +19,7 @@ import fragments
 import packets
 import plans
 import receiver
+import receiving
 import usage
 
 HERE = pathlib.Path(__file__).resolve().parent
@@ -220,7 +221,7 @@ def sent_packets():
 def received_fragments():
     silent("# before any other question on the receiver its table is fresh")
     ask(f"query {receiver.TABLE}", "places free free free free")
-    ask_parts(receiver.PARTS)
+    ask_parts(receiving.PARTS)
 
 
 MALFORMED = """\

@@ -69,7 +69,7 @@ struct bailhammer_cut {
 /* Plans the cut of an AF packet of l bytes.
  *
  *     struct bailhammer_cut cut;
- *     number = bailhammer_sender_plan(&settings, 8192, &cut);      cut.f is 16, cut.h + cut.s 649
+ *     number = bailhammer_sender_plan(&settings, 8192, &cut);      // cut.f is 16, cut.h + cut.s 649
  */
 static inline size_t bailhammer_sender_plan(const struct bailhammer_settings *settings, size_t l, struct bailhammer_cut *cut)
 {
@@ -153,8 +153,9 @@ static inline const uint8_t *bailhammer_sent_part(const struct bailhammer_sent *
 
 /* ---- the receiver */
 
-/* A receiver: all that is kept between its calls, 50,240 bytes. A static one is fresh and takes no address; others are made fresh by
- * bailhammer_receiver_fresh. It may be moved and copied. */
+/* A receiver: all that is kept between its calls, 50,240 bytes. A static one is fresh and takes no address. In any other two things are set
+ * before the first call: own (own.given = false for no address), and the record, by bailhammer_receiver_fresh, which leaves own. It may be moved
+ * and copied. */
 struct bailhammer_receiver {
     struct bailhammer_address own;     /* the address that is taken; fragments without one always are */
     uint8_t record[BAILHAMMER_RECORD]; /* the record of the four places */
@@ -221,7 +222,8 @@ struct bailhammer_receipt {
     uint16_t displaced_number; /* that packet's number */
 };
 
-/* Receives a datagram; out has at least BAILHAMMER_PACKET bytes. 2 to 13 are ordinary on a line: go on with the next datagram.
+/* Receives a datagram; out has at least BAILHAMMER_PACKET bytes. 2 to 13 are ordinary on a line: go on with the next datagram. 1 says that out
+ * is too small, 14 that the receiver was not made fresh, or was written over: bailhammer_receiver_fresh begins anew.
  *
  *     static struct bailhammer_receiver receiver;
  *     struct bailhammer_receipt receipt;
@@ -257,7 +259,8 @@ struct bailhammer_places {
  *
  *     struct bailhammer_places places;
  *     number = bailhammer_receiver_query(&receiver, &places);
- *     if (places.place[0].condition == BAILHAMMER_PLACE_OPEN) packet places.place[0].number is waited for
+ *     if (places.place[0].condition == BAILHAMMER_PLACE_OPEN)
+ *         wait_for(places.place[0].number);
  */
 static inline size_t bailhammer_receiver_query(const struct bailhammer_receiver *receiver, struct bailhammer_places *places)
 {

@@ -136,7 +136,8 @@ static inline size_t bailhammer_tag_find(const uint8_t *packet, size_t packet_le
     return number;
 }
 
-/* A walk through a packet and its containers. Both must stay as they were when it was opened. */
+/* A walk through a packet and its containers. It points at the packet and at the names: both must live, and stay as they were, until its last
+ * step. */
 struct bailhammer_walk {
     const uint8_t *packet;             /* what is walked through */
     size_t packet_len;                 /* its bytes */

@@ -4,13 +4,14 @@
  *     cc -I crates/card yours.c target/staticlib/libcard.a
  *
  * bailhammer.h beside this file has the same calls with structs in place of told bytes; c/first.c is the shortest program with it, c/rebuild.c
- * the one to copy. A packet from end to end (each call gives 0 where it is done):
+ * the one to copy. A packet from end to end; each call gives 0 where it is done, and where it refuses, told and out are as they were:
  *
  *     bailhammer_wrap(seq, 1, payload, l - BAILHAMMER_AF_FRAME, packet, sizeof packet);
- *     bailhammer_fragments(BAILHAMMER_HOUSE, BAILHAMMER_NO_ADDRESS, number, packet, l, told, sizeof told, sent, sizeof sent);
- *     .. the line, on which fragments are lost, exchanged and repeated ..
- *     bailhammer_receive(BAILHAMMER_NO_ADDRESS, record, sizeof record, lent, sizeof lent, datagram, length, told, sizeof told, out, sizeof out);
- *     if told[0] is 1, out holds the packet
+ *     bailhammer_fragments(BAILHAMMER_HOUSE, BAILHAMMER_NO_ADDRESS, pseq, packet, l, told, sizeof told, sent, sizeof sent);
+ *     // the line, on which fragments are lost, exchanged and repeated
+ *     if (bailhammer_receive(BAILHAMMER_NO_ADDRESS, record, sizeof record, lent, sizeof lent, datagram, length, told, sizeof told,
+ *                            out, sizeof out) == BAILHAMMER_DONE && told[0])
+ *         use(out, (size_t)told[1] * 256 + told[2]);
  */
 #ifndef BAILHAMMER_CARD_H
 #define BAILHAMMER_CARD_H
@@ -110,15 +111,19 @@ enum bailhammer_condition {
  * What holds of every call.
  *
  * Bytes. A slice is a pointer and then a length, and may stand at any address. No pointer may be null, also where the length is 0, and the
- * bytes that are written may not overlap the bytes that are read, nor those of another slice that is written. Where the number is neither 0,
- * 13 nor 256, no byte lent is changed. What a call writes stands at the front of `out`, and what it tells at the front of `told`, numbers
- * big-endian; every byte behind that is as it was. Where told_len is below what it takes, the call gives 1, or the number that is due before
- * it, and nothing is done. What is 0 or not 0 counts as no or yes.
+ * bytes that are written may not overlap the bytes that are read, nor those of another slice that is written. record_bytes_len, lent_len and
+ * walker_len are exactly BAILHAMMER_RECORD, BAILHAMMER_LENT and BAILHAMMER_WALKER; told_len, out_len and block_len may be more than is needed.
+ * Where the number is neither 0, 13 nor 256, no byte lent is changed: none of any slice, `told` too. What a call writes stands at the front of
+ * `out`, and what it tells at the front of `told`, numbers big-endian; every byte behind that is as it was. Where told_len is below what it
+ * takes, the call gives 1, or the number that is due before it, and nothing is done. What is 0 or not 0 counts as no or yes.
  *
  * Two lots of bytes are the receiver's and stand with the caller: its record, BAILHAMMER_RECORD bytes, says what the four places are; the
  * lent bytes, BAILHAMMER_LENT, are what they keep of the fragments.
  *
  * The calls keep no pointer and no state of their own: those on different buffers may run at once, and a record is for one call at a time.
+ * Every call ends, and none waits. The bailhammer_receive that hands a packet out does all of its decoding: for 8,192 bytes with FEC it took
+ * some hundreds of times as long as one that only keeps a fragment. docs/PERFORMANCE.md has times, and the stack of each call.
+ *
  * Each call takes less than 64 KiB of stack, as c/run stack measures, memcpy and memset aside: where these are bound when they are first
  * called, that call can take some KiB more. The library is x86-64 code by the System V convention, with a size_t of 64 bits.
  *
@@ -130,8 +135,8 @@ enum bailhammer_condition {
 
 /* The AF layer. */
 
-/* Writes the AF packet of a payload at the front of out: payload_len + 12 bytes, with a CRC where cf is yes. Gives 0; else the first of 22
- * (over 8,180 bytes) and 1 that is due.
+/* Writes the AF packet of a payload at the front of out: payload_len + 12 bytes, with a CRC where cf is yes. seq is SEQ, which the caller
+ * counts and the card does not look at. Gives 0; else the first of 22 (over 8,180 bytes) and 1 that is due.
  *
  *     size_t number = bailhammer_wrap(seq, 1, payload, payload_len, packet, sizeof packet);
  *     size_t l = payload_len + BAILHAMMER_AF_FRAME;
@@ -147,14 +152,17 @@ size_t bailhammer_wrap(uint16_t seq, size_t cf, const uint8_t *payload, size_t p
  */
 size_t bailhammer_check(const uint8_t *packet, size_t packet_len, uint8_t *told, size_t told_len);
 
-/* The TAG layer. A name is four bytes as a number, the first one highest; names are four bytes each, one behind the other. */
+/* The TAG layer. In its calls a packet is a TAG packet: items one behind the other, and at most 7 bytes of padding. The payload of an AF packet
+ * is one, the AF packet itself is not: hand in packet + BAILHAMMER_AF_HEADER and l - BAILHAMMER_AF_FRAME. A container is an item whose value is
+ * a TAG packet again; an item's depth is how many containers it stands in, 4 at most. A standing packet is a second TAG packet, for items that
+ * are sent rarely. A name is four bytes as a number, the first one highest; names are four bytes each, one behind the other. */
 
 /* Writes an item at the front of out: 8 bytes and the value's, which are as many as its bits take; unused bits are written as zeros. Gives
  * 0; else the first of 43, 33 and 1 that is due.
  *
- *     const uint8_t value[2] = {0xab, 0xc0};   twelve bits
+ *     const uint8_t value[2] = {0xab, 0xc0};   // twelve bits
  *     number = bailhammer_item(BAILHAMMER_NAME('d', 'e', 'm', 'o'), 12, value, sizeof value, payload, sizeof payload);
- *     the next item goes to payload + BAILHAMMER_ITEM_HEAD + sizeof value
+ *     // the next item goes to payload + BAILHAMMER_ITEM_HEAD + sizeof value
  */
 size_t bailhammer_item(uint32_t name, uint32_t bits, const uint8_t *value, size_t value_len, uint8_t *out, size_t out_len);
 
@@ -162,7 +170,7 @@ size_t bailhammer_item(uint32_t name, uint32_t bits, const uint8_t *value, size_
  * packet, 1 where in the standing packet (1), its bits (4), where its value begins there (8), the value's bytes (4). Gives 0; else 30, 31
  * or 33 of the packet, then of the standing packet; 34; or 1.
  *
- *     uint8_t told[BAILHAMMER_TOLD_FIND];      with no standing packet:
+ *     uint8_t told[BAILHAMMER_TOLD_FIND];      // with no standing packet:
  *     number = bailhammer_find(payload, payload_len, payload, 0, BAILHAMMER_NAME('d', 'e', 'm', 'o'), told, sizeof told);
  */
 size_t bailhammer_find(const uint8_t *packet, size_t packet_len, const uint8_t *standing, size_t standing_len, uint32_t name,
@@ -192,14 +200,18 @@ size_t bailhammer_walk_step(const uint8_t *packet, size_t packet_len, const uint
 
 /* The sender. FEC is on where fec is yes, and the header has the address source and dest where addressed is yes. m is the fragments that
  * may be lost, 5 at most, and 0 without FEC; mtu is the most bytes of a fragment, above h and 16,384 at most, where h is 14, two more with
- * FEC, four more with an address. The house default is BAILHAMMER_HOUSE and no address. */
+ * FEC, four more with an address. The house default is BAILHAMMER_HOUSE and no address.
+ *
+ * pseq is the packet's number, Pseq in the header; it is not the number that a call gives. The caller counts it: one more for each packet, and 0
+ * behind 65,535. The receiver tells packets apart by it alone: while it holds a number, a second packet under it is refused with 9 to 12, or its
+ * fragments are taken for the first one's. */
 
 /* Plans the cut of an AF packet of l bytes. Tells 20 bytes, two each: c, k, z and n (0 without FEC), h, S, L, f, s, and m, the
  * losses that the cut is made to bear, whichever they are. Gives 0; else the first of 40, 20, 22, 41 and 1 that is due.
  *
  *     uint8_t told[BAILHAMMER_TOLD_PLAN];
  *     number = bailhammer_plan(BAILHAMMER_HOUSE, 0, l, told, sizeof told);
- *     size_t f = (size_t)told[14] * 256 + told[15];
+ *     size_t f = number == BAILHAMMER_DONE ? (size_t)told[14] * 256 + told[15] : 0;
  */
 size_t bailhammer_plan(size_t fec, size_t m, size_t mtu, size_t addressed, size_t l, uint8_t *told, size_t told_len);
 
@@ -209,7 +221,7 @@ size_t bailhammer_plan(size_t fec, size_t m, size_t mtu, size_t addressed, size_
  *     uint8_t told[BAILHAMMER_TOLD_FRAGMENT], out[1400];
  *     number = bailhammer_fragment(BAILHAMMER_HOUSE, BAILHAMMER_NO_ADDRESS, 7, packet, l, 0, told, sizeof told, out, sizeof out);
  */
-size_t bailhammer_fragment(size_t fec, size_t m, size_t mtu, size_t addressed, uint16_t source, uint16_t dest, uint16_t number,
+size_t bailhammer_fragment(size_t fec, size_t m, size_t mtu, size_t addressed, uint16_t source, uint16_t dest, uint16_t pseq,
                            const uint8_t *packet, size_t packet_len, size_t index, uint8_t *told, size_t told_len, uint8_t *out,
                            size_t out_len);
 
@@ -220,7 +232,7 @@ size_t bailhammer_fragment(size_t fec, size_t m, size_t mtu, size_t addressed, u
  *     uint8_t told[BAILHAMMER_TOLD_FRAGMENTS], sent[BAILHAMMER_SENT];
  *     number = bailhammer_fragments(BAILHAMMER_HOUSE, BAILHAMMER_NO_ADDRESS, 7, packet, l, told, sizeof told, sent, sizeof sent);
  */
-size_t bailhammer_fragments(size_t fec, size_t m, size_t mtu, size_t addressed, uint16_t source, uint16_t dest, uint16_t number,
+size_t bailhammer_fragments(size_t fec, size_t m, size_t mtu, size_t addressed, uint16_t source, uint16_t dest, uint16_t pseq,
                             const uint8_t *packet, size_t packet_len, uint8_t *told, size_t told_len, uint8_t *out, size_t out_len);
 
 /* Reads the header of a datagram, so that its packet's number is known before the datagram is handed on to bailhammer_receive. An address
@@ -230,23 +242,40 @@ size_t bailhammer_fragments(size_t fec, size_t m, size_t mtu, size_t addressed, 
  *
  *     uint8_t told[BAILHAMMER_TOLD_PARSE];
  *     number = bailhammer_parse(BAILHAMMER_NO_ADDRESS, datagram, datagram_len, told, sizeof told);
- *     if (number == BAILHAMMER_DONE) it is of packet told[0] * 256 + told[1]
+ *     if (number == BAILHAMMER_DONE)
+ *         expect(told[0] * 256 + told[1]);     // the packet's number
  */
 size_t bailhammer_parse(size_t addressed, uint16_t source, uint16_t dest, const uint8_t *datagram, size_t datagram_len, uint8_t *told,
                         size_t told_len);
 
 /* The receiver. What its four places hold is the caller's between the calls: record_bytes is their record, of 1,081 bytes, all zeros for a
- * fresh one, and lent their bytes, 49,152, which may be any at first. Both are as the last call left them. */
+ * fresh one, and lent their bytes, 49,152, which may be any at first. Both are as the last call left them: nothing else writes to them. A place
+ * keeps the fragments of one packet. */
 
 /* Receives a datagram: a fragment, of up to four packets at a time, that is kept until those of its packet suffice; then the packet is
- * handed out, at the front of out. out has at least 8,192 bytes; a call that hands no packet out leaves them. A datagram with an address
- * is taken where addressed is yes and the address is source and dest. Tells 8 bytes: 1 where a packet was handed out (1), its length (2),
- * how many of its fragments are not held (2); then 1 and the number of the packet that lost its place before it was formed (1 and 2),
- * zeros where there is none. Gives 0; else the first that is due: for the record 1 and 14, then 14 and 1 to 12; or 13, which changes the
- * record and tells the number displaced too. So a packet that is handed out is always told. 2 to 13 are ordinary on a line: go on with
- * the next datagram; 1 and 14 are the caller's own fault.
+ * handed out, at the front of out. out has at least 8,192 bytes; a call that hands no packet out leaves them. Tells 8 bytes: 1 where a packet
+ * was handed out (1), its length (2), how many of its fragments are not held (2); then 1 and the number of the packet that lost its place
+ * before it was formed (1 and 2), zeros where there is none.
+ *
+ * Gives 0; else the first that is due: 1 where record_bytes_len is not 1,081; 14; 1 where lent_len is not 49,152, out_len below 8,192 or
+ * told_len below 8; 2 to 12; or 13, which changes the record and lent, and tells the number displaced too. So a packet that is handed out is
+ * always told. 2 to 13 are ordinary on a line: go on with the next datagram; 1 and 14 are the caller's own fault. After 14 write zeros over the
+ * record, since bailhammer_clear gives 14 too. Not every record that something else wrote to gives 14.
+ *
+ * Places. A fragment goes to the place that holds its packet's number. Where none does, it opens a free place, or else takes the place that was
+ * opened longest ago, whatever that holds. There is no clock: a place stays open, delivered or spoiled until it is so taken, or until
+ * bailhammer_clear is called.
+ *
+ * Addresses. A datagram without an address is never refused for it. One with an address is taken where addressed is yes and its Source and Dest
+ * are source and dest, the same pair as the sender's; FFFF hex is a value like others. An address does not tell packets apart.
+ *
+ * Wrong bytes. A packet that is handed out has passed the checks of bailhammer_check, and with FEC it agrees with every byte kept of its chunks.
+ * A fragment's payload has no CRC of its own: wrong bytes are not always noticed, least of all where the AF packet has no CRC either. With 13
+ * the packet is given up, and its further fragments give 10. Where a good line gives 13 for every packet, the sender's AF packets fail
+ * bailhammer_check, or it lays out its chunks in another way.
  *
  *     static uint8_t record[BAILHAMMER_RECORD], lent[BAILHAMMER_LENT], out[BAILHAMMER_PACKET];
+ *     uint8_t told[BAILHAMMER_TOLD_RECEIVE];
  *     number = bailhammer_receive(BAILHAMMER_NO_ADDRESS, record, sizeof record, lent, sizeof lent, datagram, datagram_len, told, sizeof told,
  *                                 out, sizeof out);
  *     if (number == BAILHAMMER_DONE && told[0])
@@ -257,11 +286,13 @@ size_t bailhammer_receive(size_t addressed, uint16_t source, uint16_t dest, uint
                           size_t out_len);
 
 /* Shows the four places. Tells 12 bytes, three for each place: 0 where it is free, 1 open, 2 delivered, 3 spoiled (1), and its packet's
- * number, 0 where it is free (2). Gives 0; else the first that is due: for the record 1 and 14, then 14 and 1.
+ * number, 0 where it is free (2). Of lent only the length is looked at. Gives 0; else the first that is due: 1 where record_bytes_len is not
+ * 1,081; 14; 1 where lent_len is not 49,152 or told_len below 12.
  *
  *     uint8_t told[BAILHAMMER_TOLD_QUERY];
  *     number = bailhammer_query(record, sizeof record, lent, sizeof lent, told, sizeof told);
- *     if (told[3] == BAILHAMMER_PLACE_OPEN) the second place waits for fragments of packet told[4] * 256 + told[5]
+ *     if (number == BAILHAMMER_DONE && told[3] == BAILHAMMER_PLACE_OPEN)
+ *         wait_for(told[4] * 256 + told[5]);   // the second place waits for fragments of that packet
  */
 size_t bailhammer_query(const uint8_t *record_bytes, size_t record_bytes_len, const uint8_t *lent, size_t lent_len, uint8_t *told,
                         size_t told_len);
@@ -270,23 +301,25 @@ size_t bailhammer_query(const uint8_t *record_bytes, size_t record_bytes_len, co
  * bailhammer_clear(record, sizeof record, lent, sizeof lent) the packets that were waited for begin anew. */
 size_t bailhammer_clear(uint8_t *record_bytes, size_t record_bytes_len, const uint8_t *lent, size_t lent_len);
 
-/* The code's block calls, for those who cut and join themselves. */
+/* The code's block calls, for those who cut and join themselves. A cell is one byte of the block: cell q, from 0 on, is byte floor(q / f) of the
+ * payload of fragment q mod f. Payload bytes past the last cell are sent as zeros. */
 
 /* Writes the block of a packet at the front of out: c chunks of k bytes (1 to 207), the packet and zeros behind it, each followed by
  * its 48 parity bytes. c is at least 1, so nothing in no chunk is refused too; c * (k + 48) is 12,288 at most, and the packet ends in the
  * last chunk. Gives 0; else the first of 8 and 1 that is due.
  *
- *     uint8_t block[BAILHAMMER_BLOCK];         a packet of 415 bytes: 3 chunks of 139
+ *     uint8_t block[BAILHAMMER_BLOCK];         // a packet of 415 bytes: 3 chunks of 139
  *     number = bailhammer_encode(packet, 415, 139, 3, block, sizeof block);
  */
 size_t bailhammer_encode(const uint8_t *packet, size_t packet_len, size_t k, size_t c, uint8_t *out, size_t out_len);
 
-/* Fills in the missing cells of a block: f fragments of s bytes were sent, cell q is of fragment q mod f, and fragment i is kept where
- * i is below kept_len and kept[i] is not 0. The block is f * s / (k + 48) chunks of k data and 48 parity bytes; f * s is 12,288 at most and
- * at least k + 48, k is 1 to 207, and block has the chunks' bytes; those behind them stay. Gives 0; else the first of 7, 8 and 1 that is
- * due; else 257 or 256.
+/* Fills in the missing cells of a block: f fragments of s bytes were sent, and fragment i is kept where i is below kept_len and kept[i] is not
+ * 0. The caller lays the kept cells at their places; what stands in the missing ones does not matter. The block is floor(f * s / (k + 48))
+ * chunks of k data and 48 parity bytes; f * s is 12,288 at most and at least k + 48, k is 1 to 207, and block has at least the chunks' bytes;
+ * those behind them stay. Gives 0; else the first of 7, 8 and 1 that is due; else 257, which leaves the block, or 256, which leaves 0 in each
+ * missing cell.
  *
- *     uint8_t kept[12];                        that packet's 12 fragments of 47 bytes, of which the second was lost
+ *     uint8_t kept[12];                        // that packet's 12 fragments of 47 bytes, of which the second was lost
  *     memset(kept, 1, sizeof kept), kept[1] = 0;
  *     number = bailhammer_fill(kept, sizeof kept, 12, 47, 139, block, sizeof block);
  */

@@ -1,4 +1,4 @@
--- Document 01, "Bounds": the figures that several layers share. Each stands here and nowhere else.
+-- Document 01, "Bounds": the figures that several layers share. Each stands here for the definitions, and in src/lib.rt for the code.
 use mathlib.Core.Bool.{Bool, _||_}
 use Prim.Native.Nat.{ℕ}
 use lib.Dec.{eqb, ltb}

@@ -11,7 +11,7 @@ ghost use Rattle.card_rules.specs.Headers.{addressTold, headerTold, header-widt
 ghost use Rattle.card_rules.specs.inner.Parsed.{parsedTold};
 ghost use Rattle.card_rules.specs.Told.{CardTold};
 
-// The bytes that parsing tells, and their widths; specs/Headers.antt says of what.
+// The bytes that parsing tells, and their widths; card_rules/specs/Headers.antt says of what.
 const TOLD_PARSE: usize = 17;
 
 const HEADER_WIDTHS: [usize; 11] = [2, 2, 2, 1, 1, 1, 1, 2, 2, 2, 1];

@@ -17,7 +17,7 @@ ghost use Rattle.card_rules.specs.Items.{found-widths, walker-bytes, walkerByte
 // The bytes of a walk: eight for its position, for its depth, and for the end at each depth.
 const WALKER: usize = 8 * (LEVELS + 2);
 
-// The bytes that finding tells, and their widths; specs/Items.antt says of what.
+// The bytes that finding tells, and their widths; card_rules/specs/Items.antt says of what.
 const TOLD_FIND: usize = 17;
 
 const FOUND_WIDTHS: [usize; 5] = [1, 0, 4, 8, 4];

@@ -20,7 +20,7 @@ ghost use Rattle.card_rules.specs.Receiving.{places-widths, queryFor, clearFor,
 ghost use Rattle.card_rules.specs.inner.Queried.{seenTold, shownTold, queriedIn};
 ghost use Rattle.receiver_rules.specs.Promise.{numberOf};
 
-// The bytes that an answer tells, and their widths; specs/Receiving.antt says of what.
+// The bytes that an answer tells, and their widths; card_rules/specs/Receiving.antt says of what.
 const TOLD_RECEIVE: usize = 8;
 
 const RECEIPT_WIDTHS: [usize; 5] = [1, 2, 2, 1, 2];

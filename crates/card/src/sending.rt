@@ -96,22 +96,22 @@ pub extern "C" fn bailhammer_fragment(
     addressed: usize,
     source: u16,
     dest: u16,
-    number: u16,
+    pseq: u16,
     packet: &[u8],
     index: usize,
     told: &mut [u8],
     out: &mut [u8],
 ) -> usize
-    ensures { λ r. ⌜ SentAs (twos 1) (fragmentCall (settingsOf fec m mtu addressed source dest) number (now (packet .entry)) index
+    ensures { λ r. ⌜ SentAs (twos 1) (fragmentCall (settingsOf fec m mtu addressed source dest) pseq (now (packet .entry)) index
         (now (out .entry))) (now (told .entry)) (now (told .exit)) (now (out .entry)) (now (out .exit)) r ⌝ }
 {
     let g = settings_of(fec, m, mtu, addressed, source, dest);
     // With no bytes to write in nothing is written, and up to 1 the same is due.
     if told.len() < TOLD_FRAGMENT {
-        let none = sender::fragment(g, number, packet, index, &mut []);
+        let none = sender::fragment(g, pseq, packet, index, &mut []);
         return tell_length(none, told);
     }
-    let a = sender::fragment(g, number, packet, index, out);
+    let a = sender::fragment(g, pseq, packet, index, out);
     tell_length(a, told)
 }
 
@@ -134,20 +134,20 @@ pub extern "C" fn bailhammer_fragments(
     addressed: usize,
     source: u16,
     dest: u16,
-    number: u16,
+    pseq: u16,
     packet: &[u8],
     told: &mut [u8],
     out: &mut [u8],
 ) -> usize
-    ensures { λ r. ⌜ SentAs (twos 4) (fragmentsCall (settingsOf fec m mtu addressed source dest) number (now (packet .entry)) (now (out .entry)))
+    ensures { λ r. ⌜ SentAs (twos 4) (fragmentsCall (settingsOf fec m mtu addressed source dest) pseq (now (packet .entry)) (now (out .entry)))
         (now (told .entry)) (now (told .exit)) (now (out .entry)) (now (out .exit)) r ⌝ }
 {
     let g = settings_of(fec, m, mtu, addressed, source, dest);
     // As in `bailhammer_fragment`.
     if told.len() < TOLD_FRAGMENTS {
-        let none = sender::fragments(g, number, packet, &mut []);
+        let none = sender::fragments(g, pseq, packet, &mut []);
         return tell_split(none, told);
     }
-    let a = sender::fragments(g, number, packet, out);
+    let a = sender::fragments(g, pseq, packet, out);
     tell_split(a, told)
 }

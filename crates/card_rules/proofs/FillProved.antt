@@ -1,4 +1,4 @@
--- The claim of specs/Claims.antt on a filling, by R4 of crate code. Assumes nothing.
+-- The claim of specs/Claims.antt on a filling, by R4 of `code_rules`. Assumes nothing.
 use mathlib.Core.Path.{_≡_, sym, ap, _∙_}
 use mathlib.Core.List.{List}
 use Prim.Native.Nat.{ℕ}

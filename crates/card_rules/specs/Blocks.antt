@@ -1,4 +1,4 @@
--- What the filling's call for C answers: the answer of crate code as one number, and what is kept as bytes.
+-- What the filling's call for C answers: the answer of `code_decoder::fill` as one number, and what is kept as bytes.
 use mathlib.Core.Path.{_≡_}
 use mathlib.Core.Bool.{Bool, not}
 use mathlib.Core.List.{List, [], _∷_}
@@ -33,7 +33,7 @@ oneNumber (refused n) = n
 abbrev pub filledNumber : Filled → ℕ
 filledNumber a = oneNumber (numberOf a)
 
--- the filling's call of crate code was answered, and r is the number of its answer
+-- `code_decoder::fill` was answered, and r is the number of its answer
 pub record CardFilled (kept : List ℕ) (f s k : ℕ) (block after : List ℕ) (r : ℕ) : Type 0 where
   pub answer : Filled
   pub left : BlockFilled (keptOf kept) f s k block after answer

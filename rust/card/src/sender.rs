@@ -165,7 +165,7 @@ pub fn plan(settings: &Settings, l: usize) -> Result<Plan, Refused> {
 /// the whole packet's chunks; `fragments` does so once for all. Refused: 40, 20 to 25, 41, 42, 1.
 pub fn fragment(
     settings: &Settings,
-    number: u16,
+    pseq: u16,
     packet: &[u8],
     index: usize,
     out: &mut [u8],
@@ -180,7 +180,7 @@ pub fn fragment(
         addressed,
         source,
         dest,
-        number,
+        pseq,
         packet,
         index,
         &mut told,
@@ -206,7 +206,7 @@ pub fn fragment(
 /// ```
 pub fn fragments(
     settings: &Settings,
-    number: u16,
+    pseq: u16,
     packet: &[u8],
     out: &mut [u8],
 ) -> Result<Split, Refused> {
@@ -220,7 +220,7 @@ pub fn fragments(
         addressed,
         source,
         dest,
-        number,
+        pseq,
         packet,
         &mut told,
         out,

@@ -1,4 +1,4 @@
--- What the two tables hold, and what a logarithm is to the code. Nothing outside this crate knows of the tables.
+-- The rules of the two tables of crate `field`, and what a logarithm is to its code. Of them the claim `Ruled` alone speaks.
 use mathlib.Core.Path.{_≡_}
 use mathlib.Core.List.{List}
 use Prim.Native.Nat.{ℕ, _+_, _<_}

@@ -1,4 +1,4 @@
--- `bailhammer_encode` meets its contract: the outcome of crate code's call, and its number. Assumes nothing.
+-- `bailhammer_encode` meets its contract: the outcome of `code_encoder::encode`, and its number. Assumes nothing.
 use Rattle.card_rules.proofs.ToldLaws.{handed-on}
 use borrow.Author.Needs.{needs}
 use Rattle.card.proofs.blocks.bailhammer_encode.Statement.{statement}

@@ -1,4 +1,4 @@
--- `bailhammer_fill` meets its contract: the answer of crate code's call, and its number. Assumes nothing.
+-- `bailhammer_fill` meets its contract: the answer of `code_decoder::fill`, and its number. Assumes nothing.
 use mathlib.Core.Path.{_≡_, subst}
 use mathlib.Core.Bool.{Bool}
 use mathlib.Core.List.{List}

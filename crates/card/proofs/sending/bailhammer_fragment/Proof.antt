@@ -20,9 +20,9 @@ returns c =
     let short = sent .before .before in
     let set = short .before in
     let a = set .before .before .before .before .args in
-    fragment-short (settingsOf (a .fec) (a .m) (a .mtu) (a .addressed) (a .source) (a .dest)) (a .number) (a .packet .now) (a .out .now) (a .told .now)
+    fragment-short (settingsOf (a .fec) (a .m) (a .mtu) (a .addressed) (a .source) (a .dest)) (a .pseq) (a .packet .now) (a .out .now) (a .told .now)
     (a .index) (omega arith)
-    (sent .fragment .ensures ∙ ap (λ (x : Settings). fragmentCall x (a .number) (a .packet .now) (a .index) []) (set .settings-of .ensures))
+    (sent .fragment .ensures ∙ ap (λ (x : Settings). fragmentCall x (a .pseq) (a .packet .now) (a .index) []) (set .settings-of .ensures))
     (said .tell-length .ensures)
 
 returns-2 : tie.Need-returns-2
@@ -34,7 +34,7 @@ returns-2 c =
     let set = fits .before in
     let a = set .before .before .before .before .args in
     sent-as (twos 1) (a .told .now) (a .out .now) (omega arith)
-    (sent .fragment2 .ensures ∙ ap (λ (x : Settings). fragmentCall x (a .number) (a .packet .now) (a .index) (a .out .now)) (set .settings-of .ensures))
+    (sent .fragment2 .ensures ∙ ap (λ (x : Settings). fragmentCall x (a .pseq) (a .packet .now) (a .index) (a .out .now)) (set .settings-of .ensures))
     (said .tell-length2 .ensures)
 
 settings-of-requires : tie.Need-settings-of-requires

@@ -20,9 +20,9 @@ returns c =
     let short = sent .before .before in
     let set = short .before in
     let a = set .before .before .before .before .args in
-    fragments-short (settingsOf (a .fec) (a .m) (a .mtu) (a .addressed) (a .source) (a .dest)) (a .number) (a .packet .now) (a .out .now) (a .told .now)
+    fragments-short (settingsOf (a .fec) (a .m) (a .mtu) (a .addressed) (a .source) (a .dest)) (a .pseq) (a .packet .now) (a .out .now) (a .told .now)
     (omega arith)
-    (sent .fragments .ensures ∙ ap (λ (x : Settings). fragmentsCall x (a .number) (a .packet .now) []) (set .settings-of .ensures))
+    (sent .fragments .ensures ∙ ap (λ (x : Settings). fragmentsCall x (a .pseq) (a .packet .now) []) (set .settings-of .ensures))
     (said .tell-split .ensures)
 
 returns-2 : tie.Need-returns-2
@@ -34,7 +34,7 @@ returns-2 c =
     let set = fits .before in
     let a = set .before .before .before .before .args in
     sent-as (twos 4) (a .told .now) (a .out .now) (omega arith)
-    (sent .fragments2 .ensures ∙ ap (λ (x : Settings). fragmentsCall x (a .number) (a .packet .now) (a .out .now)) (set .settings-of .ensures))
+    (sent .fragments2 .ensures ∙ ap (λ (x : Settings). fragmentsCall x (a .pseq) (a .packet .now) (a .out .now)) (set .settings-of .ensures))
     (said .tell-split2 .ensures)
 
 settings-of-requires : tie.Need-settings-of-requires
