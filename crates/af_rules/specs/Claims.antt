@@ -1,4 +1,4 @@
--- The theorems of the AF layer, A1 to A3. Each is proved in proofs/Proved.antt.
+-- The theorems of the AF layer (clause 6), A1 to A3. Each is proved in proofs/Proved.antt.
 use mathlib.Core.Path.{_≡_}
 use mathlib.Core.Bool.{Bool}
 use mathlib.Core.List.{List, [], _∷_, _++_}

@@ -1,4 +1,4 @@
--- A list by the rule of its elements.
+-- A list by the rule of its elements, as document 01 has tables and cells.
 use mathlib.Core.List.{List, [], _∷_}
 use Prim.Native.Nat.{ℕ, zero, suc}
 

@@ -1,4 +1,4 @@
--- The answer of the calls that only write, and copying into a part of a buffer.
+-- The answer of the calls that only write, and copying into a part of a buffer (document 01, "Numbers given back").
 use mathlib.Core.List.{List, [], _∷_}
 use Prim.Native.Nat.{ℕ, _+_}
 use lib.Dec.{ltb}

@@ -1,4 +1,4 @@
--- What the filling's call for C answers: the answer of `code_decoder::fill` as one number, and what is kept as bytes.
+-- What the filling's call for C answers, as card.h says it: the answer of `code_decoder::fill` as one number, and what is kept as bytes.
 use mathlib.Core.Path.{_≡_}
 use mathlib.Core.Bool.{Bool, not}
 use mathlib.Core.List.{List, [], _∷_}

@@ -1,4 +1,4 @@
--- What several calls for C share: the address that C gives.
+-- What several calls for C share: the address that C gives, as card.h says it.
 use mathlib.Core.Bool.{cond}
 use Prim.Native.Nat.{ℕ}
 use lib.Dec.{eqb}

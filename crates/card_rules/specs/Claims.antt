@@ -1,4 +1,4 @@
--- What is claimed of the calls for C: the proofs are in proofs/Proved.antt.
+-- What is claimed of the calls for C, in the words of card.h: the proofs are in proofs/Proved.antt.
 use mathlib.Core.Path.{_≡_}
 use mathlib.Core.List.{List, [], _∷_}
 use mathlib.Core.Logic.{_⊎_}

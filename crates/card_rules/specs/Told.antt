@@ -1,4 +1,4 @@
--- How an answer crosses to C: its number is given back, and its values are told as bytes in what is lent for them.
+-- How an answer crosses to C (card.h, "What holds of every call"): its number is given back, and its values are told as bytes in what is lent for them.
 use mathlib.Core.Path.{_≡_}
 use mathlib.Core.Bool.{Bool, cond}
 use mathlib.Core.List.{List, [], _∷_, _++_}

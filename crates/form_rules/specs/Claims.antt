@@ -1,4 +1,4 @@
--- What is claimed of forming: the proofs are in proofs/Proved.antt.
+-- What is claimed of forming (document 01, "The four places"): the proofs are in proofs/Proved.antt.
 use mathlib.Core.Path.{_≡_}
 use mathlib.Core.Bool.{true, false}
 use mathlib.Core.List.{List}

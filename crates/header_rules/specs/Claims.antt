@@ -1,4 +1,4 @@
--- What is claimed of headers: the proofs are in proofs/Proved.antt.
+-- What is claimed of headers (clause 7.1; document 01, "Numbers given back"): the proofs are in proofs/Proved.antt.
 use mathlib.Core.Bool.{true, false}
 use mathlib.Core.List.{List, _++_}
 use mathlib.Core.Path.{_≡_}

@@ -1,4 +1,4 @@
--- What holds of the answers of a step and of a search, as claims: the proofs are in proofs/Proved.antt.
+-- What holds of the answers of a step and of a search, as claims (clause 5): the proofs are in proofs/Proved.antt.
 use mathlib.Core.Path.{_≡_}
 use Rattle.item_rules.specs.declared.Step.{Step}
 use Rattle.item_rules.specs.declared.Found.{Found}

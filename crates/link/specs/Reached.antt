@@ -1,4 +1,4 @@
--- What every reached state is: the invariants of the receiver's runs. Each is proved in proofs/Proved.antt.
+-- What every reached state is: the invariants of the receiver's runs (document 01, "The four places"). Each is proved in proofs/Proved.antt.
 use mathlib.Core.Path.{_≡_}
 use mathlib.Core.Bool.{true, false, not, cond, _&&_}
 use mathlib.Core.List.{List, _∷_}

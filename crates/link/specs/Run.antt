@@ -1,4 +1,4 @@
--- Runs of the receiver, and what came in them. A run's step is what `receive` promises, `Step`, by name.
+-- Runs of the receiver, and what came in them, as demand 3 speaks of them. A run's step is what `receive` promises, `Step`, by name.
 use mathlib.Core.Path.{_≡_}
 use mathlib.Core.Bool.{Bool, false, not, _||_, _&&_}
 use mathlib.Core.List.{List, [], _∷_, _++_, map}

@@ -1,4 +1,4 @@
--- What is claimed of packing: the two are inverse. The proofs are in proofs/Proved.antt.
+-- What is claimed of packing the record for C (card.h, "record_bytes"): the two are inverse. The proofs are in proofs/Proved.antt.
 use mathlib.Core.Path.{_≡_}
 use mathlib.Core.List.{List, []}
 use Prim.Native.Nat.{ℕ, _<_}

@@ -1,4 +1,4 @@
--- What is claimed of the places: the proofs are in proofs/Proved.antt.
+-- What is claimed of the places (document 01, "The four places"): the proofs are in proofs/Proved.antt.
 use mathlib.Core.Bool.{false}
 use mathlib.Core.Path.{_≡_}
 use Prim.Native.Nat.{ℕ, _+_, _%_, _<_}

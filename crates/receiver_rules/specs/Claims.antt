@@ -1,4 +1,4 @@
--- What is claimed of the receiver: the proofs are in proofs/Proved.antt.
+-- What is claimed of the receiver (document 01, "The four places"): the proofs are in proofs/Proved.antt.
 use mathlib.Core.Path.{_≡_}
 use mathlib.Core.List.{List, []}
 use Prim.Native.Nat.{ℕ, _≤_}

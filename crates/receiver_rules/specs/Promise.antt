@@ -1,5 +1,6 @@
--- The promise of `receive`: what a call answers and leaves, for every record, configuration, datagram and buffer. A relation where a packet is
--- formed, since the paper says which packet and not how it is found; equations everywhere else.
+-- The promise of `receive` (document 01, "The four places" and "Numbers given back"): what a call answers and leaves, for every record,
+-- configuration, datagram and buffer. A relation where a packet is formed, since the paper says which packet and not how it is found;
+-- equations everywhere else.
 use mathlib.Core.Path.{_≡_}
 use mathlib.Core.Bool.{Bool, true, false, not, cond, _&&_, _||_}
 use mathlib.Core.List.{List, [], _∷_}

@@ -1,4 +1,4 @@
--- What is claimed of the fragments that are sent: the proofs are in proofs/Proved.antt.
+-- What is claimed of the fragments that are sent (clause 7.3): the proofs are in proofs/Proved.antt.
 use mathlib.Core.Bool.{true, false}
 use mathlib.Core.List.{List, [], _++_}
 use mathlib.Core.Path.{_≡_}

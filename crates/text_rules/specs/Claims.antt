@@ -1,5 +1,5 @@
--- Texts are read back, so no two numbers and no two runs of bytes have the same text; a writer touches nothing but what it wrote. Proved in
--- proofs/Proved.antt.
+-- Texts of the listing (document 01, "On each side of the edge") and of the console are read back, so no two numbers and no two runs of bytes
+-- have the same text; a writer touches nothing but what it wrote. Proved in proofs/Proved.antt.
 use mathlib.Core.Path.{_≡_}
 use mathlib.Core.Bool.{cond}
 use mathlib.Core.List.{List, [], _∷_}

@@ -1,4 +1,4 @@
--- Text in a lent buffer, and numbers and bytes as text (ASCII).
+-- Text in a lent buffer, and numbers and bytes as text (ASCII), for the listing of document 01 and the console.
 use mathlib.Core.Bool.{cond}
 use mathlib.Core.List.{List, [], _∷_, _++_}
 use Prim.Native.Nat.{ℕ, zero, suc, _+_, _-_, _/_, _%_, min}

@@ -1,4 +1,4 @@
--- What every writer of an answer promises of the buffer that it was lent.
+-- What every writer of a text promises of the buffer that it was lent (document 01: "the first bytes of the lent buffer and no others").
 use Prim.Native.Nat.{ℕ, _≤_}
 use mathlib.Core.Path.{_≡_}
 use mathlib.Core.List.{List}

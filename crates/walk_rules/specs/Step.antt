@@ -1,4 +1,4 @@
--- The step walk: the same items, handed out one after another.
+-- The step walk: the same items, "one after another" (document 01, "TAG layer").
 use mathlib.Core.Bool.{cond, _&&_}
 use mathlib.Core.List.{List, [], _∷_}
 use Prim.Native.Nat.{ℕ, zero, suc, _+_, _-_, min}
