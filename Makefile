@@ -24,11 +24,11 @@ ask:
 plans:
 	@tools/plans
 
-##   c         c/run             minutes     calls the card from C: cuts a packet and rebuilds it
+##   c         c/run             seconds *   calls the card from C: cuts a packet and rebuilds it
 c:
 	@c/run
 
-##   rust      rust/run          minutes     calls the card from Rust: the same
+##   rust      rust/run          seconds *   calls the card from Rust: the same
 rust:
 	@rust/run
 

@@ -118,9 +118,19 @@ prove() {
     [ "$status" -eq 0 ] || { cat target/log/said >&2 && exit "$status"; }
 }
 
-# Proves the card and makes target/staticlib/libcard.a. What the card stands on is proved first, for `rt staticlib` alone takes one at a time.
+# The sum of what libcard.a is made of, the kit and every file of the crates, which is given in `made_of`, and of the library itself.
+library_sum() {
+    { echo "$made_of" && sha256sum <"$library"; } | sha256sum
+}
+
+# Proves the card and makes target/staticlib/libcard.a. What the card stands on is proved first, for `rt staticlib` alone takes one at a time,
+# and it proves the card anew each time: so a library that was made of the same files by the same kit is left as it is.
 make_library() {
+    library=target/staticlib/libcard.a made=target/staticlib/made
+    made_of=$(echo "$here" && find crates.txt crates -type f ! -path '*/must-fail/*' -exec sha256sum {} + | LC_ALL=C sort)
+    if [ -f "$library" ] && [ -f "$made" ] && [ "$(library_sum)" = "$(cat "$made")" ]; then return 0; fi
     # shellcheck disable=SC2046
     prove card check $(stands_on card)
     prove card staticlib card
+    library_sum >"$made"
 }
