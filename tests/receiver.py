@@ -6,6 +6,7 @@ parity), lays the block of the packet anew with the sender's parity (fragments.p
 same peer) and compares every kept byte.
 """
 import dataclasses
+import itertools
 
 import chunks
 import fragments
