@@ -32,7 +32,7 @@ c:
 rust:
 	@rust/run
 
-##   test      .ci/run           22 minutes  the gate: proves and tries everything, from nothing
+##   test      .ci/run           25 minutes  the gate: proves and tries everything, from nothing
 test:
 	@.ci/run
 
