@@ -1,9 +1,10 @@
-// The field of 256 elements (clause 7.3.1 of TS 102 821), by its powers and logarithms.
+// The field of 256 elements (clause 7.3.1 of TS 102 821): a product by shift and add, without a table; powers and logarithms from two
+// tables, and a quotient from them.
 use tables::EXP;
 use tables::LOG;
 ghost use mathlib.Core.Path.{_≡_};
-ghost use Prim.Native.Nat.{_<_};
-ghost use Rattle.field_rules.specs.Field.{_⊕_, _⊗_, alpha, logOf};
+ghost use Prim.Native.Nat.{_*_, _%_, _<_};
+ghost use Rattle.field_rules.specs.Field.{_⊕_, times2, _⊗_, alpha, logOf};
 ghost use Rattle.field_rules.specs.inner.Tables.{Exps, Logs, Logged};
 ghost use Rattle.field_rules.specs.Calls.{numberOf, quotientOf, logarithmOf};
 
@@ -11,7 +12,9 @@ mod tables;
 
 pub use field_rules::Element;
 use field_rules::Pair;
-pub use field_rules::REDUCED;
+
+// What x^8 is in the field, x^4 + x^3 + x^2 + 1: 11D hex without x^8.
+pub const REDUCED: u8 = 0x1D;
 
 // Document 01's number for a division by 0 and for the logarithm of 0.
 const ZERO: u8 = 44;
@@ -73,18 +76,34 @@ pub fn sum(a: u8, b: u8) -> u8
     a ^ b
 }
 
-// The product of two elements: the power whose exponent is the sum of their logarithms.
+// An element times alpha: moved up one place, and where x^8 falls out of the byte, what it is in the field is added.
+fn twice(x: u8) -> u8
+    ensures { λ r. ⌜ r ≡ times2 x ⌝ }
+{
+    let moved = x % 128 * 2;
+    if x < 128 { moved } else { sum(moved, REDUCED) }
+}
+
+// r, with x added where the lowest bit of y is set.
+fn with_bit(r: u8, x: u8, y: u8) -> u8
+    ensures { λ q. ⌜ q ≡ r ⊕ y % 2 * x ⌝ }
+{
+    if y % 2 == 0 { r } else { sum(r, x) }
+}
+
+// The product of two elements: for each bit of b that is set, the lowest first, a times alpha to the bit's place is added. No table.
 pub fn product(a: u8, b: u8) -> u8
     ensures { λ r. ⌜ r ≡ a ⊗ b ⌝ }
 {
-    if a == 0 {
-        return 0;
+    let mut r = 0;
+    let mut x = a;
+    let mut y = b;
+    for _i in 0..8usize {
+        r = with_bit(r, x, y);
+        x = twice(x);
+        y = y / 2;
     }
-    if b == 0 {
-        return 0;
-    }
-    let l = logs(a, b);
-    raised((l.a + l.b) % 255)
+    r
 }
 
 // An element divided by an element but 0.

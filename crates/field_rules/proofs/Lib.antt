@@ -1,5 +1,6 @@
 pub mod Sums
 pub mod Products
+pub mod Shifts
 pub mod Powers
 pub mod Rules
 pub mod Answers

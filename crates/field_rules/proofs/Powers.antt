@@ -251,11 +251,7 @@ pub log-alpha : (i : ℕ) → i < 255 → logOf (alpha i) ≡ i
 log-alpha i h =
     alpha-inj (logOf (alpha i)) i (log-lt (alpha i) (alpha-pos i) (alpha-lt i)) h (alpha-log (alpha i) (alpha-pos i) (alpha-lt i))
 
--- ---- a product and a quotient by logarithms
-
--- the logarithms of two factors, added modulo 255, are a logarithm of their product
-pub log-mul : {a b : ℕ} (k l : ℕ) → k < 255 → l < 255 → alpha k ≡ a → alpha l ≡ b → alpha ((k + l) % 255) ≡ a ⊗ b
-log-mul k l hk hl ea eb = alpha-mod (k + l) ∙ alpha-add k l ∙ ap₂ _⊗_ ea eb
+-- ---- a quotient by logarithms
 
 -- the dividend's logarithm less the divisor's, modulo 255, is a logarithm of the quotient
 pub log-div : {a b : ℕ} (k l : ℕ) → k < 255 → l < 255 → alpha k ≡ a → alpha l ≡ b → alpha ((k + 255 - l) % 255) ≡ a ⊗ inv b

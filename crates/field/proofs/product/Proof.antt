@@ -1,32 +1,62 @@
--- `product` meets its contract: the product of two elements but 0 has the sum of their logarithms. Assumes nothing.
-use mathlib.Core.Path.{sym, ap, _∙_}
+-- `product` meets its contract: what is added so far and what the bits that are left give are together a times b. Assumes nothing.
+use mathlib.Core.Path.{_≡_, sym, ap, ap₂, _∙_}
+use Prim.Native.Nat.{ℕ, suc, _+_, _-_, _*_, _/_, _%_, _≤_, _<_}
+use native.Mathlib.Nat.{mod-eq-of-lt}
+use native.Mathlib.Omega.{arith}
 use borrow.Author.Needs.{needs}
-use Rattle.field_rules.specs.Field.{_⊗_}
-use Rattle.field_rules.proofs.Powers.{log-mul}
-use Rattle.field_rules.proofs.Products.{mul-0-l, mul-0-r}
+use Rattle.field_rules.specs.Field.{_⊕_, times2, mulBits, _⊗_}
+use Rattle.field_rules.proofs.Shifts.{turn, none, begun}
 use Rattle.field.proofs.product.Statement.{statement}
 use Rattle.field.proofs.product.Tie as tie
 
-returns : tie.Need-returns
-returns c = sym (ap (λ x. x ⊗ c .before .args .b) (c .if1 .taken) ∙ mul-0-l (c .before .args .b))
+-- i bits of b are taken: 8 - i are left, of y, and x is a times α^i
+abbrev Inv-loop : tie.InvT-loop
+Inv-loop a b r₀ x₀ y₀ i₀ r x y i = (i ≤ 8) × (r ⊕ mulBits (8 - i) x y ≡ mulBits 8 a b)
 
-returns-2 : tie.Need-returns-2
-returns-2 c = sym (ap (λ x. c .before .before .args .a ⊗ x) (c .if2 .taken) ∙ mul-0-r (c .before .before .args .a))
+abbrev μ-loop : tie.MeasureT-loop
+μ-loop a b r₀ x₀ y₀ i₀ r x y i = 8 - i
 
-returns-3 : tie.Need-returns-3
-returns-3 c =
-    let l = c .before .before .logs .ensures in
-    c .raised .ensures ∙ log-mul _ _ (l .0 .small) (l .1 .small) (l .0 .power) (l .1 .power)
+loop-holds : tie.Need-loop-holds Inv-loop μ-loop
+loop-holds c = (omega arith, begun 8 (c .args .a) (c .args .b))
 
-logs-requires : tie.Need-logs-requires
-logs-requires c κs = search needs
+loop-again : tie.Need-loop-again Inv-loop μ-loop
+loop-again c =
+    let k = c .before .before .before .loop in
+    let i : ℕ = k .-i in
+    let h : i < 8 = search needs in
+    let left : suc (8 - (i + 1)) ≡ 8 - i = omega arith in
+    let summed : c .before .with-bit .result ≡ k .r ⊕ k .y % 2 * k .x = c .before .with-bit .ensures in
+    let moved : c .twice .result ≡ times2 (k .x) = c .twice .ensures in
+    (omega arith,
+    ap₂ (λ r x. r ⊕ mulBits (8 - (i + 1)) x (k .y / 2)) summed moved
+    ∙ turn (8 - (i + 1)) (k .r) (k .x) (k .y)
+    ∙ ap (λ n. k .r ⊕ mulBits n (k .x) (k .y)) left
+    ∙ k .inv .1)
 
-add-raised : tie.Need-add-raised
-add-raised c = search needs
+returns : tie.Need-returns Inv-loop μ-loop
+unfolding _⊗_
+returns c =
+    let k = c .before .loop in
+    let a : ℕ = c .before .before .args .a in
+    let b : ℕ = c .before .before .args .b in
+    let small : a < 256 = search needs in
+    let over : 8 - k .-i ≡ 0 = omega (arith, c .loop-test .left) in
+    sym (none (k .r) (k .x) (k .y)) ∙ ap (λ n. k .r ⊕ mulBits n (k .x) (k .y)) (sym over) ∙ k .inv .1
+    ∙ ap (λ x. mulBits 8 x b) (sym (mod-eq-of-lt small))
 
-raised-requires : tie.Need-raised-requires
-raised-requires c κs = search needs
+with-bit-requires : tie.Need-with-bit-requires Inv-loop μ-loop
+with-bit-requires c κs = search needs
+
+twice-requires : tie.Need-twice-requires Inv-loop μ-loop
+twice-requires c κs = search needs
+
+add--i : tie.Need-add--i Inv-loop μ-loop
+add--i c = search needs
+
+loop-less : tie.Need-loop-less Inv-loop μ-loop
+loop-less c = search needs
 
 pub product-spec : {M : Type 1} → statement M
 product-spec =
-    tie.close (tie.spec returns returns-2 logs-requires add-raised raised-requires returns-3)
+    tie.close
+    (tie.spec Inv-loop μ-loop loop-holds with-bit-requires twice-requires add--i loop-less loop-again returns)
