@@ -24,14 +24,14 @@ loop-again c =
     let k = c .before .before .before .loop in
     let i : ℕ = k .-i in
     let h : i < 8 = search needs in
-    let left : suc (8 - (i + 1)) ≡ 8 - i = omega arith in
+    let rest : ℕ = 8 - (i + 1) in
+    let left : suc rest ≡ 8 - i = omega arith in
     let summed : c .before .with-bit .result ≡ k .r ⊕ k .y % 2 * k .x = c .before .with-bit .ensures in
     let moved : c .twice .result ≡ times2 (k .x) = c .twice .ensures in
-    (omega arith,
-    ap₂ (λ r x. r ⊕ mulBits (8 - (i + 1)) x (k .y / 2)) summed moved
-    ∙ turn (8 - (i + 1)) (k .r) (k .x) (k .y)
-    ∙ ap (λ n. k .r ⊕ mulBits n (k .x) (k .y)) left
-    ∙ k .inv .1)
+    let kept =
+    ap₂ (λ r x. r ⊕ mulBits rest x (k .y / 2)) summed moved ∙ turn rest (k .r) (k .x) (k .y)
+    ∙ ap (λ n. k .r ⊕ mulBits n (k .x) (k .y)) left ∙ k .inv .1 in
+    (omega arith, kept)
 
 returns : tie.Need-returns Inv-loop μ-loop
 unfolding _⊗_
