@@ -76,7 +76,7 @@ pub fn sum(a: u8, b: u8) -> u8
     a ^ b
 }
 
-// An element times alpha: moved up one place, and where x^8 falls out of the byte, what it is in the field is added.
+// An element times alpha: moved up one place, and where bit 7 falls out of the byte, what x^8 is in the field is added.
 fn twice(x: u8) -> u8
     ensures { λ r. ⌜ r ≡ times2 x ⌝ }
 {
@@ -91,14 +91,15 @@ fn with_bit(r: u8, x: u8, y: u8) -> u8
     if y % 2 == 0 { r } else { sum(r, x) }
 }
 
-// The product of two elements: for each bit of b that is set, the lowest first, a times alpha to the bit's place is added. No table.
+// The product of two elements, without a table: for each bit of b that is set, the lowest first, a is added, times alpha as often as the
+// bit's place says.
 pub fn product(a: u8, b: u8) -> u8
     ensures { λ r. ⌜ r ≡ a ⊗ b ⌝ }
 {
     let mut r = 0;
     let mut x = a;
     let mut y = b;
-    for _i in 0..8usize {
+    for _ in 0..8usize {
         r = with_bit(r, x, y);
         x = twice(x);
         y = y / 2;

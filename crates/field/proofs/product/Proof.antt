@@ -5,11 +5,12 @@ use native.Mathlib.Nat.{mod-eq-of-lt}
 use native.Mathlib.Omega.{arith}
 use borrow.Author.Needs.{needs}
 use Rattle.field_rules.specs.Field.{_⊕_, times2, mulBits, _⊗_}
-use Rattle.field_rules.proofs.Shifts.{turn, none, begun}
+use Rattle.field_rules.proofs.Sums.{add-0-l}
+use Rattle.field_rules.proofs.Shifts.{turn, none-left}
 use Rattle.field.proofs.product.Statement.{statement}
 use Rattle.field.proofs.product.Tie as tie
 
--- i bits of b are taken: 8 - i are left, of y, and x is a times α^i
+-- after i turns, r and what the 8 - i low bits of y give with x are together a times b
 abbrev Inv-loop : tie.InvT-loop
 Inv-loop a b r₀ x₀ y₀ i₀ r x y i = (i ≤ 8) × (r ⊕ mulBits (8 - i) x y ≡ mulBits 8 a b)
 
@@ -17,12 +18,12 @@ abbrev μ-loop : tie.MeasureT-loop
 μ-loop a b r₀ x₀ y₀ i₀ r x y i = 8 - i
 
 loop-holds : tie.Need-loop-holds Inv-loop μ-loop
-loop-holds c = (omega arith, begun 8 (c .args .a) (c .args .b))
+loop-holds c = (omega arith, add-0-l (mulBits 8 (c .args .a) (c .args .b)))
 
 loop-again : tie.Need-loop-again Inv-loop μ-loop
 loop-again c =
     let k = c .before .before .before .loop in
-    let i : ℕ = k .-i in
+    let i : ℕ = k .counter in
     let h : i < 8 = search needs in
     let rest : ℕ = 8 - (i + 1) in
     let left : suc rest ≡ 8 - i = omega arith in
@@ -40,8 +41,8 @@ returns c =
     let a : ℕ = c .before .before .args .a in
     let b : ℕ = c .before .before .args .b in
     let small : a < 256 = search needs in
-    let over : 8 - k .-i ≡ 0 = omega (arith, c .loop-test .left) in
-    sym (none (k .r) (k .x) (k .y)) ∙ ap (λ n. k .r ⊕ mulBits n (k .x) (k .y)) (sym over) ∙ k .inv .1
+    let over : 8 - k .counter ≡ 0 = omega (arith, c .loop-test .left) in
+    sym (none-left (k .r) (k .x) (k .y)) ∙ ap (λ n. k .r ⊕ mulBits n (k .x) (k .y)) (sym over) ∙ k .inv .1
     ∙ ap (λ x. mulBits 8 x b) (sym (mod-eq-of-lt small))
 
 with-bit-requires : tie.Need-with-bit-requires Inv-loop μ-loop
@@ -50,8 +51,8 @@ with-bit-requires c κs = search needs
 twice-requires : tie.Need-twice-requires Inv-loop μ-loop
 twice-requires c κs = search needs
 
-add--i : tie.Need-add--i Inv-loop μ-loop
-add--i c = search needs
+add-counter : tie.Need-add-counter Inv-loop μ-loop
+add-counter c = search needs
 
 loop-less : tie.Need-loop-less Inv-loop μ-loop
 loop-less c = search needs
@@ -59,4 +60,4 @@ loop-less c = search needs
 pub product-spec : {M : Type 1} → statement M
 product-spec =
     tie.close
-    (tie.spec Inv-loop μ-loop loop-holds with-bit-requires twice-requires add--i loop-less loop-again returns)
+    (tie.spec Inv-loop μ-loop loop-holds with-bit-requires twice-requires add-counter loop-less loop-again returns)
