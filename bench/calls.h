@@ -21,7 +21,7 @@ enum {
     BLOCK = C * N,      /* bytes of the block */
     F = 16,             /* fragments */
     S = 633,            /* bytes of a fragment: F * S is the least multiple of F from BLOCK on */
-    M = 2,              /* fragments that may be lost, and the most bytes of one: the sender's default, with FEC and no address */
+    M = 2,              /* fragments that may be lost, and the most bytes of one: the setting for two losses, at which all figures were taken */
     MTU = 1400,
     H = 16,             /* bytes of a fragment's header */
     SENT = F * (H + S), /* bytes of all fragments */

@@ -122,6 +122,21 @@ static struct bailhammer_settings draw_settings(void)
     return settings;
 }
 
+/* Settings that have a name: what the macro for structs has is what the macro for calls has. */
+static void same_settings(struct bailhammer_settings settings, size_t fec, size_t m, size_t mtu, size_t addressed, uint16_t source, uint16_t dest)
+{
+    size_t ours[] = {settings.fec, settings.m, settings.mtu, settings.address.given, settings.address.source, settings.address.dest};
+    size_t due[] = {fec, m, mtu, addressed, source, dest};
+    same("named settings", ours, due, sizeof due);
+}
+
+static void faces_of_settings(void)
+{
+    const struct bailhammer_settings house = BAILHAMMER_HOUSE_SETTINGS, two_losses = BAILHAMMER_TWO_LOSSES_SETTINGS;
+    same_settings(house, BAILHAMMER_HOUSE, BAILHAMMER_NO_ADDRESS);
+    same_settings(two_losses, BAILHAMMER_TWO_LOSSES, BAILHAMMER_NO_ADDRESS);
+}
+
 static void faces_of_plan(const struct bailhammer_settings *settings, size_t l)
 {
     uint8_t told[BAILHAMMER_TOLD_PLAN] = {0}, again[BAILHAMMER_TOLD_PLAN], *at = again;
@@ -279,6 +294,7 @@ static void faces_of_names(void)
 int main(void)
 {
     faces_of_names();
+    faces_of_settings();
     for (size_t round = 0; round < ROUNDS; round++) {
         faces_of_line(faces_of_packets());
         if (round % 20 == 19)

@@ -18,7 +18,7 @@ int main(void)
     if (bailhammer_sender_fragments(&settings, 1, packet, length, line, sizeof line, &sent)
         != BAILHAMMER_DONE)
         return 1;
-    for (size_t i = 2; i < sent.f; i++) { /* fragments 0 and 1 are lost */
+    for (size_t i = 1; i < sent.f; i++) { /* fragment 0 is lost */
         struct bailhammer_receipt receipt;
         size_t bytes;
         const uint8_t *datagram = bailhammer_sent_part(&sent, i, &bytes);

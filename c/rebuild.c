@@ -1,4 +1,4 @@
-/* An example to copy: two packets are cut, a line mixes their fragments, loses some and brings one twice, and a receiver rebuilds both.
+/* An example to copy: two packets are cut, a line mixes their fragments, loses one of each and brings one twice, and a receiver rebuilds both.
  * c/run makes and runs it. */
 #include <stdio.h>
 #include <stdlib.h>
@@ -79,7 +79,8 @@ static void receive(struct traffic *t, size_t i)
         deliver(t, receipt.length);
 }
 
-/* The line: it loses every fourth fragment, as many as the cut bears, and brings fragment 5 of the first packet twice. */
+/* The line: it loses the fragments 3, 7, .., as many as the cut bears, which is one at the house default, and brings fragment 5 of the first
+ * packet twice. */
 static void carry(struct traffic *t, size_t i)
 {
     if (i >= t->sent.f)

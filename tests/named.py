@@ -1,8 +1,8 @@
 """What the faces of the card share beside the calls, and where it differs: tests/declared prints it.
 
 The numbers given back, with names and meanings, in card.h, in what bailhammer.h prints and in rust/card, and with names alone in rust/reference
-and the source; the conditions of a place; the house default; the versions, that of the record with its layout; a struct in bailhammer.h for
-each call that tells; what comments of definitions quote of card.h; the programs that the READMEs show, and the kit that README names.
+and the source; the conditions of a place; the settings that have a name; the versions, that of the record with its layout; a struct in
+bailhammer.h for each call that tells; what comments of definitions quote of card.h; the programs that the READMEs show, and the kit that README names.
 """
 import re
 
@@ -11,7 +11,8 @@ STRUCTS = "crates/card/bailhammer*.h"
 WRAPPERS = "rust/card/src/*.rs"
 REFUSED = "rust/card/src/refused.rs"
 REFERENCE = "rust/reference/src/lib.rs"
-HOUSE = "crates/cut/src/plans.rt"
+PLANS = "crates/cut/src/plans.rt"
+REFERENCE_PLANS = "rust/reference/src/plan.rs"
 FILLED = "crates/card/src/blocks.rt"
 CONDITIONS = "crates/places_rules/src/lib.rt"
 LAYOUT = "crates/packed_rules/specs/Packed.antt"
@@ -23,6 +24,8 @@ SHOWN = [("README.md", "c", "c/first.c"), ("rust/README.md", "rust", "rust/card/
 # the figures of a place in each layout of the record, in their order, each with its bytes: the last one is that of today
 LAYOUTS = ["condition 1, number 2, count 4, fec 1, rsk 1, rsz 1, size 2, last 2"]
 VERSIONS = ["RECORD_LAYOUT", "VERSION"]
+# the settings that have a name, the house default and that for two losses: in the source, and in C and Rust
+SETTINGS = [("house", "HOUSE"), ("two_losses", "TWO_LOSSES")]
 
 
 class Fault(Exception):
@@ -77,16 +80,20 @@ def conditions(root):
     yield from apart("condition", (HEADER, header), (CONDITIONS, source))
 
 
-def house(root):
-    """The house default, fec, m and mtu with no address, where source, header and Rust do not have the same one."""
-    texts = [(root / HOUSE).read_text(), (root / HEADER).read_text(), "".join(path.read_text() for path in sorted(root.glob(WRAPPERS)))]
-    rules = [r"(?s)fn house\(\).*?fec: (\w+),\s*m: (\w+),\s*mtu: (\w+),\s*address: Address::None,",
-             r"#define BAILHAMMER_HOUSE (\w+), (\w+), (\w+)\n#define BAILHAMMER_NO_ADDRESS 0, 0, 0\n",
-             r"const HOUSE: Settings = Settings \{ fec: (\w+), m: (\w+), mtu: (\w+), address: None \};"]
-    found = [re.findall(rule, text) for rule, text in zip(rules, texts)]
-    plain = [str(one).replace("true", "1").replace("_", "") for one in found]
-    if [len(one) for one in found] != [1, 1, 1] or len({*plain}) != 1:
-        yield f"the house default is {plain[0]} in {HOUSE}, {plain[1]} in {HEADER} and {plain[2]} for Rust"
+def settings(root):
+    """The settings that have a name, fec, m and mtu with no address, where source, header and both cards in Rust have not the same."""
+    source, header, reference = ((root / path).read_text() for path in (PLANS, HEADER, REFERENCE_PLANS))
+    rust = "".join(path.read_text() for path in sorted(root.glob(WRAPPERS)))
+    shared = re.findall(r"Settings \{\s*fec: (\w+),\s*m,\s*mtu,\s*address: Address::None,\s*\}", source)
+    none = "#define BAILHAMMER_NO_ADDRESS 0, 0, 0\n" in header
+    for function, name in SETTINGS:
+        constant = rf"pub const {name}: Settings = Settings \{{ fec: (\w+), m: (\w+), mtu: (\w+), address: None \}};"
+        found = {PLANS: [(*shared, *figures) for figures in re.findall(rf"fn {function}\(\)[^}}]*\}}\s*\{{\s*set_for\((\w+), (\w+)\)\s*\}}", source)],
+                 HEADER: re.findall(rf"#define BAILHAMMER_{name} (\w+), (\w+), (\w+)\n", header) if none else [],
+                 WRAPPERS: re.findall(constant, rust), REFERENCE_PLANS: re.findall(constant, reference)}
+        plain = {str(one).replace("true", "1").replace("_", "") for one in found.values()}
+        if len(plain) != 1 or any(len(one) != 1 for one in found.values()):
+            yield f"the settings {name} are " + ", ".join(f"{one} in {path}" for path, one in found.items())
 
 
 def layout(root):
@@ -131,4 +138,4 @@ def shown(root):
 
 
 def differing(root):
-    return [*numbers(root), *conditions(root), *house(root), *layout(root), *structs(root), *quoted(root), *shown(root)]
+    return [*numbers(root), *conditions(root), *settings(root), *layout(root), *structs(root), *quoted(root), *shown(root)]

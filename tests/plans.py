@@ -16,6 +16,10 @@ MOST_MTU = 16384
 SHORTEST, LONGEST = 12, 8192  # bytes of an AF packet
 MOST_FRAGMENTS = 256
 
+# the settings that have a name: FEC, M, MTU and ADDR as a question has them
+HOUSE = 1, 1, 1400, "-"  # document 02, Item 5: "The house default becomes m = 1"
+TWO_LOSSES = 1, 2, 1400, "-"  # document 01: "House default: FEC on, m = 2, MTU 1,400, no address"
+
 
 def rounded_up(a, b):
     return -(-a // b)

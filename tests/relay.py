@@ -1,15 +1,15 @@
-"""Writes what the program `relay` reads and what it has to print: crates/relay/stdin and
-crates/relay/stdout.
+"""Writes what the program `relay` reads and what it has to print, at the setting for two losses:
+crates/relay/stdin and crates/relay/stdout.
 
     python3 tests/relay.py
 
 The packet is the longest, 8,192 bytes with CF 1: "*ptr" and one item. The fragments are those of
 the sender in fragments.py, what each is answered and what is handed out comes from the receiver in
 receiver.py. The line's rule is written here anew: neighbours are exchanged, fragments 2, 5, 8, ..
-come twice, and 4, 9, .. are lost, as many as the house default assures. Behind each fragment stand
-those held, by the answers so far, and what the worst chunk misses: byte q of the block is in
-fragment q mod f, and chunk j is the bytes from j n on. None of it is taken from the program.
-Running this again gives the same bytes.
+come twice, and 4, 9, .. are lost, as many as that setting assures. Behind each fragment stand those
+held, by the answers so far, and what the worst chunk misses: byte q of the block is in fragment q
+mod f, and chunk j is the bytes from j n on. None of it is taken from the program. Running this
+again gives the same bytes.
 """
 import itertools
 import pathlib
@@ -25,7 +25,7 @@ import usage
 
 RELAY = pathlib.Path(__file__).resolve().parent.parent / "crates" / "relay"
 NUMBER = 1  # of the packet on the line
-ASSURED, MTU = 2, 1400  # the house default: FEC on, m = 2, MTU 1,400, no address
+_, ASSURED, MTU, _ = plans.TWO_LOSSES
 ALLOWED = 48  # bytes that a chunk may miss
 BYTES = 8  # missing bytes that a letter of a bar stands for
 COLUMN = 23  # where the drawing begins

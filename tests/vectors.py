@@ -127,6 +127,25 @@ def ordinary():
     ask("plan 0 0 1400 - " + "0" * 1000 + "18446744073709551615", "refused 22")
 
 
+def named_settings():
+    silent("# document 02, Item 5: \"The house default becomes m = 1\"; what it was, document 01's, is the setting for two losses")
+    ask("house", "settings " + " ".join(map(str, plans.HOUSE)))
+    ask("twolosses", "settings " + " ".join(map(str, plans.TWO_LOSSES)))
+    silent("# \"the default case at 8,192 bytes is worked again beside the old one\": S 48 x 40 / 2, f 10,120 / 960 rounded up, s 10,120 / 11")
+    worked = {plans.HOUSE: "plan c=40 k=205 z=8 n=253 S=960 L=10120 f=11 s=920 h=16",
+              plans.TWO_LOSSES: "plan c=40 k=205 z=8 n=253 S=640 L=10120 f=16 s=633 h=16"}
+    for settings, answer in worked.items():
+        ask_plan(*settings, 8192)
+        assert answers[-1] == answer, settings
+    silent("# the house default at other lengths")
+    for l in (11, 12, 13, 206, 207, 208, 413, 414, 415, 621, 622, 1000, 4096, 8073, 8074, 8191, 8193):
+        ask_plan(*plans.HOUSE, l)
+    silent("# what has no such name")
+    for line in ("house 1", "house -", "house 8192", "House", "HOUSE", "hous", "houses", "house:", "twolosses 2", "twolosses -", "TwoLosses",
+                 "twoloss", "twolossess", "two_losses", "two losses", "onelosses", "settings", "settings 1 1 1400 -", "default"):
+        ask(line, "unknown")
+
+
 def ask_field(question):
     ask(question, fields.answer(question))
 
@@ -349,8 +368,8 @@ def long_lines():
 
 
 def main():
-    for part in (sums, sizes, settings, counts, ordinary, elements, whole_chunks, packets_and_items, longest_packets, sent_packets,
-                 received_fragments, malformed, long_lines):
+    for part in (sums, sizes, settings, counts, ordinary, named_settings, elements, whole_chunks, packets_and_items, longest_packets,
+                 sent_packets, received_fragments, malformed, long_lines):
         part()
         silent("")
     questions.pop()

@@ -49,8 +49,9 @@ struct bailhammer_settings {
     struct bailhammer_address address; /* what each header has, or none */
 };
 
-/* The house default: const struct bailhammer_settings settings = BAILHAMMER_HOUSE_SETTINGS; */
+/* The house default: const struct bailhammer_settings settings = BAILHAMMER_HOUSE_SETTINGS; and the setting for two losses. */
 #define BAILHAMMER_HOUSE_SETTINGS {BAILHAMMER_HOUSE, {BAILHAMMER_NO_ADDRESS}}
+#define BAILHAMMER_TWO_LOSSES_SETTINGS {BAILHAMMER_TWO_LOSSES, {BAILHAMMER_NO_ADDRESS}}
 
 /* The sizes of a cut; card.h explains the letters. */
 struct bailhammer_cut {
@@ -69,7 +70,7 @@ struct bailhammer_cut {
 /* Plans the cut of an AF packet of l bytes.
  *
  *     struct bailhammer_cut cut;
- *     number = bailhammer_sender_plan(&settings, 8192, &cut);      // cut.f is 16, cut.h + cut.s 649
+ *     number = bailhammer_sender_plan(&settings, 8192, &cut);      // at the house default cut.f is 11, cut.h + cut.s 936
  */
 static inline size_t bailhammer_sender_plan(const struct bailhammer_settings *settings, size_t l, struct bailhammer_cut *cut)
 {

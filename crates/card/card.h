@@ -57,8 +57,10 @@ extern "C" {
 /* A TAG name from its four letters, as the calls take it: BAILHAMMER_NAME('d', 'e', 'm', 'o'). */
 #define BAILHAMMER_NAME(a, b, c, d) ((uint32_t)(uint8_t)(a) << 24 | (uint32_t)(uint8_t)(b) << 16 | (uint32_t)(uint8_t)(c) << 8 | (uint8_t)(d))
 
-/* The settings fec, m and mtu of the house default, and an address that is none, as the calls take them. */
-#define BAILHAMMER_HOUSE 1, 2, 1400
+/* As the calls take them: fec, m and mtu of the house default, which is made to bear one loss, and of the setting for two losses, the house
+ * default of old; and an address that is none. */
+#define BAILHAMMER_HOUSE 1, 1, 1400
+#define BAILHAMMER_TWO_LOSSES 1, 2, 1400
 #define BAILHAMMER_NO_ADDRESS 0, 0, 0
 
 /* The numbers that the calls give, under document 01's names. */
@@ -200,7 +202,8 @@ size_t bailhammer_walk_step(const uint8_t *packet, size_t packet_len, const uint
 
 /* The sender. FEC is on where fec is yes, and the header has the address source and dest where addressed is yes. m is the fragments that
  * may be lost, 5 at most, and 0 without FEC; mtu is the most bytes of a fragment, above h and 16,384 at most, where h is 14, two more with
- * FEC, four more with an address. The house default is BAILHAMMER_HOUSE and no address.
+ * FEC, four more with an address. The house default is BAILHAMMER_HOUSE and no address; whoever has to survive two losses writes
+ * BAILHAMMER_TWO_LOSSES in its place.
  *
  * pseq is the packet's number, Pseq in the header; it is not the number that a call gives. The caller counts it: one more for each packet, and 0
  * behind 65,535. The receiver tells packets apart by it alone: while it holds a number, a second packet under it is refused with 9 to 12, or its

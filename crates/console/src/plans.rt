@@ -1,4 +1,7 @@
-// Questions on plans: how a packet of some length is cut. The settings in their words stand in the sender's questions too.
+// Questions on plans: how a packet of some length is cut, and which settings have a name. Settings in their words stand in the
+// sender's questions too.
+ghost use Prim.Native.Nat.{_≤_};
+ghost use lib.ListN.{length};
 ghost use Rattle.text_rules.specs.Wrote.{Wrote};
 use crate::replies;
 use crate::words;
@@ -11,14 +14,27 @@ pub(crate) enum Asked {
     Malformed,
 }
 
-// `plan FEC M MTU ADDR L` is answered with the figures, or `refused N`; 0 where the line is another
-// or malformed.
+// The answer; 0 where the line is no question on plans or malformed. `house` and `twolosses` are
+// answered `settings FEC M MTU ADDR`.
 pub(crate) fn answer(line: &[u8], out: &mut [u8]) -> usize
     ensures { λ r. ⌜ Wrote (now (out .entry)) 0 r (now (out .exit)) ⌝ }
 {
-    if !words::asks(line, b"plan", 5) {
-        return 0;
+    if words::asks(line, b"plan", 5) {
+        return answer_plan(line, out);
     }
+    if words::asks(line, b"house", 0) {
+        return write_settings(out, cut::house());
+    }
+    if words::asks(line, b"twolosses", 0) {
+        return write_settings(out, cut::two_losses());
+    }
+    0
+}
+
+// `plan FEC M MTU ADDR L` is answered with the figures, or `refused N`.
+fn answer_plan(line: &[u8], out: &mut [u8]) -> usize
+    ensures { λ r. ⌜ Wrote (now (out .entry)) 0 r (now (out .exit)) ⌝ }
+{
     let Asked::Of(g) = settings(line) else {
         return 0;
     };
@@ -66,4 +82,31 @@ fn write_plan(out: &mut [u8], f: cut::Figures) -> usize
         i += 1;
     }
     at
+}
+
+// Settings in the words in which a question has them.
+fn write_settings(out: &mut [u8], g: cut::Settings) -> usize
+    ensures { λ r. ⌜ Wrote (now (out .entry)) 0 r (now (out .exit)) ⌝ }
+{
+    let fec = if g.fec { 1 } else { 0 };
+    let mut at = replies::number(out, b"settings ", fec);
+    at = replies::labelled(out, at, b" ", g.m);
+    at = replies::labelled(out, at, b" ", g.mtu);
+    let address = g.address;
+    write_address(out, at, address)
+}
+
+// An address behind a blank: source and then destination, `-` for none.
+fn write_address(out: &mut [u8], at: usize, address: cut::Address) -> usize
+    requires { ⌜ at ≤ length (now out) ⌝ }
+    ensures { λ r. ⌜ Wrote (now (out .entry)) at r (now (out .exit)) ⌝ }
+{
+    match address {
+        cut::Address::None => text::plain(out, at, b" -"),
+        cut::Address::Pair { source, dest } => {
+            let to = text::plain(out, at, b" ");
+            let behind = text::hex(out, to, &base::bytes2(source));
+            text::hex(out, behind, &base::bytes2(dest))
+        }
+    }
 }

@@ -11,3 +11,4 @@ pub use cut_rules::Settings;
 pub use plans::header_length;
 pub use plans::house;
 pub use plans::plan;
+pub use plans::two_losses;

@@ -19,18 +19,34 @@ ghost use Rattle.base_rules.specs.Bounds.{least-l, most-l, most-f, most-k, plac
 ghost use Rattle.base_rules.specs.Round.{ceil};
 ghost use Rattle.cut_rules.specs.Sizes.{c, k, h, headerLength, most-h, addressBytes, divisor, S, L, assured};
 ghost use Rattle.cut_rules.specs.Sizes.{f as Sizes·f};
-ghost use Rattle.cut_rules.specs.Plan.{houseOf, fit, planOf, figuresOf, valuesOf, numberOf};
+ghost use Rattle.cut_rules.specs.declared.Address.the-variants.{None};
+ghost use Rattle.cut_rules.specs.Plan.{houseOf, twoLossesOf, fit, planOf, figuresOf, valuesOf, numberOf};
 
-// The house default.
-pub fn house() -> Settings
-    ensures { λ r. ⌜ r ≡ houseOf ⌝ }
+// With FEC, for m losses, and without an address.
+fn set_for(m: usize, mtu: usize) -> Settings
+    ensures { λ r. ⌜ r ≡ record { fec = true; m = m; mtu = mtu; address = None } ⌝ }
 {
     Settings {
         fec: true,
-        m: 2,
-        mtu: 1400,
+        m,
+        mtu,
         address: Address::None,
     }
+}
+
+// The house default: one fragment may be lost.
+pub fn house() -> Settings
+    ensures { λ r. ⌜ r ≡ houseOf ⌝ }
+{
+    set_for(1, 1400)
+}
+
+// The setting for two losses, the house default of old. Who has to survive two losses asks for it by this name, and it stays
+// where the default moves.
+pub fn two_losses() -> Settings
+    ensures { λ r. ⌜ r ≡ twoLossesOf ⌝ }
+{
+    set_for(2, 1400)
 }
 
 // x / y rounded up.

@@ -1,20 +1,21 @@
 -- C2, C3 and C6 at the settings: the sizes of a cut that is not refused, and the losses that it bears. Assumes nothing.
 use mathlib.Core.Path.{_≡_, ap}
 use mathlib.Core.Bool.{Bool, true}
-use Prim.Native.Nat.{ℕ, zero, suc, _+_, _-_, _*_, _≤_, _<_}
-use native.Mathlib.Nat.{le-mul-of-pos-right}
+use Prim.Native.Nat.{ℕ, zero, suc, _+_, _-_, _*_, _/_, _≤_, _<_}
+use native.Mathlib.Nat.{le-mul-of-pos-right, le-div-iff-mul-le, mul-le-mul-left, mul-le-mul-right}
 use native.Mathlib.Omega.{arith}
 use lib.Dec.{lit≤}
-use Rattle.base_rules.specs.Bounds.{least-l, most-m, parity}
+use Rattle.base_rules.specs.Bounds.{least-l, most-l, most-f, most-m, most-k, parity}
 use Rattle.base_rules.specs.Round.{ceil}
-use Rattle.cut_rules.specs.Sizes.{c, k, n, divisor, S, L, f, s, assured, receivedC}
+use Rattle.base_rules.proofs.Ceil as ceils
+use Rattle.cut_rules.specs.Sizes.{c, k, n, h, divisor, S, L, f, s, assured, receivedC}
 use Rattle.cut_rules.specs.Missing.{losses, missing}
 use Rattle.cut_rules.specs.Claims.{Sized}
 use Rattle.cut_rules.specs.declared.Settings.{Settings}
 use Rattle.cut_rules.proofs.ChunkSizes as chunk
 use Rattle.cut_rules.proofs.FragmentSizes as fragment
 use Rattle.cut_rules.proofs.LossCounts as loss
-use Rattle.cut_rules.proofs.PlanCases.{Fit, fitted, Within, by-m, S-both, S-some, L-fec, L-some, L-most}
+use Rattle.cut_rules.proofs.PlanCases.{Fit, fitted, Within, by-m, divisor-some, divisor-most, S-both, S-some, L-fec, L-some, L-most}
 
 module _ (g : Settings) (l : ℕ) (in-bounds : Within g l) where
   some : 0 < l
@@ -84,12 +85,31 @@ each-bears g l ok from =
     (λ (more : g .m ≡ 0 → ⊥).
     (ceil parity (g .m + 1), loss.thin (c l) (g .m + 1) (S g l) (omega arith) (omega (arith, S-both g l more)), shares (g .m) (ok .m-most)))
 
+-- with FEC, where a fragment of a cut in bounds has at most t bytes of a chunk and w times t is at most 48, after any w losses or fewer no chunk
+-- misses more than 48 bytes
+pub borne : (g : Settings) (l : ℕ) → Within g l → g .fec ≡ true → (t w : ℕ) → S g l ≤ c l * t → w * t ≤ parity
+    → (lost : ℕ → Bool) → losses lost (f g l) ≤ w → (j : ℕ) → missing lost (f g l) (n l) j ≤ parity
+unfolding f
+borne g l in-bounds fec t w thin few =
+    let l>0 : 0 < l = omega (arith, in-bounds .from) in
+    let n>0 : 0 < n l = omega (arith, chunk.n-least l l>0) in
+    rw (L-fec g l fec) (loss.borne (c l) (n l) (S g l) t w (chunk.c-some l l>0) n>0 (S>0 g l in-bounds) thin few)
+
 -- with FEC, where at most m fragments of a cut in bounds are lost, no chunk misses more than 48 bytes
 pub bears : (g : Settings) (l : ℕ) → Within g l → g .fec ≡ true
     → (lost : ℕ → Bool) → losses lost (f g l) ≤ assured g l → (j : ℕ) → missing lost (f g l) (n l) j ≤ parity
-unfolding f Thin
+unfolding Thin
 bears g l in-bounds fec =
-    let l>0 : 0 < l = omega (arith, in-bounds .from) in
-    let n>0 : 0 < n l = omega (arith, chunk.n-least l l>0) in
-    let t = each-bears g l (fitted g (in-bounds .ok)) (in-bounds .from) in
-    rw (L-fec g l fec) (loss.borne (c l) (n l) (S g l) (t .0) (assured g l) (chunk.c-some l l>0) n>0 (S>0 g l in-bounds) (t .1) (t .2))
+    let t = each-bears g l (fitted g (in-bounds .ok)) (in-bounds .from) in borne g l in-bounds fec (t .0) (assured g l) (t .1) (t .2)
+
+-- ---- the fragments
+
+-- with FEC, m above 0 and 41 bytes behind a header, a packet of 12 to 8,192 bytes is cut into 256 fragments at the most
+pub few : (g : Settings) (l : ℕ) → Fit g → g .fec ≡ true → (g .m ≡ 0 → ⊥) → 41 ≤ g .mtu - h g → least-l ≤ l → l ≤ most-l → f g l ≤ most-f
+unfolding f n
+few g l ok fec more wide from to =
+    let cells : c l * (k l + parity) ≤ c l * (most-k + parity) = mul-le-mul-left (c l) (omega (arith, chunk.k-most l (omega arith))) in
+    let share : 8 * c l ≤ parity * c l / divisor g =
+    le-div-iff-mul-le {k = divisor g} (divisor-some g ok more) .1 (omega (arith, mul-le-mul-right (8 * c l) (divisor-most g ok))) in
+    ceils.least (L g l) (S g l) (S-some g l ok from) most-f
+    (omega (arith, L-fec g l fec, L-most g l from to, S-both g l more, cells, share, wide))

@@ -213,10 +213,14 @@ module _ (g : Settings) (l : ℕ) where
         unfolding planOf
         plan-41 many = refuses 41 _ _ (lit< tt) (last-due 41 (due 41 _ (lt-ltb most-f (f g l) many)))
 
-        -- at settings that fit, a length in bounds that makes at most 256 fragments is answered with its figures
+        -- at settings that fit, a length in bounds that makes at most 256 fragments is not refused
+        pub plan-taken : f g l ≤ most-f → 0 ≡ planFault g l
+        plan-taken few = last-due 0 (skip 41 _ (le-ltb most-f (f g l) few) none-due)
+
+        -- and is answered with its figures
         pub plan-cut : f g l ≤ most-f → granted (figuresOf g l) ≡ planOf g l
         unfolding planOf
-        plan-cut few = grants _ _ (last-due 0 (skip 41 _ (le-ltb most-f (f g l) few) none-due))
+        plan-cut few = grants _ _ (plan-taken few)
 
   -- settings that do not fit are refused with 40, whatever the length
   pub plan-40 : fit g ≡ false → refused 40 ≡ planOf g l

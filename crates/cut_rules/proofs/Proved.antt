@@ -1,25 +1,27 @@
 -- The claims of specs/Claims.antt, each by citation. Assumes nothing.
-use mathlib.Core.Path.{_≡_, refl, ap}
-use mathlib.Core.Bool.{Bool, false}
+use mathlib.Core.Path.{_≡_, refl, sym, ap}
+use mathlib.Core.Bool.{Bool, true, false}
 use mathlib.Core.List.{List, map}
 use Prim.Native.Nat.{ℕ, _+_, _-_, _*_, _≤_, _<_}
 use native.Mathlib.Nat.{mul-le-mul-right}
 use native.Mathlib.Omega.{arith}
+use lib.Dec.{lit≤}
 use lib.ListN.{length}
 use Rattle.base_rules.specs.Bounds.{parity}
 use Rattle.base_rules.specs.Round.{ceil}
 use Rattle.base_rules.specs.Bytes.{partOf}
 use Rattle.base_rules.proofs.Parts.{length-left}
-use Rattle.cut_rules.specs.Claims.{Taken, C2, C3, C4, C5, C6, C6m, AssuresM, AnyThree, NoFour, Parted}
+use Rattle.cut_rules.specs.Claims.{Taken, C2, C3, C4, C5, C6, C6m, AssuresM, SetFor, HouseBears, HouseBearsMore, TwoBorne, AnyThree, NoFour, Parted}
 use Rattle.cut_rules.specs.Edge.{Row, rows, fec}
 use Rattle.cut_rules.specs.Missing.{losses, missing, worst}
+use Rattle.cut_rules.specs.Plan.{houseOf, twoLossesOf, fit}
 use Rattle.cut_rules.specs.Sizes as size
 use Rattle.cut_rules.specs.declared.Settings.{Settings}
 use Rattle.cut_rules.proofs.Bearing as bearing
 use Rattle.cut_rules.proofs.Blocks.{window}
 use Rattle.cut_rules.proofs.Interleaving.{woven, joined, part-byte}
 use Rattle.cut_rules.proofs.LossCounts.{most, fewest, firsts-lost, firsts-take, worst-more}
-use Rattle.cut_rules.proofs.PlanCases.{within, L-plain}
+use Rattle.cut_rules.proofs.PlanCases.{fitted, within, S-both, L-plain, plan-taken}
 use Rattle.cut_rules.proofs.Sufficing.{suffice-from, suffice-no}
 
 -- in every cut that is not refused the sizes fit together, and all fragments fit a place
@@ -82,9 +84,38 @@ assures-m g l = refl
 pub c6m : C6m
 c6m g l taken with-fec lost few = c6 g l taken with-fec lost (omega (arith, few, assures-m g l))
 
+-- ---- the settings that have a name
+
+-- settings in bounds with FEC, m above 0 and 41 bytes behind a header are settings for m losses
+set-for : (g : Settings) → fit g ≡ true → g .fec ≡ true → (g .m ≡ 0 → ⊥) → 41 ≤ g .mtu - size.h g → SetFor g (g .m)
+set-for g fits with-fec more wide =
+    record {
+      takes = λ l from to. sym (plan-taken g l fits from to (bearing.few g l (fitted g fits) with-fec more wide from to));
+      tells = λ l. assures-m g l;
+      bears = λ l taken. c6m g l taken with-fec;
+    }
+
+-- the house default takes every packet, tells one loss and bears any one
+pub house-bears : HouseBears
+unfolding fit size.h size.addressBytes
+house-bears = set-for houseOf refl refl (λ (none : 1 ≡ 0). omega arith) (lit≤ tt)
+
+-- at the house default any two lost fragments leave enough too: 24 bytes of a chunk twice are 48
+pub house-bears-more : HouseBearsMore
+unfolding size.divisor
+house-bears-more l taken lost few =
+    let thin : size.S houseOf l ≤ size.c l * 24 = omega (arith, S-both houseOf l (λ (none : 1 ≡ 0). omega arith)) in
+    let all = bearing.borne houseOf l (within houseOf l taken) refl 24 2 thin (lit≤ tt) lost few in
+    (all, suffice-from lost (size.f houseOf l) (size.n l) (size.c l) (λ j h. all j))
+
+-- the setting for two losses takes every packet, tells two and bears any two
+pub two-borne : TwoBorne
+unfolding fit size.h size.addressBytes
+two-borne = set-for twoLossesOf refl refl (λ (none : 2 ≡ 0). omega arith) (lit≤ tt)
+
 -- ---- document 01's edge
 
--- the definitions give the sizes in all the starred rows of document 01's edge
+-- the definitions give the sizes in all the starred rows of document 01's edge, and in the row that document 02 adds
 pub edge-rows : map (λ (r : Row). r .gives) rows ≡ map (λ (r : Row). r .says) rows
 unfolding rows partOf ceil size.c size.k size.z size.n size.addressBytes size.h size.divisor size.S size.L size.f size.s
 edge-rows = refl

@@ -4,13 +4,13 @@ use mathlib.Core.Bool.{Bool, true, false}
 use mathlib.Core.List.{List}
 use Prim.Native.Nat.{ℕ, _+_, _-_, _*_, _/_, _%_, _≤_, _<_}
 use lib.ListN.{length, getD}
-use Rattle.base_rules.specs.Bounds.{most-k, place, parity}
+use Rattle.base_rules.specs.Bounds.{least-l, most-l, most-k, place, parity}
 use Rattle.base_rules.specs.Bytes.{partOf}
 use Rattle.cut_rules.specs.Block.{withParity, blockOf}
 use Rattle.cut_rules.specs.Cells.{fragmentOf, cellOf}
 use Rattle.cut_rules.specs.Edge.{fec}
 use Rattle.cut_rules.specs.Missing.{losses, missing, suffice, worst, firsts}
-use Rattle.cut_rules.specs.Plan.{planFault}
+use Rattle.cut_rules.specs.Plan.{houseOf, twoLossesOf, planFault}
 use Rattle.cut_rules.specs.Sizes.{c, k, z, n, S, L, f, s, assured, receivedC}
 use Rattle.cut_rules.specs.declared.Settings.{Settings}
 
@@ -91,6 +91,24 @@ C6 = (g : Settings) (l : ℕ) → Taken g l → g .fec ≡ true → Bears g l (a
 -- and the two are one
 abbrev pub AssuresM : Type 0
 AssuresM = (g : Settings) (l : ℕ) → assured g l ≡ g .m
+
+-- g is a setting for w losses: it takes every packet, its plan tells w, and any w lost fragments leave enough
+pub record SetFor (g : Settings) (w : ℕ) : Type 0 where
+  pub takes : (l : ℕ) → least-l ≤ l → l ≤ most-l → Taken g l
+  pub tells : (l : ℕ) → assured g l ≡ w
+  pub bears : (l : ℕ) → Taken g l → Bears g l w
+
+-- document 02, Item 5: "Default protection goes down to one loss"
+abbrev pub HouseBears : Type 0
+HouseBears = SetFor houseOf 1
+
+-- one is what is promised, and two happen to be borne too: by document 000's rule a fragment has at most 24 of the 48 bytes that a chunk may miss
+abbrev pub HouseBearsMore : Type 0
+HouseBearsMore = (l : ℕ) → Taken houseOf l → Bears houseOf l 2
+
+-- "Two products rely on surviving two losses .. They take the old setting under a name of its own, and their promises don't change"
+abbrev pub TwoBorne : Type 0
+TwoBorne = SetFor twoLossesOf 2
 
 -- l 415, m 2: "Any three lost still rebuild, no four do"
 abbrev pub AnyThree : Type 0

@@ -1,10 +1,10 @@
--- Document 01, "On each side of the edge": the starred rows of sizes, as one table.
+-- Document 01, "On each side of the edge": the starred rows of sizes, as one table; document 02, Item 5, adds a row.
 use mathlib.Core.Bool.{true, false}
 use mathlib.Core.List.{List, [], _∷_}
 use Prim.Native.Nat.{ℕ, _-_, _*_}
 use lib.ListN.{length, replicate}
 use Rattle.base_rules.specs.Bytes.{partOf}
-use Rattle.cut_rules.specs.Plan.{houseOf}
+use Rattle.cut_rules.specs.Plan.{houseOf, twoLossesOf}
 use Rattle.cut_rules.specs.Sizes as size
 use Rattle.cut_rules.specs.declared.Address.the-variants.{None}
 use Rattle.cut_rules.specs.declared.Settings.{Settings}
@@ -30,7 +30,7 @@ plain = record { fec = false; m = 0; mtu = 1400; address = None }
 abbrev pub lastOf : Settings → ℕ → ℕ
 lastOf g l = length (partOf (replicate l 0) (size.s g l) (size.f g l - 1))
 
--- document 01, "On each side of the edge": the starred rows of sizes
+-- document 01, "On each side of the edge": the starred rows of sizes, and document 02's beside the one that it works again
 unfoldable pub rows : List Row
 rows =
     -- l 207: c 1, k 207, z 0
@@ -44,8 +44,10 @@ rows =
     -- l 415, m 2: c 3, k 139, z 2, f 12, s 47; 3 zero cells
     ∷ row (size.c 415 ∷ size.k 415 ∷ size.z 415 ∷ size.f (fec 2) 415 ∷ size.s (fec 2) 415 ∷ []) (3 ∷ 139 ∷ 2 ∷ 12 ∷ 47 ∷ [])
     ∷ row ((size.f (fec 2) 415 * size.s (fec 2) 415 - size.L (fec 2) 415) ∷ []) (3 ∷ [])
-    -- l 8,192, default: c 40, k 205, z 8, f 16, s 633
-    ∷ row (size.c 8192 ∷ size.k 8192 ∷ size.z 8192 ∷ size.f houseOf 8192 ∷ size.s houseOf 8192 ∷ []) (40 ∷ 205 ∷ 8 ∷ 16 ∷ 633 ∷ [])
+    -- l 8,192, default: c 40, k 205, z 8, f 16, s 633 (document 01's default, the setting for two losses now)
+    ∷ row (size.c 8192 ∷ size.k 8192 ∷ size.z 8192 ∷ size.f twoLossesOf 8192 ∷ size.s twoLossesOf 8192 ∷ []) (40 ∷ 205 ∷ 8 ∷ 16 ∷ 633 ∷ [])
+    -- document 02, Item 5: "the default case at 8,192 bytes is worked again beside the old one": f 11, s 920
+    ∷ row (size.c 8192 ∷ size.k 8192 ∷ size.z 8192 ∷ size.f houseOf 8192 ∷ size.s houseOf 8192 ∷ []) (40 ∷ 205 ∷ 8 ∷ 11 ∷ 920 ∷ [])
     -- no FEC, MTU 1,400: l 1,386 gives f 1; 1,387 gives f 2, s 694, last 693
     ∷ row (size.f plain 1386 ∷ []) (1 ∷ [])
     ∷ row (size.f plain 1387 ∷ size.s plain 1387 ∷ lastOf plain 1387 ∷ []) (2 ∷ 694 ∷ 693 ∷ [])

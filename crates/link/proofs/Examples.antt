@@ -16,7 +16,7 @@ use Rattle.header_rules.specs.Read as read
 use Rattle.receiver_rules.specs.Promise.{State}
 use Rattle.link.specs.Run.{Call, after, Run, start, next, freshWith, Holds, ShownOpen, All, Each}
 use Rattle.link.specs.Demand.{Takes, keyFor, Scene, enoughAfter, HeldAfter, Said, Demanded}
-use Rattle.link.specs.Examples.{settingsOf, packetUnder, number, packet, house, Line, Answers, Beside, none, one-more, Played, Done, Gone}
+use Rattle.link.specs.Examples.{settingsOf, packetUnder, number, packet, twoLosses, Line, Answers, Beside, none, one-more, Played, Done, Gone}
 use Rattle.link.specs.Examples.{opening, three-others, HandedOutOnce, ThreeOthers, four-others, DisplacedLast, FourOthers}
 use Rattle.link.proofs.Whole.{demand-3, lifted, not-before}
 use Rattle.link.proofs.Turns.{lately, turn, stands-held}
@@ -216,7 +216,7 @@ hands-out r =
         stands-held old 104 (tests .old-104),
       );
       its = done 5 (lit< tt) (1 ∷ 2 ∷ 3 ∷ []) (lit≤ tt) 2 (tests .its) (beside-take 23 ks) (its .2);
-      held = subst (λ (j : ℕ). HeldAfter house number (take j (drop 1 (r .es)))) (tests .held-5) (held-until 5 (lit< tt) (r .all) 1 (r .run) ks);
+      held = subst (λ (j : ℕ). HeldAfter twoLosses number (take j (drop 1 (r .es)))) (tests .held-5) (held-until 5 (lit< tt) (r .all) 1 (r .run) ks);
       gone = free-now (r .all) 5 (r .run) ks (tests .gone-5);
       then = one .0;
       one = done 1 (lit< tt) (5 ∷ 2 ∷ 3 ∷ []) (lit≤ tt) 9 (tests .one) (beside-take 21 ks) (one .2);
@@ -232,7 +232,7 @@ displaces : (r : Played (opening ++ four-others)) → DisplacedLast (r .es) (r .
 unfolding settingsOf packetUnder
 displaces r =
     let ks : Kinds four-lines (r .es) = kinds-of (tests .four) r in
-    let x = subst (λ (j : ℕ). (first : State) × Gone house number packet first (take (suc j) (r .es)) (r .now)) (tests .since-5)
+    let x = subst (λ (j : ℕ). (first : State) × Gone twoLosses number packet first (take (suc j) (r .es)) (r .now)) (tests .since-5)
     (gone 5 (lit< tt) (r .all) (r .run) ks (tests .held-four) (tests .before-four) (tests .gone-four)) in
     record { answers = answers-of (tests .four) r; first = x .0; its = x .1 }
 

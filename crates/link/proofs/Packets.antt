@@ -26,7 +26,7 @@ use Rattle.header_rules.specs.Claims.{Fitting}
 use Rattle.form_rules.specs.Agree.{enough}
 use Rattle.sender_rules.specs.Calls.{packetFault}
 use Rattle.link.specs.Demand.{Takes, count, keyFor}
-use Rattle.link.specs.Examples.{house, packet, number, other, settingsOf, packetUnder}
+use Rattle.link.specs.Examples.{twoLosses, packet, number, other, settingsOf, packetUnder}
 use Rattle.link.proofs.Enough.{suffices}
 
 -- ---- the two packets
@@ -62,27 +62,27 @@ other-size : length other ≡ 1387
 unfolding other
 other-size = wrapped-size 8 1375 170 other-wrapped
 
-packet-count : count house packet ≡ 12
+packet-count : count twoLosses packet ≡ 12
 unfolding ceil cut.c cut.k cut.n cut.addressBytes cut.h cut.divisor cut.S cut.L cut.f
-packet-count = ap (cut.f house) packet-size
+packet-count = ap (cut.f twoLosses) packet-size
 
 other-count : count plain other ≡ 2
 unfolding ceil cut.c cut.k cut.n cut.addressBytes cut.h cut.divisor cut.S cut.L cut.f
 other-count = ap (cut.f plain) other-size
 
-house-fits : fit house ≡ true
+two-losses-fit : fit twoLosses ≡ true
 unfolding fit cut.h cut.addressBytes
-house-fits = refl
+two-losses-fit = refl
 
 plain-fits : fit plain ≡ true
 unfolding fit cut.h cut.addressBytes
 plain-fits = refl
 
-packet-takes : (n : ℕ) → n < 65536 → Takes house n packet
+packet-takes : (n : ℕ) → n < 65536 → Takes twoLosses n packet
 unfolding packet Fitting
 packet-takes n h =
     record {
-      passed = taken house _ house-fits (packet-wrapped .passes) (omega (arith, packet-count));
+      passed = taken twoLosses _ two-losses-fit (packet-wrapped .passes) (omega (arith, packet-count));
       bytes = packet-wrapped .bytes;
       number = h;
       address = (lit< tt, lit< tt);
@@ -102,11 +102,11 @@ other-takes n h =
 abbrev Bears : Settings → List ℕ → ℕ → ℕ → Type 0
 Bears g p f most = (came : ℕ → Bool) → suffices g p came ≡ leb (missing.losses (λ i. not (came i)) f) most
 
-packet-bears : Bears house packet 12 3
+packet-bears : Bears twoLosses packet 12 3
 unfolding suffices enough ceil withFec cut.c cut.k cut.n cut.addressBytes cut.h cut.divisor cut.S cut.L cut.f cut.s cut.receivedC
 packet-bears came =
     let lost : ℕ → Bool = λ i. not (came i) in
-    ap (λ (l : ℕ). missing.suffice lost (cut.f house l) (cut.n l) (cut.receivedC (cut.f house l) (cut.s house l) (cut.k l))) packet-size
+    ap (λ (l : ℕ). missing.suffice lost (cut.f twoLosses l) (cut.n l) (cut.receivedC (cut.f twoLosses l) (cut.s twoLosses l) (cut.k l))) packet-size
     ∙ either (leb (missing.losses lost 12) 3)
     (λ e. any-three lost (leb-true _ _ e) ∙ sym e)
     (λ e. no-four lost (leb-false _ _ e) ∙ sym e)
@@ -136,12 +136,12 @@ unfoldable pub sizeUnder : ℕ → ℕ
 sizeUnder n = cond (eqb n number) 415 1387
 
 -- what holds of both packets holds of what is sent under any number
-either-packet : (P : Settings → List ℕ → ℕ → ℕ → ℕ → Type 0) → P house packet 415 12 3 → P plain other 1387 2 0
+either-packet : (P : Settings → List ℕ → ℕ → ℕ → ℕ → Type 0) → P twoLosses packet 415 12 3 → P plain other 1387 2 0
     → (n : ℕ) → P (settingsOf n) (packetUnder n) (sizeUnder n) (countUnder n) (bearable n)
 unfolding settingsOf packetUnder sizeUnder countUnder bearable
 either-packet P p q n = go (eqb n number)
   where
-    go : (b : Bool) → P (cond b house plain) (cond b packet other) (cond b 415 1387) (cond b 12 2) (cond b 3 0)
+    go : (b : Bool) → P (cond b twoLosses plain) (cond b packet other) (cond b 415 1387) (cond b 12 2) (cond b 3 0)
     go true = p
     go false = q
 

@@ -13,6 +13,7 @@ use Rattle.cut_rules.specs.declared.Address.{Address}
 use Rattle.cut_rules.specs.declared.Address.the-variants.{Pair}
 use Rattle.cut_rules.specs.declared.Settings.{Settings}
 use Rattle.cut_rules.specs.Edge.{plain}
+use Rattle.cut_rules.specs.Plan.{twoLossesOf}
 use Rattle.places_rules.specs.declared.Displaced.the-variants.{None, Number}
 use Rattle.places_rules.specs.Places.{all-places}
 use Rattle.sender_rules.specs.Fragments.{fragmentFor}
@@ -28,9 +29,9 @@ use Rattle.link.specs.Demand.{keyFor, Scene, Begins, Among, enoughAfter,
 abbrev pub here : Address
 here = Pair 1 2
 
--- document 01, "Bounds": the house settings, but with this address
-abbrev pub house : Settings
-house = record { fec = true; m = 2; mtu = 1400; address = here }
+-- the setting for two losses, but with this address
+abbrev pub twoLosses : Settings
+twoLosses = record { fec = twoLossesOf .fec; m = twoLossesOf .m; mtu = twoLossesOf .mtu; address = here }
 
 -- document 01, l 415, m 2: 12 fragments, "Any three lost still rebuild, no four do"
 unfoldable pub packet : List ℕ
@@ -46,7 +47,7 @@ other = packetOf 8 true (replicate 1375 170)
 
 -- at which settings a packet is sent under the number n
 unfoldable pub settingsOf : ℕ → Settings
-settingsOf n = cond (eqb n number) house plain
+settingsOf n = cond (eqb n number) twoLosses plain
 
 -- and which one
 unfoldable pub packetUnder : ℕ → List ℕ
@@ -225,10 +226,10 @@ pub record HandedOutOnce (es : List Call) (now : State) : Type 0 where
   pub first : State
   pub olds : Holds first 101 × Holds first 102 × Holds first 103 × Holds first 104
   -- the 23 calls behind the opening: the packet is done with the third from the end
-  pub its : Done house number packet (1 ∷ 2 ∷ 3 ∷ []) 2 first (take 23 es) now
+  pub its : Done twoLosses number packet (1 ∷ 2 ∷ 3 ∷ []) 2 first (take 23 es) now
   -- its number is held after the late fragment too, until the last call displaces it
-  pub held : HeldAfter house number (take 22 (drop 1 es))
-  pub gone : Holds now (keyFor house number) → ⊥
+  pub held : HeldAfter twoLosses number (take 22 (drop 1 es))
+  pub gone : Holds now (keyFor twoLosses number) → ⊥
   -- and the packet of number 1, from its first fragment on
   pub then : State
   pub one : Done plain 1 other (number ∷ 2 ∷ 3 ∷ []) 9 then (take 21 es) now
@@ -255,7 +256,7 @@ four-others =
 pub record DisplacedLast (es : List Call) (now : State) : Type 0 where
   pub answers : Beside Answers (reverse (opening ++ four-others)) es
   pub first : State
-  pub its : Gone house number packet first (take 5 es) now
+  pub its : Gone twoLosses number packet first (take 5 es) now
 
 -- there are such runs, and all of them displace it
 pub record FourOthers : Type 0 where

@@ -1,7 +1,7 @@
-// The main job at a glance: one AF packet of standard input goes over a bad line. It is cut at the house default, the line treats the
-// fragments by a fixed rule, the receiver is handed what is left, and what becomes of each fragment is a line of output. The rule:
+// The main job at a glance: one AF packet of standard input goes over a bad line. It is cut at the setting for two losses, the line treats
+// the fragments by a fixed rule, the receiver is handed what is left, and what becomes of each fragment is a line of output. The rule:
 // neighbours are exchanged (1 0 3 2 ..); every third fragment (2, 5, 8, ..) comes twice; every fifth (4, 9, ..) is lost, until as many
-// are lost as the plan assures.
+// are lost as the plan assures. It is the relief receiver test of document 02, Item 5, which relies on surviving two losses.
 mod drawing;
 mod telling;
 
@@ -63,7 +63,8 @@ fn arrive(i: usize, end: End, datagram: &[u8], lent: &mut [u8], out: &mut [u8]) 
 // Fragment i is sent, and comes. The sender refuses none here: it took the packet, and i is below f.
 fn send(packet: &[u8], i: usize, end: End, lent: &mut [u8], out: &mut [u8]) -> End {
     let mut datagram = [0u8; MOST_MTU];
-    let Sent::Fragment(n) = sender::fragment(cut::house(), NUMBER, packet, i, &mut datagram) else {
+    let Sent::Fragment(n) = sender::fragment(cut::two_losses(), NUMBER, packet, i, &mut datagram)
+    else {
         return end;
     };
     if n <= MOST_MTU {
@@ -126,7 +127,7 @@ fn relay(packet: &[u8], p: Figures, size: usize) {
 
 // A packet that the sender takes.
 fn plan(packet: &[u8], size: usize) {
-    match cut::plan(cut::house(), packet.len()) {
+    match cut::plan(cut::two_losses(), packet.len()) {
         Planned::Refused(n) => telling::refused(n),
         Planned::Cut(p) => relay(packet, p, size),
     }
@@ -135,7 +136,7 @@ fn plan(packet: &[u8], size: usize) {
 // Asks the sender for the first fragment: it refuses the packet, or tells how long each fragment is.
 fn begin(packet: &[u8]) {
     let mut datagram = [0u8; MOST_MTU];
-    match sender::fragment(cut::house(), NUMBER, packet, 0, &mut datagram) {
+    match sender::fragment(cut::two_losses(), NUMBER, packet, 0, &mut datagram) {
         Sent::Refused(n) => telling::refused(n),
         Sent::Fragment(size) => plan(packet, size),
     }

@@ -1,4 +1,4 @@
-//! Cuts a packet, loses two fragments and rebuilds it from the others.
+//! Cuts a packet, loses a fragment and rebuilds it from the others.
 
 use card::receiver::{LENT, PACKET};
 use card::sender::SENT;
@@ -10,7 +10,7 @@ fn main() -> Result<(), Refused> {
     let split = sender::fragments(&Settings::HOUSE, 1, &packet[..length], &mut sent)?;
     let mut lent = [0; LENT];
     let mut receiver = Receiver::new(&mut lent);
-    for datagram in split.parts(&sent).skip(2) {
+    for datagram in split.parts(&sent).skip(1) {
         let answer = receiver.receive(None, datagram, &mut out)?;
         if let Received::Delivered { length, missing, .. } = answer {
             assert_eq!(out[..length], packet[..length]);

@@ -1,5 +1,5 @@
-//! An example to copy: two packets are cut, a line mixes their fragments, loses some and brings
-//! one twice, and a receiver rebuilds both.
+//! An example to copy: two packets are cut, a line mixes their fragments, loses one of each and
+//! brings one twice, and a receiver rebuilds both.
 
 use card::receiver::{LENT, PACKET};
 use card::sender::{Split, SENT};
@@ -69,8 +69,8 @@ fn receive(receiver: &mut Receiver, traffic: &mut Traffic, i: usize) -> Result<(
     Ok(())
 }
 
-/// The line: it loses every fourth fragment, as many as the cut bears, and brings fragment 5 of
-/// packet 7 twice.
+/// The line: it loses the fragments 3, 7, .., as many as the cut bears, which is one at the house
+/// default, and brings fragment 5 of packet 7 twice.
 fn carry(receiver: &mut Receiver, traffic: &mut Traffic, i: usize) -> Result<(), Refused> {
     if i % 4 == 3 && i / 4 < traffic.losses {
         println!("packet {} fragment {i}: lost", traffic.number);

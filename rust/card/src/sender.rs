@@ -22,7 +22,7 @@ pub struct Settings {
 }
 
 impl Settings {
-    /// The house default.
+    /// The house default: any one fragment may be lost.
     ///
     /// ```
     /// let addressed = card::Settings {
@@ -30,7 +30,10 @@ impl Settings {
     ///     ..card::Settings::HOUSE
     /// };
     /// ```
-    pub const HOUSE: Settings = Settings { fec: true, m: 2, mtu: 1_400, address: None };
+    pub const HOUSE: Settings = Settings { fec: true, m: 1, mtu: 1_400, address: None };
+
+    /// The setting for two losses, the house default of old: any two fragments may be lost.
+    pub const TWO_LOSSES: Settings = Settings { fec: true, m: 2, mtu: 1_400, address: None };
 }
 
 /// The house default.
@@ -139,8 +142,11 @@ pub(crate) fn pair(address: Option<Address>) -> (usize, u16, u16) {
 /// Plans the cut of a packet of l bytes. Refused: 40, 20, 22, 41.
 ///
 /// ```
-/// let plan = card::sender::plan(&card::Settings::HOUSE, 8_192)?;
-/// assert!(plan.h + plan.s <= 1_400 && plan.f <= 256);
+/// use card::{sender, Settings};
+/// let house = sender::plan(&Settings::HOUSE, 8_192)?;
+/// assert_eq!((house.f, house.h + house.s, house.losses), (11, 936, 1));
+/// let two = sender::plan(&Settings::TWO_LOSSES, 8_192)?;
+/// assert_eq!((two.f, two.h + two.s, two.losses), (16, 649, 2));
 /// # Ok::<(), card::Refused>(())
 /// ```
 pub fn plan(settings: &Settings, l: usize) -> Result<Plan, Refused> {

@@ -1,7 +1,7 @@
 //! The questions of the console: from a line to an answer.
 
 use crate::code::{Filling, MOST_DATA, PARITY};
-use crate::plan::{Address, Settings};
+use crate::plan::{Address, Settings, HOUSE, TWO_LOSSES};
 use crate::receiver::{Condition, Kept, Received, Table};
 use crate::tag::{Name, Walked};
 use crate::{af, code, crc, field, listing, number, plan, sender, tag, Answer};
@@ -43,7 +43,7 @@ impl Console {
             &"fresh" | &"recv" | &"query" | &"clear" => self.on_receiver(&words)?,
             &"crc" | &"mul" | &"div" | &"log" | &"pow" => on_field(&words)?,
             &"parity" | &"fill" => on_chunks(&words)?,
-            &"plan" | &"fragment" | &"fragments" => on_sender(&words)?,
+            &"house" | &"twolosses" | &"plan" | &"fragment" | &"fragments" => on_sender(&words)?,
             &"afcheck" | &"afwrap" => on_af(&words)?,
             _ => on_tag(&words)?,
         };
@@ -105,6 +105,8 @@ fn on_chunks(words: &[&str]) -> Option<Answer<String>> {
 
 fn on_sender(words: &[&str]) -> Option<Answer<String>> {
     match words {
+        ["house"] => Some(Ok(show_settings(&HOUSE))),
+        ["twolosses"] => Some(Ok(show_settings(&TWO_LOSSES))),
         ["plan", fec, m, mtu, addr, l] => {
             let settings = settings(fec, m, mtu, addr)?;
             Some(plan::plan(&settings, any_number(l)?).map(|plan| show_plan(&plan)))
@@ -265,6 +267,12 @@ fn show_filling(filling: &Filling) -> String {
         Filling::None => "none".to_string(),
         Filling::NotEnough => "notenough".to_string(),
     }
+}
+
+fn show_settings(settings: &Settings) -> String {
+    let pair = |Address { source, dest }| format!("{source:04x}{dest:04x}");
+    let address = settings.address.map_or("-".to_string(), pair);
+    format!("settings {} {} {} {address}", u8::from(settings.fec), settings.m, settings.mtu)
 }
 
 fn show_plan(plan: &plan::Plan) -> String {

@@ -26,8 +26,10 @@ pub struct Settings {
     pub address: Option<Address>,
 }
 
-/// The house default (document 01, "Bounds").
-pub const HOUSE: Settings = Settings { fec: true, m: 2, mtu: 1_400, address: None };
+/// The house default (document 02, Item 5).
+pub const HOUSE: Settings = Settings { fec: true, m: 1, mtu: 1_400, address: None };
+/// The setting for two losses, the house default of document 01, "Bounds".
+pub const TWO_LOSSES: Settings = Settings { fec: true, m: 2, mtu: 1_400, address: None };
 
 /// The sizes under their names in document 01; `most` is S and `total` is L. Without FEC c, k, z
 /// and n are 0. `losses` is how many fragments may be lost whichever they are: what the sender is

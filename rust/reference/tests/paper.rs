@@ -1,6 +1,6 @@
 //! What document 01 says that a line of the console does not show.
 
-use reference::plan::{plan, Plan, Settings, HOUSE};
+use reference::plan::{plan, Plan, Settings, HOUSE, TWO_LOSSES};
 use reference::receiver::{Kept, Received, Table, LENT};
 use reference::{af, crc, field, number, sender, tag};
 
@@ -77,10 +77,12 @@ fn starred_rows() {
     assert_eq!(chunks(with(2, 12)), (1, 12, 0));
     assert_eq!((with(5, 414).f, with(5, 414).s), (32, 16));
     assert_eq!((chunks(with(2, 415)), with(2, 415).f, with(2, 415).s), ((3, 139, 2), 12, 47));
-    assert_eq!(
-        (chunks(with(2, 8_192)), with(2, 8_192).f, with(2, 8_192).s),
-        ((40, 205, 8), 16, 633)
-    );
+    let longest = |settings| {
+        let plan = plan(&settings, 8_192).unwrap();
+        (chunks(plan), plan.f, plan.s, plan.losses)
+    };
+    assert_eq!(longest(TWO_LOSSES), ((40, 205, 8), 16, 633, 2));
+    assert_eq!(longest(HOUSE), ((40, 205, 8), 11, 920, 1)); // document 02, Item 5
     assert_eq!(without(1_386).f, 1);
     assert_eq!((without(1_387).f, without(1_387).s, without(1_387).payload(1)), (2, 694, 693));
     assert_eq!((field::power(8), field::power(9)), (29, 58));
@@ -90,7 +92,7 @@ fn starred_rows() {
 #[test]
 fn three_lost_rebuild_and_no_four() {
     let packet = packet(LENGTH);
-    let fragments = cut(&HOUSE, &packet);
+    let fragments = cut(&TWO_LOSSES, &packet);
     for lost in (0u32..1 << 12).filter(|lost| (3..=4).contains(&lost.count_ones())) {
         let mut desk = Desk::new();
         let come = (0..12).filter(|i| lost >> i & 1 == 0);
@@ -107,7 +109,7 @@ fn three_lost_rebuild_and_no_four() {
 
 #[test]
 fn refusals_leave_everything_and_13_keeps_the_fragment() {
-    let fragments = cut(&HOUSE, &packet(LENGTH));
+    let fragments = cut(&TWO_LOSSES, &packet(LENGTH));
     let mut desk = Desk::new();
     for fragment in &fragments[..8] {
         assert_eq!(desk.take(fragment), kept(Kept::Waits));
@@ -127,7 +129,7 @@ fn refusals_leave_everything_and_13_keeps_the_fragment() {
 
 #[test]
 fn a_record_out_of_range_is_14_before_all_else() {
-    let fragments = cut(&HOUSE, &packet(LENGTH));
+    let fragments = cut(&TWO_LOSSES, &packet(LENGTH));
     let mut desk = Desk::new();
     assert_eq!(desk.take(&fragments[0]), kept(Kept::Waits));
     desk.table.places[0].as_mut().unwrap().fcount = 257;

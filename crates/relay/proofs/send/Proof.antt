@@ -8,8 +8,8 @@ use Rattle.relay.proofs.send.Tie as tie
 slice-aggregate-arrive : tie.Need-slice-aggregate-arrive
 slice-aggregate-arrive c = sym (length-take-le _ _ (search needs))
 
-house-requires : tie.Need-house-requires
-house-requires c κs = search needs
+two-losses-requires : tie.Need-two-losses-requires
+two-losses-requires c κs = search needs
 
 slice-aggregate-fragment : tie.Need-slice-aggregate-fragment
 slice-aggregate-fragment c = search needs
@@ -48,7 +48,7 @@ pub send-spec : {M : Type 1} → statement M
 send-spec =
     tie.close
     (tie.spec
-    house-requires
+    two-losses-requires
     slice-aggregate-fragment
     fragment-requires
     enum-known-n
