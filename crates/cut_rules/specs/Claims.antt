@@ -92,7 +92,7 @@ C6 = (g : Settings) (l : ℕ) → Taken g l → g .fec ≡ true → Bears g l (a
 abbrev pub AssuresM : Type 0
 AssuresM = (g : Settings) (l : ℕ) → assured g l ≡ g .m
 
--- g is a setting for w losses: it takes every packet, its plan tells w, and any w lost fragments leave enough
+-- demand 3, "A sender set for m losses": at g, set for w, every packet is taken, its plan tells w, and any w lost fragments leave enough
 pub record SetFor (g : Settings) (w : ℕ) : Type 0 where
   pub takes : (l : ℕ) → least-l ≤ l → l ≤ most-l → Taken g l
   pub tells : (l : ℕ) → assured g l ≡ w

@@ -54,7 +54,8 @@ same-length-2 c = search needs
 
 returns-2 : tie.Need-returns-2
 returns-2 c =
-    let A = c .before .before .before .before .before .before .before .before .before .before .before .before .before .before .before .before .before .before .before .before .before .args in
+    let A = c .before .before .before .before .before .before .before .before .before .before .before .before .before .before .before .before
+    .before .before .before .before .before .args in
     let Plain = c .before .before .before .before .before .before .before .before .before .before .before .before .before .before .plain2 in
     let Source = c .before .before .before .before .before .before .before .before .hex in
     goes _ (goes _ (wrote (A .out .now) (A .at) _ (omega arith) (Plain .ensures)) (Source .ensures)) (c .before .before .hex2 .ensures)
