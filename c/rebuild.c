@@ -79,8 +79,8 @@ static void receive(struct traffic *t, size_t i)
         deliver(t, receipt.length);
 }
 
-/* The line: it loses the fragments 3, 7, .., as many as the cut bears, which is one at the house default, and brings fragment 5 of the first
- * packet twice. */
+/* The line: it loses the fragments 3, 7, .., as many as the plan says may be lost, which is one at the house default, and brings fragment 5 of
+ * the first packet twice. */
 static void carry(struct traffic *t, size_t i)
 {
     if (i >= t->sent.f)

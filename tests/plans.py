@@ -1,4 +1,4 @@
-"""Plans of the PFT layer, computed by themselves from document 01 with whole numbers.
+"""Plans of the PFT layer, computed by themselves from document 01 with whole numbers, and the settings that it and document 02 name.
 
     plans.py FEC M MTU ADDR L      prints the answer to one question
     plans.py                       reads such questions from standard input, one a line

@@ -3,8 +3,8 @@ crates/ask/stdout.
 
     python3 tests/vectors.py
 
-The answers come from crc.txt (made by a peer), from plans.py and fields.py (computed from document
-01), from chunks.py (of parity.txt, made by a peer), from packets.py (written out beside the
+The answers come from crc.txt (made by a peer), from plans.py and fields.py (computed from documents
+01 and 02), from chunks.py (of parity.txt, made by a peer), from packets.py (written out beside the
 sentence of document 01 that gives it, or by its own reader), from fragments.py (by its own sender),
 from receiving.py (by hand and by its own receiver) and from the lists below. None is taken from the
 program. Running this again gives the same bytes.
@@ -142,7 +142,7 @@ def named_settings():
         ask_plan(*plans.HOUSE, l)
     silent("# what has no such name")
     for line in ("house 1", "house -", "house 8192", "House", "HOUSE", "hous", "houses", "house:", "twolosses 2", "twolosses -", "TwoLosses",
-                 "twoloss", "twolossess", "two_losses", "two losses", "onelosses", "settings", "settings 1 1 1400 -", "default"):
+                 "twoloss", "twolossess", "two_losses", "two losses", "onelosses", "settings", "settings 1 1 1400 -", "default", "house ", " house", "twolosses "):
         ask(line, "unknown")
 
 

@@ -49,7 +49,7 @@ struct bailhammer_settings {
     struct bailhammer_address address; /* what each header has, or none */
 };
 
-/* The house default: const struct bailhammer_settings settings = BAILHAMMER_HOUSE_SETTINGS; and the setting for two losses. */
+/* The house default and the setting for two losses: const struct bailhammer_settings settings = BAILHAMMER_HOUSE_SETTINGS; */
 #define BAILHAMMER_HOUSE_SETTINGS {BAILHAMMER_HOUSE, {BAILHAMMER_NO_ADDRESS}}
 #define BAILHAMMER_TWO_LOSSES_SETTINGS {BAILHAMMER_TWO_LOSSES, {BAILHAMMER_NO_ADDRESS}}
 
@@ -64,7 +64,7 @@ struct bailhammer_cut {
     size_t L;      /* the bytes that are cut */
     size_t f;      /* fragments */
     size_t s;      /* payload bytes of each; without FEC the last may have fewer */
-    size_t losses; /* the lost fragments that the cut bears, whichever they are */
+    size_t losses; /* the lost fragments that the cut is made to bear, whichever they are */
 };
 
 /* Plans the cut of an AF packet of l bytes.

@@ -95,7 +95,7 @@ set-for g fits with-fec more wide =
       bears = λ l taken. c6m g l taken with-fec;
     }
 
--- the house default takes every packet, tells one loss and bears any one
+-- at the house default no length of 12 to 8,192 is refused, the plan tells one loss, and any one lost leaves enough
 pub house-bears : HouseBears
 unfolding fit size.h size.addressBytes
 house-bears = set-for houseOf refl refl (λ (none : 1 ≡ 0). omega arith) (lit≤ tt)
@@ -108,7 +108,7 @@ house-bears-more l taken lost few =
     let all = bearing.borne houseOf l (within houseOf l taken) refl 24 2 thin (lit≤ tt) lost few in
     (all, suffice-from lost (size.f houseOf l) (size.n l) (size.c l) (λ j h. all j))
 
--- the setting for two losses takes every packet, tells two and bears any two
+-- at the setting for two losses no length of 12 to 8,192 is refused, the plan tells two, and any two lost leave enough
 pub two-borne : TwoBorne
 unfolding fit size.h size.addressBytes
 two-borne = set-for twoLossesOf refl refl (λ (none : 2 ≡ 0). omega arith) (lit≤ tt)

@@ -1,4 +1,4 @@
--- The theorems of the cut, C2 to C6, as they can be held against document 01. Each is proved in proofs/Proved.antt.
+-- The theorems of the cut, C2 to C6, as they can be held against document 01, and document 02's Item 5. Each is proved in proofs/Proved.antt.
 use mathlib.Core.Path.{_≡_}
 use mathlib.Core.Bool.{Bool, true, false}
 use mathlib.Core.List.{List}
@@ -92,7 +92,7 @@ C6 = (g : Settings) (l : ℕ) → Taken g l → g .fec ≡ true → Bears g l (a
 abbrev pub AssuresM : Type 0
 AssuresM = (g : Settings) (l : ℕ) → assured g l ≡ g .m
 
--- demand 3, "A sender set for m losses": at g, set for w, every packet is taken, its plan tells w, and any w lost fragments leave enough
+-- demand 3, "A sender set for m losses": at g, set for w, no length of 12 to 8,192 is refused, the plan tells w, any w lost leave enough
 pub record SetFor (g : Settings) (w : ℕ) : Type 0 where
   pub takes : (l : ℕ) → least-l ≤ l → l ≤ most-l → Taken g l
   pub tells : (l : ℕ) → assured g l ≡ w
@@ -102,11 +102,11 @@ pub record SetFor (g : Settings) (w : ℕ) : Type 0 where
 abbrev pub HouseBears : Type 0
 HouseBears = SetFor houseOf 1
 
--- one is what is promised, and two happen to be borne too: by document 000's rule a fragment has at most 24 of the 48 bytes that a chunk may miss
+-- one is promised, and two are borne too: by document 000's rule a fragment has at most 24 bytes of a chunk, which may miss 48
 abbrev pub HouseBearsMore : Type 0
 HouseBearsMore = (l : ℕ) → Taken houseOf l → Bears houseOf l 2
 
--- "Two products rely on surviving two losses .. They take the old setting under a name of its own, and their promises don't change"
+-- document 02, Item 5: what the products take that "rely on surviving two losses" is a setting for two
 abbrev pub TwoBorne : Type 0
 TwoBorne = SetFor twoLossesOf 2
 

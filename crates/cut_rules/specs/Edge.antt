@@ -9,7 +9,7 @@ use Rattle.cut_rules.specs.Sizes as size
 use Rattle.cut_rules.specs.declared.Address.the-variants.{None}
 use Rattle.cut_rules.specs.declared.Settings.{Settings}
 
--- what the definitions give, and what the document says
+-- what the definitions give, and what is due: the document's figures, or those worked out by its formulas
 pub record Row : Type 0 where
   pub gives : List ℕ
   pub says : List ℕ
@@ -46,7 +46,7 @@ rows =
     ∷ row ((size.f (fec 2) 415 * size.s (fec 2) 415 - size.L (fec 2) 415) ∷ []) (3 ∷ [])
     -- l 8,192, default: c 40, k 205, z 8, f 16, s 633 (document 01's default, the setting for two losses now)
     ∷ row (size.c 8192 ∷ size.k 8192 ∷ size.z 8192 ∷ size.f twoLossesOf 8192 ∷ size.s twoLossesOf 8192 ∷ []) (40 ∷ 205 ∷ 8 ∷ 16 ∷ 633 ∷ [])
-    -- document 02, Item 5: "the default case at 8,192 bytes is worked again beside the old one": f 11, s 920
+    -- document 02, Item 5: "the default case at 8,192 bytes is worked again beside the old one"; by document 01's formulas f 11, s 920
     ∷ row (size.c 8192 ∷ size.k 8192 ∷ size.z 8192 ∷ size.f houseOf 8192 ∷ size.s houseOf 8192 ∷ []) (40 ∷ 205 ∷ 8 ∷ 11 ∷ 920 ∷ [])
     -- no FEC, MTU 1,400: l 1,386 gives f 1; 1,387 gives f 2, s 694, last 693
     ∷ row (size.f plain 1386 ∷ []) (1 ∷ [])

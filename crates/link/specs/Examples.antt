@@ -29,7 +29,7 @@ use Rattle.link.specs.Demand.{keyFor, Scene, Begins, Among, enoughAfter,
 abbrev pub here : Address
 here = Pair 1 2
 
--- the setting for two losses, but with this address
+-- document 01, "Bounds": the setting for two losses, but with this address
 abbrev pub twoLosses : Settings
 twoLosses = record { fec = twoLossesOf .fec; m = twoLossesOf .m; mtu = twoLossesOf .mtu; address = here }
 

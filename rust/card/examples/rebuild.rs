@@ -69,8 +69,8 @@ fn receive(receiver: &mut Receiver, traffic: &mut Traffic, i: usize) -> Result<(
     Ok(())
 }
 
-/// The line: it loses the fragments 3, 7, .., as many as the cut bears, which is one at the house
-/// default, and brings fragment 5 of packet 7 twice.
+/// The line: it loses the fragments 3, 7, .., as many as the plan says may be lost, which is one at
+/// the house default, and brings fragment 5 of packet 7 twice.
 fn carry(receiver: &mut Receiver, traffic: &mut Traffic, i: usize) -> Result<(), Refused> {
     if i % 4 == 3 && i / 4 < traffic.losses {
         println!("packet {} fragment {i}: lost", traffic.number);

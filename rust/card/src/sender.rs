@@ -64,7 +64,7 @@ pub struct Plan {
     pub f: u16,
     /// Payload bytes of each; without FEC the last may have fewer.
     pub s: u16,
-    /// The lost fragments that the cut bears, whichever they are.
+    /// The lost fragments that the cut is made to bear, whichever they are.
     pub losses: u16,
 }
 

@@ -1,4 +1,4 @@
-//! What document 01 says that a line of the console does not show.
+//! What documents 01 and 02 say that a line of the console does not show.
 
 use reference::plan::{plan, Plan, Settings, HOUSE, TWO_LOSSES};
 use reference::receiver::{Kept, Received, Table, LENT};
