@@ -122,14 +122,6 @@ static struct bailhammer_settings draw_settings(void)
     return settings;
 }
 
-/* Settings that have a name: what the macro for structs has is what the macro for calls has. */
-static void same_settings(struct bailhammer_settings settings, size_t fec, size_t m, size_t mtu, size_t addressed, uint16_t source, uint16_t dest)
-{
-    size_t ours[] = {settings.fec, settings.m, settings.mtu, settings.address.given, settings.address.source, settings.address.dest};
-    size_t due[] = {fec, m, mtu, addressed, source, dest};
-    same("named settings", ours, due, sizeof due);
-}
-
 static void faces_of_settings(void)
 {
     const struct bailhammer_settings house = BAILHAMMER_HOUSE_SETTINGS, two_losses = BAILHAMMER_TWO_LOSSES_SETTINGS;

@@ -26,6 +26,14 @@ static void same(const char *what, const void *one, const void *other, size_t by
     exit(1);
 }
 
+/* Settings that have a name: what the macro for structs has is what the macro for calls has. */
+static void same_settings(struct bailhammer_settings settings, size_t fec, size_t m, size_t mtu, size_t addressed, uint16_t source, uint16_t dest)
+{
+    size_t ours[] = {settings.fec, settings.m, settings.mtu, settings.address.given, settings.address.source, settings.address.dest};
+    size_t due[] = {fec, m, mtu, addressed, source, dest};
+    same("named settings", ours, due, sizeof due);
+}
+
 /* The number that both calls gave: the same, and one with a meaning. */
 static void same_number(const char *call, size_t one, size_t other)
 {
