@@ -7,6 +7,7 @@ pub use cut_rules::Figures;
 pub use cut_rules::LEAST_H;
 pub use cut_rules::MOST_H;
 pub use cut_rules::Planned;
+pub use cut_rules::Rule;
 pub use cut_rules::Settings;
 pub use plans::header_length;
 pub use plans::house;

@@ -3,6 +3,7 @@ use crate::Address;
 use crate::Figures;
 use crate::LEAST_H;
 use crate::Planned;
+use crate::Rule;
 use crate::Settings;
 use base::LEAST_L;
 use base::MOST_F;
@@ -17,20 +18,22 @@ ghost use Prim.Native.Nat.{_+_, _≤_, _<_};
 ghost use lib.Dec.{ltb, leb};
 ghost use Rattle.base_rules.specs.Bounds.{least-l, most-l, most-f, most-k, place, most-mtu};
 ghost use Rattle.base_rules.specs.Round.{ceil};
-ghost use Rattle.cut_rules.specs.Sizes.{c, k, h, headerLength, most-h, addressBytes, divisor, S, L, assured};
+ghost use Rattle.cut_rules.specs.Sizes.{c, k, h, headerLength, most-h, addressBytes, divisor, S, L, assuredBy, assured};
 ghost use Rattle.cut_rules.specs.Sizes.{f as Sizes·f};
 ghost use Rattle.cut_rules.specs.declared.Address.the-variants.{None};
+ghost use Rattle.cut_rules.specs.declared.Rule.the-variants.{Older, Newer};
 ghost use Rattle.cut_rules.specs.Plan.{houseOf, twoLossesOf, fit, planOf, figuresOf, valuesOf, numberOf};
 
-// With FEC, for m losses, and without an address.
+// With FEC, for m losses, without an address, by the older rule.
 fn set_for(m: usize, mtu: usize) -> Settings
-    ensures { λ r. ⌜ r ≡ record { fec = true; m = m; mtu = mtu; address = None } ⌝ }
+    ensures { λ r. ⌜ r ≡ record { fec = true; m = m; mtu = mtu; address = None; rule = Older } ⌝ }
 {
     Settings {
         fec: true,
         m,
         mtu,
         address: Address::None,
+        rule: Rule::Older,
     }
 }
 
@@ -141,7 +144,22 @@ fn divided(g: Settings) -> usize
     requires { ⌜ fit g ≡ true ⌝ }
     ensures { λ r. ⌜ r ≡ divisor g ⌝ }
 {
-    g.m + 1
+    let rule = g.rule;
+    match rule {
+        Rule::Older => g.m + 1,
+        Rule::Newer => g.m,
+    }
+}
+
+// How many lost fragments a cut of c chunks by the newer rule is made to bear.
+fn sure_newer(m: usize, c: usize) -> usize
+    ensures { λ r. ⌜ r ≡ assuredBy Newer m c ⌝ }
+{
+    if m == 5 {
+        if 1 < c { 4 } else { m }
+    } else {
+        m
+    }
 }
 
 // How many lost fragments the cut is made to bear.
@@ -149,7 +167,11 @@ fn sure(g: Settings, l: usize) -> usize
     requires { ⌜ (least-l ≤ l) × (l ≤ most-l) ⌝ }
     ensures { λ r. ⌜ r ≡ assured g l ⌝ }
 {
-    g.m
+    let rule = g.rule;
+    match rule {
+        Rule::Older => g.m,
+        Rule::Newer => sure_newer(g.m, chunks(l)),
+    }
 }
 
 // S: the most bytes of a fragment.

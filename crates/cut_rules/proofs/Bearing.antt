@@ -1,16 +1,19 @@
 -- C2, C3 and C6 at the settings: the sizes of a cut that is not refused, and the losses that it bears. Assumes nothing.
-use mathlib.Core.Path.{_≡_, ap}
-use mathlib.Core.Bool.{Bool, true}
+use mathlib.Core.Path.{_≡_, refl, ap, sym, subst}
+use mathlib.Core.Bool.{Bool, true, false, cond, _&&_}
 use Prim.Native.Nat.{ℕ, zero, suc, _+_, _-_, _*_, _/_, _≤_, _<_}
 use native.Mathlib.Nat.{le-mul-of-pos-right, le-div-iff-mul-le, mul-le-mul-left, mul-le-mul-right}
 use native.Mathlib.Omega.{arith}
-use lib.Dec.{lit≤}
+use borrow.Author.Tests.{eqb-true, eqb-false, ltb-false}
+use lib.Dec.{lit≤, eqb, ltb}
 use Rattle.base_rules.specs.Bounds.{least-l, most-l, most-f, most-m, most-k, parity}
 use Rattle.base_rules.specs.Round.{ceil}
 use Rattle.base_rules.proofs.Ceil as ceils
-use Rattle.cut_rules.specs.Sizes.{c, k, n, h, divisor, S, L, f, s, assured, receivedC}
+use Rattle.cut_rules.specs.Sizes.{c, k, n, h, dividedBy, divisor, S, L, f, s, assuredBy, assured, receivedC}
 use Rattle.cut_rules.specs.Missing.{losses, missing}
 use Rattle.cut_rules.specs.Claims.{Sized}
+use Rattle.cut_rules.specs.declared.Rule.{Rule}
+use Rattle.cut_rules.specs.declared.Rule.the-variants.{Older, Newer}
 use Rattle.cut_rules.specs.declared.Settings.{Settings}
 use Rattle.cut_rules.proofs.ChunkSizes as chunk
 use Rattle.cut_rules.proofs.FragmentSizes as fragment
@@ -72,6 +75,39 @@ shares (suc (suc (suc (suc zero)))) h = lit≤ tt
 shares (suc (suc (suc (suc (suc zero))))) h = lit≤ tt
 shares (suc (suc (suc (suc (suc (suc m)))))) h = absurd (omega arith)
 
+-- m times 48 / m rounded up too, where m is at most 4
+shares-newer : (m : ℕ) → m ≤ 4 → m * ceil parity m ≤ parity
+unfolding ceil
+shares-newer zero h = lit≤ tt
+shares-newer (suc zero) h = lit≤ tt
+shares-newer (suc (suc zero)) h = lit≤ tt
+shares-newer (suc (suc (suc zero))) h = lit≤ tt
+shares-newer (suc (suc (suc (suc zero)))) h = lit≤ tt
+shares-newer (suc (suc (suc (suc (suc m))))) h = absurd (omega arith)
+
+-- by either rule, from what both have: S is at most 48 c over the divisor
+each-shares : (r : Rule) (m c S : ℕ) → (m ≡ 0 → ⊥) → m ≤ most-m → 0 < c → S ≤ parity * c / dividedBy r m
+    → (t : ℕ) × (S ≤ c * t) × (assuredBy r m c * t ≤ parity)
+each-shares Older m c S more few some h = (ceil parity (m + 1), loss.thin c (m + 1) S (omega arith) h, shares m few)
+each-shares Newer m c S more few some h = either-m (eqb m 5) refl
+  where
+    either-m : (b : Bool) → eqb m 5 ≡ b → (t : ℕ) × (S ≤ c * t) × (cond (b && ltb 1 c) 4 m * t ≤ parity)
+    either-m false e = (ceil parity m, loss.thin c m S (omega arith) h, shares-newer m (omega (arith, eqb-false m 5 e)))
+    either-m true e =
+        let five : m ≡ 5 = eqb-true m 5 e in
+        let cut : S ≤ parity * c / 5 = omega (arith, h, ap (λ (x : ℕ). parity * c / x) five) in
+        either-c (ltb 1 c) refl five cut
+      where
+        -- a fifth of 48 c is at most 10 c, and with one chunk at most 9
+        either-c : (b : Bool) → ltb 1 c ≡ b → m ≡ 5 → S ≤ parity * c / 5 → (t : ℕ) × (S ≤ c * t) × (cond b 4 m * t ≤ parity)
+        either-c true e five cut = (10, omega (arith, cut), lit≤ tt)
+        either-c false e five cut = let one : c ≡ 1 = omega (arith, ltb-false 1 c e) in (9, omega (arith, cut, one), omega (arith, five))
+
+-- no loss takes nothing, by either rule
+each-none : (r : Rule) (m c S : ℕ) → m ≡ 0 → assuredBy r m c * S ≤ parity
+each-none Older m c S e = omega (arith, ap (λ (x : ℕ). x * S) e)
+each-none Newer m c S e = subst (λ (x : ℕ). cond (eqb x 5 && ltb 1 c) 4 x * S ≤ parity) (sym e) (omega arith)
+
 -- a fragment has at most t bytes of a chunk, and so many times t is at most 48
 Thin : Settings → ℕ → Type 0
 Thin g l = (t : ℕ) × (S g l ≤ c l * t) × (assured g l * t ≤ parity)
@@ -81,9 +117,9 @@ unfolding Thin assured divisor
 each-bears g l ok from =
     by-m (Thin g l) (g .m)
     (λ (none : g .m ≡ 0).
-    (S g l, omega (arith, le-mul-of-pos-right (S g l) (chunk.c-some l (omega arith))), omega (arith, ap (λ (x : ℕ). x * S g l) none)))
+    (S g l, omega (arith, le-mul-of-pos-right (S g l) (chunk.c-some l (omega arith))), each-none (g .rule) (g .m) (c l) (S g l) none))
     (λ (more : g .m ≡ 0 → ⊥).
-    (ceil parity (g .m + 1), loss.thin (c l) (g .m + 1) (S g l) (omega arith) (omega (arith, S-both g l more)), shares (g .m) (ok .m-most)))
+    each-shares (g .rule) (g .m) (c l) (S g l) more (ok .m-most) (chunk.c-some l (omega arith)) (omega (arith, S-both g l more)))
 
 -- with FEC, where a fragment of a cut in bounds has at most t bytes of a chunk and w times t is at most 48, after any w losses or fewer no chunk
 -- misses more than 48 bytes
@@ -95,7 +131,7 @@ borne g l in-bounds fec t w thin few =
     let n>0 : 0 < n l = omega (arith, chunk.n-least l l>0) in
     rw (L-fec g l fec) (loss.borne (c l) (n l) (S g l) t w (chunk.c-some l l>0) n>0 (S>0 g l in-bounds) thin few)
 
--- with FEC, where at most m fragments of a cut in bounds are lost, no chunk misses more than 48 bytes
+-- with FEC, where at most as many fragments of a cut in bounds are lost as it assures, no chunk misses more than 48 bytes
 pub bears : (g : Settings) (l : ℕ) → Within g l → g .fec ≡ true
     → (lost : ℕ → Bool) → losses lost (f g l) ≤ assured g l → (j : ℕ) → missing lost (f g l) (n l) j ≤ parity
 unfolding Thin

@@ -6,4 +6,5 @@ pub mod Interleaving
 pub mod Blocks
 pub mod PlanCases
 pub mod Bearing
+pub mod Editions
 pub mod Proved

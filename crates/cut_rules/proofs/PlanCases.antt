@@ -15,10 +15,12 @@ use Rattle.base_rules.specs.Tests.{first}
 use Rattle.base_rules.proofs.Logic.{either, and-left, and-right}
 use Rattle.base_rules.proofs.Firsts.{due, skip, none-due, clear, clear-rest}
 use Rattle.base_rules.proofs.Answers.{grants, refuses}
-use Rattle.cut_rules.specs.Sizes.{c, k, z, n, addressBytes, headerLength, most-h, h, divisor, S, L, f, s, assured}
+use Rattle.cut_rules.specs.Sizes.{c, k, z, n, addressBytes, headerLength, most-h, h, dividedBy, divisor, S, L, f, s, assured}
 use Rattle.cut_rules.specs.Plan.{fit, planFault, withFec, figuresOf, planOf, valuesOf, numberOf}
 use Rattle.cut_rules.specs.declared.Address.{Address}
 use Rattle.cut_rules.specs.declared.Address.the-variants.{None, Pair}
+use Rattle.cut_rules.specs.declared.Rule.{Rule}
+use Rattle.cut_rules.specs.declared.Rule.the-variants.{Older, Newer}
 use Rattle.cut_rules.specs.declared.Settings.{Settings}
 use Rattle.cut_rules.specs.declared.Figures.{Figures}
 use Rattle.cut_rules.specs.declared.Planned.{Planned}
@@ -97,11 +99,19 @@ h-most g = length-most (g .fec) (g .address)
 -- at settings in bounds with m above 0, what 48 c is divided by is not 0
 pub divisor-some : (g : Settings) → Fit g → (g .m ≡ 0 → ⊥) → 0 < divisor g
 unfolding divisor
-divisor-some g ok more = omega arith
+divisor-some g ok more = some (g .rule) (g .m) more
+  where
+    some : (r : Rule) (m : ℕ) → (m ≡ 0 → ⊥) → 0 < dividedBy r m
+    some Older m more = omega arith
+    some Newer m more = omega arith
 
 pub divisor-most : (g : Settings) → Fit g → divisor g ≤ most-m + 1
 unfolding divisor
-divisor-most g ok = omega (arith, ok .m-most)
+divisor-most g ok = few (g .rule) (g .m) (ok .m-most)
+  where
+    few : (r : Rule) (m : ℕ) → m ≤ most-m → dividedBy r m ≤ most-m + 1
+    few Older m h = omega arith
+    few Newer m h = omega arith
 
 -- ---- S, where m is 0 and where it is not
 

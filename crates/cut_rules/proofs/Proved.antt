@@ -1,4 +1,4 @@
--- The claims of specs/Claims.antt, each by citation. Assumes nothing.
+-- The claims of specs/Claims.antt, each by citation; those that set the two rules of sizes side by side are in Editions.antt. Assumes nothing.
 use mathlib.Core.Path.{_≡_, refl, sym, ap}
 use mathlib.Core.Bool.{Bool, true, false}
 use mathlib.Core.List.{List, map}
@@ -11,7 +11,7 @@ use Rattle.base_rules.specs.Bounds.{parity}
 use Rattle.base_rules.specs.Round.{ceil}
 use Rattle.base_rules.specs.Bytes.{partOf}
 use Rattle.base_rules.proofs.Parts.{length-left}
-use Rattle.cut_rules.specs.Claims.{Taken, C2, C3, C4, C5, C6, C6m, AssuresM, SetFor, HouseBears, HouseBearsMore, TwoBorne, AnyThree, NoFour, Parted}
+use Rattle.cut_rules.specs.Claims.{Taken, C2, C3, C4, C5, C6, C6m, SureOfM, SetFor, HouseBears, HouseBearsMore, TwoBorne, AnyThree, NoFour, Parted}
 use Rattle.cut_rules.specs.Edge.{Row, rows, fec}
 use Rattle.cut_rules.specs.Missing.{losses, missing, worst}
 use Rattle.cut_rules.specs.Plan.{houseOf, twoLossesOf, fit}
@@ -19,6 +19,7 @@ use Rattle.cut_rules.specs.Sizes as size
 use Rattle.cut_rules.specs.declared.Settings.{Settings}
 use Rattle.cut_rules.proofs.Bearing as bearing
 use Rattle.cut_rules.proofs.Blocks.{window}
+use Rattle.cut_rules.proofs.Editions.{assured-is}
 use Rattle.cut_rules.proofs.Interleaving.{woven, joined, part-byte}
 use Rattle.cut_rules.proofs.LossCounts.{most, fewest, firsts-lost, firsts-take, worst-more}
 use Rattle.cut_rules.proofs.PlanCases.{fitted, within, S-both, L-plain, plan-taken}
@@ -69,36 +70,31 @@ unfolding missing
 c5 n f some =
     ((λ lost j. most lost f some (j * n) n), (λ w few. (firsts-lost n f w some few, firsts-take n f w some few)))
 
--- with FEC, after any m losses or fewer no chunk misses more than 48 bytes, and what is held suffices
+-- with FEC, after the losses that a cut assures or fewer no chunk misses more than 48 bytes, and what is held suffices
 pub c6 : C6
 c6 g l taken with-fec lost few =
     let all = bearing.bears g l (within g l taken) with-fec lost few in
     (all, suffice-from lost (size.f g l) (size.n l) (size.c l) (λ j h. all j))
 
--- the losses that a cut is made to bear are those that its sender is set for
-pub assures-m : AssuresM
-unfolding size.assured
-assures-m g l = refl
-
--- so any m lost fragments leave enough, where a sender is set for m
+-- so any m lost fragments leave enough there, where a sender is set for m
 pub c6m : C6m
-c6m g l taken with-fec lost few = c6 g l taken with-fec lost (omega (arith, few, assures-m g l))
+c6m g l taken with-fec sure lost few = c6 g l taken with-fec lost (omega (arith, few, assured-is g l .m-sure sure))
 
 -- ---- the settings that have a name
 
 -- settings in bounds with FEC, m above 0 and 41 bytes behind a header are settings for m losses
-set-for : (g : Settings) → fit g ≡ true → g .fec ≡ true → (g .m ≡ 0 → ⊥) → 41 ≤ g .mtu - size.h g → SetFor g (g .m)
-set-for g fits with-fec more wide =
+set-for : (g : Settings) → fit g ≡ true → g .fec ≡ true → (g .m ≡ 0 → ⊥) → 41 ≤ g .mtu - size.h g → ((l : ℕ) → SureOfM g l) → SetFor g (g .m)
+set-for g fits with-fec more wide sure =
     record {
       takes = λ l from to. sym (plan-taken g l fits from to (bearing.few g l (fitted g fits) with-fec more wide from to));
-      tells = λ l. assures-m g l;
-      bears = λ l taken. c6m g l taken with-fec;
+      tells = λ l. assured-is g l .m-sure (sure l);
+      bears = λ l taken. c6m g l taken with-fec (sure l);
     }
 
 -- at the house default no length of 12 to 8,192 is refused, the plan tells one loss, and any one lost leaves enough
 pub house-bears : HouseBears
 unfolding fit size.h size.addressBytes
-house-bears = set-for houseOf refl refl (λ (none : 1 ≡ 0). omega arith) (lit≤ tt)
+house-bears = set-for houseOf refl refl (λ (none : 1 ≡ 0). omega arith) (lit≤ tt) (λ l newer (five : 1 ≡ 5). omega arith)
 
 -- at the house default any two lost fragments leave enough too: 24 bytes of a chunk twice are 48
 pub house-bears-more : HouseBearsMore
@@ -111,13 +107,13 @@ house-bears-more l taken lost few =
 -- at the setting for two losses no length of 12 to 8,192 is refused, the plan tells two, and any two lost leave enough
 pub two-borne : TwoBorne
 unfolding fit size.h size.addressBytes
-two-borne = set-for twoLossesOf refl refl (λ (none : 2 ≡ 0). omega arith) (lit≤ tt)
+two-borne = set-for twoLossesOf refl refl (λ (none : 2 ≡ 0). omega arith) (lit≤ tt) (λ l newer (five : 2 ≡ 5). omega arith)
 
 -- ---- document 01's edge
 
 -- the definitions give the sizes in all the starred rows of document 01's edge, and in the row that document 02 adds
 pub edge-rows : map (λ (r : Row). r .gives) rows ≡ map (λ (r : Row). r .says) rows
-unfolding rows partOf ceil size.c size.k size.z size.n size.addressBytes size.h size.divisor size.S size.L size.f size.s
+unfolding rows partOf ceil worst size.c size.k size.z size.n size.addressBytes size.h size.divisor size.S size.L size.f size.s size.assured
 edge-rows = refl
 
 -- at l 415 and m 2 there are chunks of 187 bytes in 12 fragments

@@ -1,4 +1,5 @@
--- The theorems of the cut, C2 to C6, as they can be held against document 01, and document 02's Item 5. Each is proved in proofs/Proved.antt.
+-- The theorems of the cut, C2 to C6, as they can be held against document 01, and document 02's Items 5 and 6. Each is proved in
+-- proofs/Proved.antt.
 use mathlib.Core.Path.{_≡_}
 use mathlib.Core.Bool.{Bool, true, false}
 use mathlib.Core.List.{List}
@@ -8,10 +9,12 @@ use Rattle.base_rules.specs.Bounds.{least-l, most-l, most-k, place, parity}
 use Rattle.base_rules.specs.Bytes.{partOf}
 use Rattle.cut_rules.specs.Block.{withParity, blockOf}
 use Rattle.cut_rules.specs.Cells.{fragmentOf, cellOf}
-use Rattle.cut_rules.specs.Edge.{fec}
+use Rattle.cut_rules.specs.Edge.{fec, newer}
 use Rattle.cut_rules.specs.Missing.{losses, missing, suffice, worst, firsts}
-use Rattle.cut_rules.specs.Plan.{houseOf, twoLossesOf, planFault}
+use Rattle.cut_rules.specs.Plan.{houseOf, twoLossesOf, planFault, planOf}
 use Rattle.cut_rules.specs.Sizes.{c, k, z, n, S, L, f, s, assured, receivedC}
+use Rattle.cut_rules.specs.declared.Rule.{Rule}
+use Rattle.cut_rules.specs.declared.Rule.the-variants.{Older, Newer}
 use Rattle.cut_rules.specs.declared.Settings.{Settings}
 
 -- a cut of l bytes at g that is not refused
@@ -80,17 +83,56 @@ abbrev pub Bears : Settings → ℕ → ℕ → Type 0
 Bears g l w = (lost : ℕ → Bool) → losses lost (f g l) ≤ w
     → ((j : ℕ) → missing lost (f g l) (n l) j ≤ parity) × (suffice lost (f g l) (n l) (c l) ≡ true)
 
--- C6: "A sender set for m losses, 1 to 5, always leaves enough after any m": of the m that it is set for,
-abbrev pub C6m : Type 0
-C6m = (g : Settings) (l : ℕ) → Taken g l → g .fec ≡ true → Bears g l (g .m)
-
--- of the figure that its plan is answered with,
+-- C6: "A sender set for m losses, 1 to 5, always leaves enough after any m"; document 02, Item 6, has this sentence speak of the figure that
+-- the plan is answered with
 abbrev pub C6 : Type 0
 C6 = (g : Settings) (l : ℕ) → Taken g l → g .fec ≡ true → Bears g l (assured g l)
 
--- and the two are one
-abbrev pub AssuresM : Type 0
-AssuresM = (g : Settings) (l : ℕ) → assured g l ≡ g .m
+-- document 02, Item 6: where it is m by document 001's rule: "for m from 1 to 4. For m = 5 it does when c is 1"; by document 000's it always is
+abbrev pub SureOfM : Settings → ℕ → Type 0
+SureOfM g l = g .rule ≡ Newer → g .m ≡ 5 → c l ≤ 1
+
+-- "m, but 4 when m is 5 and c above 1 under the new rule"
+pub record Figure (g : Settings) (l : ℕ) : Type 0 where
+  pub m-sure : SureOfM g l → assured g l ≡ g .m
+  pub four-sure : g .rule ≡ Newer → g .m ≡ 5 → 1 < c l → assured g l ≡ 4
+
+-- that is the figure for all settings and lengths
+abbrev pub AssuredIs : Type 0
+AssuredIs = (g : Settings) (l : ℕ) → Figure g l
+
+-- C6 of the m that the sender is set for: "The setting m survives any m losses", where it does
+abbrev pub C6m : Type 0
+C6m = (g : Settings) (l : ℕ) → Taken g l → g .fec ≡ true → SureOfM g l → Bears g l (g .m)
+
+-- "otherwise four are sure and five not always": at l 414, m 5 and MTU 1,400 by document 001's rule there is a cut, and five lost fragments of
+-- it take 50 bytes of a chunk and leave too little
+pub record FiveNotAlways : Type 0 where
+  pub taken : Taken (newer 5) 414
+  pub fragments : f (newer 5) 414 ≡ 27
+  pub bytes : s (newer 5) 414 ≡ 19
+  pub five : losses (firsts 5) (f (newer 5) 414) ≡ 5
+  pub takes : missing (firsts 5) (f (newer 5) 414) (n 414) 0 ≡ 50
+  pub short : suffice (firsts 5) (f (newer 5) 414) (n 414) (c 414) ≡ false
+
+-- the settings g, but with this rule and this m
+abbrev pub withRule : Rule → ℕ → Settings → Settings
+withRule rule m g = record { fec = g .fec; m = m; mtu = g .mtu; address = g .address; rule = rule }
+
+-- two settings cut l bytes alike, or are refused alike
+pub record SameCut (a b : Settings) (l : ℕ) : Type 0 where
+  pub refusal : planFault a l ≡ planFault b l
+  pub room : S a l ≡ S b l
+  pub fragments : f a l ≡ f b l
+  pub bytes : s a l ≡ s b l
+
+-- document 001, note to the sizes: to copy exactly what the old version does, m may be chosen one higher. For m from 1 to 4 it is so
+abbrev pub OneUp : Type 0
+OneUp = (g : Settings) (m l : ℕ) → 1 ≤ m → m ≤ 4 → SameCut (withRule Newer (m + 1) g) (withRule Older m g) l
+
+-- document 02, Item 6, "with m above 0": at m 0, and without FEC, the rule changes nothing of the answer
+abbrev pub SameAtNone : Type 0
+SameAtNone = (g : Settings) (l : ℕ) → (g .fec ≡ true → g .m ≡ 0) → planOf (withRule Newer (g .m) g) l ≡ planOf (withRule Older (g .m) g) l
 
 -- demand 3, "A sender set for m losses": at g, set for w, no length of 12 to 8,192 is refused, the plan tells w, any w lost leave enough
 pub record SetFor (g : Settings) (w : ℕ) : Type 0 where

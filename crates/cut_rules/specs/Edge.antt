@@ -1,12 +1,15 @@
--- Document 01, "On each side of the edge": the starred rows of sizes, as one table; document 02, Item 5, adds a row.
+-- Document 01, "On each side of the edge": the starred rows of sizes, as one table; document 02 adds a row with Item 5 and one with Item 6.
 use mathlib.Core.Bool.{true, false}
 use mathlib.Core.List.{List, [], _∷_}
 use Prim.Native.Nat.{ℕ, _-_, _*_}
 use lib.ListN.{length, replicate}
 use Rattle.base_rules.specs.Bytes.{partOf}
+use Rattle.cut_rules.specs.Missing.{worst}
 use Rattle.cut_rules.specs.Plan.{houseOf, twoLossesOf}
 use Rattle.cut_rules.specs.Sizes as size
 use Rattle.cut_rules.specs.declared.Address.the-variants.{None}
+use Rattle.cut_rules.specs.declared.Rule.{Rule}
+use Rattle.cut_rules.specs.declared.Rule.the-variants.{Older, Newer}
 use Rattle.cut_rules.specs.declared.Settings.{Settings}
 
 -- what the definitions give, and what is due: the document's figures, or those worked out by its formulas
@@ -18,19 +21,27 @@ pub record Row : Type 0 where
 abbrev pub row : List ℕ → List ℕ → Row
 row a b = record { gives = a; says = b }
 
--- MTU 1,400 without address: FEC at m
+-- MTU 1,400 without address: FEC at m, by either rule
+abbrev pub fecBy : Rule → ℕ → Settings
+fecBy rule m = record { fec = true; m = m; mtu = 1400; address = None; rule = rule }
+
+-- by document 000's rule, which is document 01's
 abbrev pub fec : ℕ → Settings
-fec m = record { fec = true; m = m; mtu = 1400; address = None }
+fec m = fecBy Older m
+
+-- by document 001's rule, with which document 02, Item 6, is
+abbrev pub newer : ℕ → Settings
+newer m = fecBy Newer m
 
 -- the same without FEC
 abbrev pub plain : Settings
-plain = record { fec = false; m = 0; mtu = 1400; address = None }
+plain = record { fec = false; m = 0; mtu = 1400; address = None; rule = Older }
 
 -- document 01, "last": how many bytes the last fragment has, of a packet of l bytes that is cut without FEC
 abbrev pub lastOf : Settings → ℕ → ℕ
 lastOf g l = length (partOf (replicate l 0) (size.s g l) (size.f g l - 1))
 
--- document 01, "On each side of the edge": the starred rows of sizes, and document 02's beside the one that it works again
+-- document 01, "On each side of the edge": the starred rows of sizes, each of document 02's beside the one that it stands against
 unfoldable pub rows : List Row
 rows =
     -- l 207: c 1, k 207, z 0
@@ -41,6 +52,9 @@ rows =
     ∷ row (size.c 12 ∷ size.k 12 ∷ []) (1 ∷ 12 ∷ [])
     -- l 414, FEC, m 5, MTU 1,400: f 32, s 16
     ∷ row (size.f (fec 5) 414 ∷ size.s (fec 5) 414 ∷ []) (32 ∷ 16 ∷ [])
+    -- document 02, Item 6: "at l = 414 and MTU 1,400 it gives f 27, s 19, and five lost fragments can take 50 bytes of a chunk"; "four are sure"
+    ∷ row (size.f (newer 5) 414 ∷ size.s (newer 5) 414 ∷ size.assured (newer 5) 414 ∷ []) (27 ∷ 19 ∷ 4 ∷ [])
+    ∷ row (worst (size.n 414) (size.f (newer 5) 414) 5 ∷ []) (50 ∷ [])
     -- l 415, m 2: c 3, k 139, z 2, f 12, s 47; 3 zero cells
     ∷ row (size.c 415 ∷ size.k 415 ∷ size.z 415 ∷ size.f (fec 2) 415 ∷ size.s (fec 2) 415 ∷ []) (3 ∷ 139 ∷ 2 ∷ 12 ∷ 47 ∷ [])
     ∷ row ((size.f (fec 2) 415 * size.s (fec 2) 415 - size.L (fec 2) 415) ∷ []) (3 ∷ [])

@@ -8,6 +8,7 @@ use Rattle.base_rules.specs.Tests.{first}
 use Rattle.base_rules.specs.Answer.{Answer, granted, refused, answered}
 use Rattle.cut_rules.specs.Sizes.{c, k, z, n, h, S, L, f, s, assured}
 use Rattle.cut_rules.specs.declared.Address.the-variants.{None}
+use Rattle.cut_rules.specs.declared.Rule.the-variants.{Older}
 use Rattle.cut_rules.specs.declared.Settings.{Settings}
 use Rattle.cut_rules.specs.declared.Figures.{Figures}
 use Rattle.cut_rules.specs.declared.Planned.{Planned}
@@ -15,11 +16,11 @@ use Rattle.cut_rules.specs.declared.Planned.the-variants.{Cut, Refused}
 
 -- document 02, Item 5: "The house default becomes m = 1"; all else is as document 01 has it
 abbrev pub houseOf : Settings
-houseOf = record { fec = true; m = 1; mtu = 1400; address = None }
+houseOf = record { fec = true; m = 1; mtu = 1400; address = None; rule = Older }
 
 -- document 01, "Bounds": "House default: FEC on, m = 2, MTU 1,400, no address", which document 02, Item 5, keeps "under a name of its own"
 abbrev pub twoLossesOf : Settings
-twoLossesOf = record { fec = true; m = 2; mtu = 1400; address = None }
+twoLossesOf = record { fec = true; m = 2; mtu = 1400; address = None; rule = Older }
 
 -- document 01, 40 SETTINGS: m at most 5, and 0 without FEC; MTU above h and at most 16,384
 unfoldable pub fit : Settings → Bool

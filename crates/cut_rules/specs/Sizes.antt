@@ -1,12 +1,14 @@
 -- The sizes of a cut of an AF packet of l bytes at the settings g (clause 7.2; document 01, "PFT layer"). The letters are the standard's, but
 -- n, S and L are document 01's: S is the standard's s max, and L with FEC its l + cp + z, where the standard's own L is fs.
-use mathlib.Core.Bool.{Bool, cond}
+use mathlib.Core.Bool.{Bool, cond, _&&_}
 use Prim.Native.Nat.{ℕ, _+_, _-_, _*_, _/_, min}
-use lib.Dec.{eqb}
+use lib.Dec.{eqb, ltb}
 use Rattle.base_rules.specs.Bounds.{most-k, parity}
 use Rattle.base_rules.specs.Round.{ceil}
 use Rattle.cut_rules.specs.declared.Address.{Address}
 use Rattle.cut_rules.specs.declared.Address.the-variants.{None, Pair}
+use Rattle.cut_rules.specs.declared.Rule.{Rule}
+use Rattle.cut_rules.specs.declared.Rule.the-variants.{Older, Newer}
 use Rattle.cut_rules.specs.declared.Settings.{Settings}
 
 -- ---- of the packet alone
@@ -50,9 +52,14 @@ headerLength fec address = least-h + cond fec 2 0 + addressBytes address
 unfoldable pub h : Settings → ℕ
 h g = headerLength (g .fec) (g .address)
 
--- clause 7.2.2: by what 48 c is divided, m + 1
+-- clause 7.2.2: by what 48 c is divided: m + 1 in document 000, m in document 001
+abbrev pub dividedBy : Rule → ℕ → ℕ
+dividedBy Older m = m + 1
+dividedBy Newer m = m
+
+-- by what it is divided at the settings
 unfoldable pub divisor : Settings → ℕ
-divisor g = g .m + 1
+divisor g = dividedBy (g .rule) (g .m)
 
 -- clause 7.2.2: the most bytes of a fragment
 unfoldable pub S : Settings → ℕ → ℕ
@@ -70,9 +77,14 @@ f g l = ceil (L g l) (S g l)
 unfoldable pub s : Settings → ℕ → ℕ
 s g l = ceil (L g l) (f g l)
 
+-- document 02, Item 6, "the losses it assures": "m, but 4 when m is 5 and c above 1 under the new rule"
+abbrev pub assuredBy : Rule → ℕ → ℕ → ℕ
+assuredBy Older m c = m
+assuredBy Newer m c = cond (eqb m 5 && ltb 1 c) 4 m
+
 -- demand 3: the lost fragments that a cut with FEC is made to bear, whichever they are
 unfoldable pub assured : Settings → ℕ → ℕ
-assured g l = g .m
+assured g l = assuredBy (g .rule) (g .m) (c l)
 
 -- ---- of a received header
 

@@ -12,12 +12,19 @@ pub enum Address {
     Pair { source: u16, dest: u16 },
 }
 
-// What the sender is set to: FEC, the losses m that it is to bear, the most bytes of a datagram, the address.
+// By which edition's rule the most bytes of a fragment are worked out: document 000's, or document 001's.
+pub enum Rule {
+    Older,
+    Newer,
+}
+
+// What the sender is set to: FEC, the losses m that it is set for, the most bytes of a datagram, the address, the rule of sizes.
 pub struct Settings {
     pub fec: bool,
     pub m: usize,
     pub mtu: usize,
     pub address: Address,
+    pub rule: Rule,
 }
 
 // The figures of a cut, by the standard's letters: `room` is document 01's S, `total` its L; c, k, z, n are 0 without FEC.
