@@ -21,7 +21,8 @@ enum {
     BLOCK = C * N,      /* bytes of the block */
     F = 16,             /* fragments */
     S = 633,            /* bytes of a fragment: F * S is the least multiple of F from BLOCK on */
-    M = 2,              /* fragments that may be lost, and the most bytes of one: the setting for two losses, at which all figures were taken */
+    M = 2,              /* losses, the older rule, and the most bytes of a fragment: the setting for two losses, at which all figures were taken */
+    NEWER = 0,
     MTU = 1400,
     H = 16,             /* bytes of a fragment's header */
     SENT = F * (H + S), /* bytes of all fragments */
@@ -180,7 +181,7 @@ static void before_our_send(void)
 
 static void our_send(void)
 {
-    our_answer = bailhammer_fragments(1, M, MTU, 0, 0, 0, 1, packet, PACKET, our_split, SPLIT, our_sent, SENT);
+    our_answer = bailhammer_fragments(1, M, NEWER, MTU, 0, 0, 0, 1, packet, PACKET, our_split, SPLIT, our_sent, SENT);
 }
 
 static void before_our_fill(void)

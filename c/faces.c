@@ -111,17 +111,6 @@ static size_t faces_of_packets(void)
 
 /* ---- the sender */
 
-static struct bailhammer_settings draw_settings(void)
-{
-    struct bailhammer_settings settings = BAILHAMMER_HOUSE_SETTINGS;
-    settings.fec = drawn(3) != 0;
-    settings.m = settings.fec ? drawn(7) : drawn(10) == 0;
-    settings.mtu = 100 + drawn(1400);
-    if (drawn(2))
-        settings.address = bailhammer_address_of((uint16_t)drawn(3), (uint16_t)drawn(3));
-    return settings;
-}
-
 static void faces_of_settings(void)
 {
     const struct bailhammer_settings house = BAILHAMMER_HOUSE_SETTINGS, two_losses = BAILHAMMER_TWO_LOSSES_SETTINGS;
@@ -134,7 +123,7 @@ static void faces_of_plan(const struct bailhammer_settings *settings, size_t l)
     uint8_t told[BAILHAMMER_TOLD_PLAN] = {0}, again[BAILHAMMER_TOLD_PLAN], *at = again;
     struct bailhammer_cut cut;
     memset(&cut, 1, sizeof cut);
-    size_t number = bailhammer_plan(settings->fec, settings->m, settings->mtu, settings->address.given, l, told, sizeof told);
+    size_t number = bailhammer_plan(settings->fec, settings->m, settings->newer, settings->mtu, settings->address.given, l, told, sizeof told);
     same_number("plan", number, bailhammer_sender_plan(settings, l, &cut));
     at = put(put(put(put(put(at, 2, cut.c), 2, cut.k), 2, cut.z), 2, cut.n), 2, cut.h);
     put(put(put(put(put(at, 2, cut.S), 2, cut.L), 2, cut.f), 2, cut.s), 2, cut.losses);
@@ -147,8 +136,9 @@ static size_t faces_of_fragment(const struct bailhammer_settings *settings, uint
     uint8_t told[BAILHAMMER_TOLD_FRAGMENT] = {0}, again[BAILHAMMER_TOLD_FRAGMENT];
     size_t written;
     memset(out, 0xa5, sizeof out);
-    size_t number = bailhammer_fragment(settings->fec, settings->m, settings->mtu, settings->address.given, settings->address.source,
-                                        settings->address.dest, pseq, packet, length, i, told, sizeof told, out[0], room);
+    const struct bailhammer_address *address = &settings->address;
+    size_t number = bailhammer_fragment(settings->fec, settings->m, settings->newer, settings->mtu, address->given, address->source,
+                                        address->dest, pseq, packet, length, i, told, sizeof told, out[0], room);
     same_number("fragment", number, bailhammer_sender_fragment(settings, pseq, packet, length, i, out[1], room, &written));
     put(again, 2, written);
     same("fragment", told, again, sizeof told);
@@ -177,8 +167,9 @@ static struct bailhammer_sent faces_of_fragments(const struct bailhammer_setting
     memset(&sent, 1, sizeof sent);
     memset(plain, 0x5a, sizeof plain);
     memset(bytes, 0x5a, sizeof plain);
-    size_t number = bailhammer_fragments(settings->fec, settings->m, settings->mtu, settings->address.given, settings->address.source,
-                                         settings->address.dest, pseq, packet, length, told, sizeof told, plain, sizeof plain);
+    const struct bailhammer_address *address = &settings->address;
+    size_t number = bailhammer_fragments(settings->fec, settings->m, settings->newer, settings->mtu, address->given, address->source,
+                                         address->dest, pseq, packet, length, told, sizeof told, plain, sizeof plain);
     same_number("fragments", number, bailhammer_sender_fragments(settings, pseq, packet, length, bytes, sizeof plain, &sent));
     put(put(put(put(again, 2, sent.f), 2, sent.h), 2, sent.s), 2, sent.last);
     same("fragments", told, again, sizeof told);
@@ -186,6 +177,20 @@ static struct bailhammer_sent faces_of_fragments(const struct bailhammer_setting
     for (size_t i = 0; i <= sent.f; i++)
         faces_of_part(settings, pseq, length, &sent, i);
     return sent;
+}
+
+/* A packet sent by the other rule first, then by that of the settings: gives the fragments of this one. */
+static struct bailhammer_sent faces_of_rules(struct bailhammer_settings settings, size_t length, uint8_t *bytes)
+{
+    struct bailhammer_sent sent[2];
+    for (size_t i = 0; i < 2; i++) {
+        settings.newer = !settings.newer;
+        faces_of_plan(&settings, length);
+        faces_of_fragment(&settings, 1, length, drawn(20), drawn(1500));
+        sent[i] = faces_of_fragments(&settings, (uint16_t)drawn(6), length, bytes);
+    }
+    cut_otherwise += sent[0].f != sent[1].f;
+    return sent[1];
 }
 
 /* ---- the receiver */
@@ -246,9 +251,7 @@ static void faces_of_line(size_t length)
 {
     static uint8_t bytes[BAILHAMMER_SENT];
     struct bailhammer_settings settings = draw_settings();
-    faces_of_plan(&settings, length);
-    faces_of_fragment(&settings, 1, length, drawn(20), drawn(1500));
-    struct bailhammer_sent sent = faces_of_fragments(&settings, (uint16_t)drawn(6), length, bytes);
+    struct bailhammer_sent sent = faces_of_rules(settings, length, bytes);
     receiver.own = settings.address;
     receiver.own.source ^= (uint16_t)(drawn(10) == 0);
     for (size_t i = 0, part; i < sent.f; i++) {

@@ -15,7 +15,7 @@ static struct tally {
 } tallies[] = {{"check", 0, 0},    {"find", 0, 0},      {"walk_open", 0, 0}, {"walk_step", 0, 0}, {"plan", 0, 0},
                {"fragment", 0, 0}, {"fragments", 0, 0}, {"parse", 0, 0},     {"receive", 0, 0},   {"query", 0, 0},
                {"clear", 0, 0}};
-static size_t compared, delivered, displaced;
+static size_t compared, delivered, displaced, cut_otherwise;
 
 static void same(const char *what, const void *one, const void *other, size_t bytes)
 {
@@ -27,10 +27,12 @@ static void same(const char *what, const void *one, const void *other, size_t by
 }
 
 /* Settings that have a name: what the macro for structs has is what the macro for calls has. */
-static void same_settings(struct bailhammer_settings settings, size_t fec, size_t m, size_t mtu, size_t addressed, uint16_t source, uint16_t dest)
+static void same_settings(struct bailhammer_settings settings, size_t fec, size_t m, size_t newer, size_t mtu, size_t addressed,
+                          uint16_t source, uint16_t dest)
 {
-    size_t ours[] = {settings.fec, settings.m, settings.mtu, settings.address.given, settings.address.source, settings.address.dest};
-    size_t due[] = {fec, m, mtu, addressed, source, dest};
+    const struct bailhammer_address *address = &settings.address;
+    size_t ours[] = {settings.fec, settings.m, settings.newer, settings.mtu, address->given, address->source, address->dest};
+    size_t due[] = {fec, m, newer, mtu, addressed, source, dest};
     same("named settings", ours, due, sizeof due);
 }
 
@@ -67,15 +69,28 @@ static size_t drawn(size_t below)
     return seed % below;
 }
 
-/* Prints how often each call was done and refused; each must have been both. */
+static struct bailhammer_settings draw_settings(void)
+{
+    struct bailhammer_settings settings = BAILHAMMER_HOUSE_SETTINGS;
+    settings.fec = drawn(3) != 0;
+    settings.m = settings.fec ? drawn(7) : drawn(10) == 0;
+    settings.newer = drawn(2) != 0;
+    settings.mtu = 100 + drawn(1400);
+    if (drawn(2))
+        settings.address = bailhammer_address_of((uint16_t)drawn(3), (uint16_t)drawn(3));
+    return settings;
+}
+
+/* Prints how often each call was done and refused; each must have been both, and the rules must not always have cut alike. */
 static int told_all(void)
 {
-    int fault = delivered == 0 || displaced == 0;
+    int fault = delivered == 0 || displaced == 0 || cut_otherwise == 0;
     for (size_t i = 0; i < sizeof tallies / sizeof tallies[0]; i++) {
         printf("%-10s %6zu done %6zu refused\n", tallies[i].call, tallies[i].done, tallies[i].refused);
         fault |= tallies[i].done == 0 || tallies[i].refused == 0;
     }
-    printf("%zu packets handed out, %zu displaced, %zu comparisons, no difference\n", delivered, displaced, compared);
+    printf("%zu packets cut otherwise by the other rule, %zu handed out, %zu displaced, %zu comparisons, no difference\n",
+           cut_otherwise, delivered, displaced, compared);
     return fault;
 }
 

@@ -8,8 +8,8 @@
 
 #include "bailhammer.h"
 
-/* fec, m and mtu written out: C, F, S and K below are theirs. */
-#define TWO_LOSSES 1, 2, 1400
+/* fec, m, newer and mtu written out: C, F, S and K below are theirs. */
+#define TWO_LOSSES 1, 2, 0, 1400
 
 enum {
     STACK = 1 << 20,

@@ -68,9 +68,9 @@ def header(figures, address, pseq, index, size):
     return head + packets.crc(head)
 
 
-def sent(fec, m, mtu, address, pseq, packet):
+def sent(fec, m, mtu, address, pseq, packet, rule=None):
     """All fragments of a packet, or its refusal: 40, then the AF checks, then 41."""
-    cut = plans.plan(fec, m, mtu, address != b"", len(packet))
+    cut = plans.plan(fec, m, mtu, address != b"", len(packet), rule)
     checked = packets.af_answer(packet)
     for refusal in (cut if cut == "refused 40" else "", checked, cut):
         if refusal.startswith("refused"):
@@ -85,8 +85,10 @@ def raw(word):
 
 def computed(question):
     """The answer to a well-formed question: what `sent` refuses, then 42, then ROOM."""
-    name, fec, m, mtu, address, pseq, *index, room, packet = question.split(" ")
-    whole = sent(int(fec) == 1, int(m), int(mtu), raw(address), int(pseq), raw(packet))
+    words = question.split(" ")
+    rule = words.pop() if words[-1] in ("old", "new") else None
+    name, fec, m, mtu, address, pseq, *index, room, packet = words
+    whole = sent(int(fec) == 1, int(m), int(mtu), raw(address), int(pseq), raw(packet), rule)
     if isinstance(whole, str):
         return whole
     if name == "fragment":
@@ -105,12 +107,12 @@ def packet(l, **wrong):
     return packets.af(payload, seq=l, **wrong)
 
 
-def one(index, data, fec=1, m=2, mtu=1400, address=NONE, pseq=258, room=MOST_ROOM):
-    return f"fragment {fec} {m} {mtu} {address} {pseq} {index} {room} {data.hex() or '-'}"
+def one(index, data, fec=1, m=2, mtu=1400, address=NONE, pseq=258, room=MOST_ROOM, rule=""):
+    return f"fragment {fec} {m} {mtu} {address} {pseq} {index} {room} {data.hex() or '-'} {rule}".rstrip()
 
 
-def every(data, fec=1, m=2, mtu=1400, address=NONE, pseq=258, room=MOST_ROOM):
-    return f"fragments {fec} {m} {mtu} {address} {pseq} {room} {data.hex() or '-'}"
+def every(data, fec=1, m=2, mtu=1400, address=NONE, pseq=258, room=MOST_ROOM, rule=""):
+    return f"fragments {fec} {m} {mtu} {address} {pseq} {room} {data.hex() or '-'} {rule}".rstrip()
 
 
 def answered(question):
@@ -126,8 +128,8 @@ def refused(number, question):
 
 def cut_into(f, s, question):
     """A question on all fragments that has to be answered with f of them, all but the last with s bytes of payload."""
-    _, fec, m, mtu, address, pseq, _, data = question.split(" ")
-    whole = sent(fec == "1", int(m), int(mtu), raw(address), int(pseq), raw(data))
+    _, fec, m, mtu, address, pseq, _, data, *rule = question.split(" ")
+    whole = sent(fec == "1", int(m), int(mtu), raw(address), int(pseq), raw(data), *rule)
     head = plans.header(fec == "1", address != NONE)
     assert len(whole) == f and all(len(fragment) == head + s for fragment in whole[:-1]), question
     return answered(question)

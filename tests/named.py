@@ -1,8 +1,9 @@
 """What the faces of the card share beside the calls, and where it differs: tests/declared prints it.
 
 The numbers given back, with names and meanings, in card.h, in what bailhammer.h prints and in rust/card, and with names alone in rust/reference
-and the source; the conditions of a place; the settings that have a name; the versions, that of the record with its layout; a struct in
-bailhammer.h for each call that tells; what comments of definitions quote of card.h; the programs that the READMEs show, and the kit that README names.
+and the source; the conditions of a place; the settings that have a name, which are of the older rule; the versions, that of the record with its
+layout; a struct in bailhammer.h for each call that tells; what comments of definitions quote of card.h; the programs that the READMEs show, and the
+kit that README names.
 """
 import re
 
@@ -26,6 +27,9 @@ LAYOUTS = ["condition 1, number 2, count 4, fec 1, rsk 1, rsz 1, size 2, last 2"
 VERSIONS = ["RECORD_LAYOUT", "VERSION"]
 # the settings that have a name, the house default and that for two losses: in the source, and in C and Rust
 SETTINGS = [("house", "HOUSE"), ("two_losses", "TWO_LOSSES")]
+# what C writes for a word of Rattle and Rust; by the older rule means that `newer` is no
+IN_C = {"true": "1", "false": "0", "Older": "0", "Newer": "1"}
+OLDER = IN_C["Older"]
 
 
 class Fault(Exception):
@@ -80,20 +84,34 @@ def conditions(root):
     yield from apart("condition", (HEADER, header), (CONDITIONS, source))
 
 
+def literal(body, **given):
+    """The fields of settings as Rattle and Rust write them, each with what C writes; one with no value of its own has the one given."""
+    rows = re.findall(r"(\w+)(?:: (?:\w+::)?(\w+))?", body)
+    return {name: IN_C.get(value, value.replace("_", "")) if value else given.get(name) for name, value in rows}
+
+
+def macro(header, name):
+    """The figures of settings in the header, under the names of the parameters that they stand for."""
+    order = re.findall(r"^size_t bailhammer_plan\(size_t (\w+), size_t (\w+), size_t (\w+), size_t (\w+),", header, flags=re.M)
+    figures = re.findall(rf"^#define BAILHAMMER_{name} (\w+), (\w+), (\w+), (\w+)$", header, flags=re.M)
+    none = {"address": "None"} if "#define BAILHAMMER_NO_ADDRESS 0, 0, 0\n" in header else {}
+    return [dict(zip(("rule" if one == "newer" else one for one in names), row)) | none for names in order for row in figures]
+
+
 def settings(root):
-    """The settings that have a name, fec, m and mtu with no address, where source, header and both cards in Rust have not the same."""
+    """The settings that have a name, where source, header and both cards in Rust have not the same, or not the older rule."""
     source, header, reference = ((root / path).read_text() for path in (PLANS, HEADER, REFERENCE_PLANS))
     rust = "".join(path.read_text() for path in sorted(root.glob(WRAPPERS)))
-    shared = re.findall(r"Settings \{\s*fec: (\w+),\s*m,\s*mtu,\s*address: Address::None,\s*\}", source)
-    none = "#define BAILHAMMER_NO_ADDRESS 0, 0, 0\n" in header
+    shared = re.findall(r"\bSettings \{([^{}]*)\}", source)
     for function, name in SETTINGS:
-        constant = rf"pub const {name}: Settings = Settings \{{ fec: (\w+), m: (\w+), mtu: (\w+), address: None \}};"
-        found = {PLANS: [(*shared, *figures) for figures in re.findall(rf"fn {function}\(\)[^}}]*\}}\s*\{{\s*set_for\((\w+), (\w+)\)\s*\}}", source)],
-                 HEADER: re.findall(rf"#define BAILHAMMER_{name} (\w+), (\w+), (\w+)\n", header) if none else [],
-                 WRAPPERS: re.findall(constant, rust), REFERENCE_PLANS: re.findall(constant, reference)}
-        plain = {str(one).replace("true", "1").replace("_", "") for one in found.values()}
-        if len(plain) != 1 or any(len(one) != 1 for one in found.values()):
-            yield f"the settings {name} are " + ", ".join(f"{one} in {path}" for path, one in found.items())
+        losses = re.findall(rf"fn {function}\(\)[^}}]*\}}\s*\{{\s*set_for\((\w+), (\w+)\)\s*\}}", source)
+        constant = rf"pub const {name}: Settings =\s*Settings \{{([^{{}}]*)\}};"
+        found = {PLANS: [literal(body, m=m, mtu=mtu) for body in shared for m, mtu in losses], HEADER: macro(header, name),
+                 WRAPPERS: [literal(body) for body in re.findall(constant, rust)],
+                 REFERENCE_PLANS: [literal(body) for body in re.findall(constant, reference)]}
+        ours = found[PLANS]
+        if len(ours) != 1 or ours[0].get("rule") != OLDER or any(one != ours for one in found.values()):
+            yield f"the settings {name} are not alike, or not of the older rule: " + ", ".join(f"{one} in {path}" for path, one in found.items())
 
 
 def layout(root):

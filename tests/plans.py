@@ -1,7 +1,7 @@
-"""Plans of the PFT layer, computed by themselves from document 01 with whole numbers, and the settings that it and document 02 name.
+"""Plans of the PFT layer, computed by themselves from documents 01 and 02 with whole numbers, and the settings that these name.
 
-    plans.py FEC M MTU ADDR L      prints the answer to one question
-    plans.py                       reads such questions from standard input, one a line
+    plans.py FEC M MTU ADDR L [old|new]      prints the answer to one question
+    plans.py                                 reads such questions from standard input, one a line
 
 It is the measure for the program's answers, so it shares nothing with it.
 """
@@ -31,8 +31,18 @@ def header(fec, address):
     return fixed + (1 + 1 if fec else 0) + (2 + 2 if address else 0)
 
 
-def plan(fec, m, mtu, address, l):
-    """The answer to a plan asked with a bare length: checked 40, then 20 or 22, then 41."""
+def shared(c, m, rule):
+    """48 c over m + 1, or by the newer rule over m; document 001 prints its floor as a ceiling, as it does every floor."""
+    return PARITY * c // (m if rule == "new" else m + 1)
+
+
+def assured(c, m, rule):
+    """Document 02, Item 6: "m, but 4 when m is 5 and c above 1 under the new rule"."""
+    return 4 if rule == "new" and m == 5 and c > 1 else m
+
+
+def plan(fec, m, mtu, address, l, rule=None):
+    """The answer to a plan asked with a bare length: checked 40, then 20 or 22, then 41. The rule is said as a question says it, or not at all."""
     h = header(fec, address)
     if m > MOST_M or (m > 0 and not fec) or mtu <= h or mtu > MOST_MTU:
         return "refused 40"
@@ -50,23 +60,26 @@ def plan(fec, m, mtu, address, l):
         total = c * n
     room = mtu - h
     if m > 0:
-        room = min(PARITY * c // (m + 1), room)
+        room = min(shared(c, m, rule), room)
     f = rounded_up(total, room)
     if f > MOST_FRAGMENTS:
         return "refused 41"
     s = rounded_up(total, f)
     figures = (("c", c), ("k", k), ("z", z), ("n", n), ("S", room), ("L", total), ("f", f), ("s", s), ("h", h))
+    if rule:
+        figures += (("assured", assured(c, m, rule)),)
     return "plan " + " ".join(f"{name}={figure}" for name, figure in figures)
 
 
 def answer(words):
-    fec, m, mtu, address, l = words
-    return plan(fec == "1", int(m), int(mtu), address != "-", int(l))
+    fec, m, mtu, address, l, *rule = words
+    assert rule in ([], ["old"], ["new"]), words
+    return plan(fec == "1", int(m), int(mtu), address != "-", int(l), *rule)
 
 
 def main():
-    usage.help_or_use(__doc__, (0, 5))
-    if len(sys.argv) == 6:
+    usage.help_or_use(__doc__, (0, 5, 6))
+    if len(sys.argv) > 1:
         print(answer(sys.argv[1:]))
         return
     for line in sys.stdin:

@@ -6,14 +6,16 @@ crates/ask/stdout.
 The answers come from crc.txt (made by a peer), from plans.py and fields.py (computed from documents
 01 and 02), from chunks.py (of parity.txt, made by a peer), from packets.py (written out beside the
 sentence of document 01 that gives it, or by its own reader), from fragments.py (by its own sender),
-from receiving.py (by hand and by its own receiver) and from the lists below. None is taken from the
-program. Running this again gives the same bytes.
+from receiving.py (by hand and by its own receiver), from editions.py (both rules of sizes, by hand
+and by all of these) and from the lists below. None is taken from the program. Running this again
+gives the same bytes.
 """
 import pathlib
 import sys
 
 sys.dont_write_bytecode = True
 import chunks
+import editions
 import fields
 import fragments
 import packets
@@ -243,6 +245,10 @@ def received_fragments():
     ask_parts(receiving.PARTS)
 
 
+def either_edition():
+    ask_parts(editions.PARTS)
+
+
 MALFORMED = """\
 mul
 mul 1
@@ -369,7 +375,7 @@ def long_lines():
 
 def main():
     for part in (sums, sizes, settings, counts, ordinary, named_settings, elements, whole_chunks, packets_and_items, longest_packets,
-                 sent_packets, received_fragments, malformed, long_lines):
+                 sent_packets, received_fragments, either_edition, malformed, long_lines):
         part()
         silent("")
     questions.pop()

@@ -44,7 +44,8 @@ static inline struct bailhammer_address bailhammer_address_of(uint16_t source, u
 /* How a sender cuts. */
 struct bailhammer_settings {
     bool fec;                          /* with parity */
-    size_t m;                          /* the fragments that may be lost, 5 at most, and 0 without FEC */
+    size_t m;                          /* the losses that it is set for, 5 at most, and 0 without FEC; the cut tells how many it assures */
+    bool newer;                        /* S by the newer rule, that of V1.3.1; else by the older one, that of V1.2.1 */
     size_t mtu;                        /* the most bytes of a fragment with its header */
     struct bailhammer_address address; /* what each header has, or none */
 };
@@ -64,7 +65,7 @@ struct bailhammer_cut {
     size_t L;      /* the bytes that are cut */
     size_t f;      /* fragments */
     size_t s;      /* payload bytes of each; without FEC the last may have fewer */
-    size_t losses; /* the lost fragments that the cut is made to bear, whichever they are */
+    size_t losses; /* the lost fragments that the cut assures, whichever they are: m, but 4 where m is 5 and c above 1 by the newer rule */
 };
 
 /* Plans the cut of an AF packet of l bytes.
@@ -75,7 +76,7 @@ struct bailhammer_cut {
 static inline size_t bailhammer_sender_plan(const struct bailhammer_settings *settings, size_t l, struct bailhammer_cut *cut)
 {
     uint8_t told[BAILHAMMER_TOLD_PLAN] = {0};
-    size_t number = bailhammer_plan(settings->fec, settings->m, settings->mtu, settings->address.given, l, told, sizeof told);
+    size_t number = bailhammer_plan(settings->fec, settings->m, settings->newer, settings->mtu, settings->address.given, l, told, sizeof told);
     cut->c = bailhammer_told(told, 2);
     cut->k = bailhammer_told(told + 2, 2);
     cut->z = bailhammer_told(told + 4, 2);
@@ -99,8 +100,8 @@ static inline size_t bailhammer_sender_fragment(const struct bailhammer_settings
 {
     uint8_t told[BAILHAMMER_TOLD_FRAGMENT] = {0};
     const struct bailhammer_address *address = &settings->address;
-    size_t number = bailhammer_fragment(settings->fec, settings->m, settings->mtu, address->given, address->source, address->dest, pseq, packet,
-                                        packet_len, index, told, sizeof told, out, out_len);
+    size_t number = bailhammer_fragment(settings->fec, settings->m, settings->newer, settings->mtu, address->given, address->source,
+                                        address->dest, pseq, packet, packet_len, index, told, sizeof told, out, out_len);
     *length = bailhammer_told(told, 2);
     return number;
 }
@@ -125,8 +126,8 @@ static inline size_t bailhammer_sender_fragments(const struct bailhammer_setting
 {
     uint8_t told[BAILHAMMER_TOLD_FRAGMENTS] = {0};
     const struct bailhammer_address *address = &settings->address;
-    size_t number = bailhammer_fragments(settings->fec, settings->m, settings->mtu, address->given, address->source, address->dest, pseq, packet,
-                                         packet_len, told, sizeof told, out, out_len);
+    size_t number = bailhammer_fragments(settings->fec, settings->m, settings->newer, settings->mtu, address->given, address->source,
+                                         address->dest, pseq, packet, packet_len, told, sizeof told, out, out_len);
     sent->bytes = out;
     sent->f = bailhammer_told(told, 2);
     sent->h = bailhammer_told(told + 2, 2);

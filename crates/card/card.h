@@ -23,7 +23,7 @@
 extern "C" {
 #endif
 
-#define BAILHAMMER_VERSION 1       /* one more where a call, a number or a size is another than before */
+#define BAILHAMMER_VERSION 2       /* one more where a call, a number or a size is another than before */
 #define BAILHAMMER_RECORD_LAYOUT 1 /* one more where a receiver's record or lent bytes that were kept mean something else than before */
 
 /* Bytes that the calls ask for. */
@@ -57,10 +57,10 @@ extern "C" {
 /* A TAG name from its four letters, as the calls take it: BAILHAMMER_NAME('d', 'e', 'm', 'o'). */
 #define BAILHAMMER_NAME(a, b, c, d) ((uint32_t)(uint8_t)(a) << 24 | (uint32_t)(uint8_t)(b) << 16 | (uint32_t)(uint8_t)(c) << 8 | (uint8_t)(d))
 
-/* As the calls take them: fec, m and mtu of the house default, which is made to bear one loss, and of the setting for two losses, the house
- * default of old; and an address that is none. */
-#define BAILHAMMER_HOUSE 1, 1, 1400
-#define BAILHAMMER_TWO_LOSSES 1, 2, 1400
+/* As the calls take them: fec, m, newer and mtu of the house default, which is made to bear one loss, and of the setting for two losses, the
+ * house default of old, both by the older rule; and an address that is none. */
+#define BAILHAMMER_HOUSE 1, 1, 0, 1400
+#define BAILHAMMER_TWO_LOSSES 1, 2, 0, 1400
 #define BAILHAMMER_NO_ADDRESS 0, 0, 0
 
 /* The numbers that the calls give, under document 01's names. */
@@ -132,7 +132,8 @@ enum bailhammer_condition {
  * Letters, as in document 01: a packet of l bytes is laid in c chunks of k bytes, with z zeros behind it in the last; each chunk is followed by
  * its 48 parity bytes, which makes n = k + 48. L is the bytes that are cut, c n with FEC (without it c, k, z and n are 0, and L is l), and S the
  * most of them that a fragment may take. They are cut into f fragments of s bytes (without FEC the last may have fewer), each behind a header of
- * h bytes. m is how many fragments may be lost, whichever they are, and mtu the most bytes of a fragment, header and all.
+ * h bytes. m is how many losses a sender is set for, and the plan tells how many the cut assures, whichever fragments are lost; mtu is the most
+ * bytes of a fragment, header and all.
  */
 
 /* The AF layer. */
@@ -200,23 +201,28 @@ size_t bailhammer_walk_open(const uint8_t *packet, size_t packet_len, const uint
 size_t bailhammer_walk_step(const uint8_t *packet, size_t packet_len, const uint8_t *names, size_t names_len, uint8_t *walker,
                             size_t walker_len, uint8_t *told, size_t told_len);
 
-/* The sender. FEC is on where fec is yes, and the header has the address source and dest where addressed is yes. m is the fragments that
- * may be lost, 5 at most, and 0 without FEC; mtu is the most bytes of a fragment, above h and 16,384 at most, where h is 14, two more with
- * FEC, four more with an address. The house default is BAILHAMMER_HOUSE and no address; whoever has to survive two losses writes
+/* The sender. FEC is on where fec is yes, and the header has the address source and dest where addressed is yes. m is the losses that it is
+ * set for, 5 at most, and 0 without FEC; mtu is the most bytes of a fragment, above h and 16,384 at most, where h is 14, two more with FEC,
+ * four more with an address. The house default is BAILHAMMER_HOUSE and no address; whoever has to survive two losses writes
  * BAILHAMMER_TWO_LOSSES in its place.
+ *
+ * newer says by which edition's rule S is worked out. Where it is no, by the older one (V1.2.1, document 000): the smaller of mtu - h and
+ * floor(48 c / (m + 1)). Where it is yes, by the newer one (V1.3.1, document 001): the smaller of mtu - h and floor(48 c / m). Where m is 0, S
+ * is mtu - h, and the rule changes nothing. The receiver takes either without being told.
  *
  * pseq is the packet's number, Pseq in the header; it is not the number that a call gives. The caller counts it: one more for each packet, and 0
  * behind 65,535. The receiver tells packets apart by it alone: while it holds a number, a second packet under it is refused with 9 to 12, or its
  * fragments are taken for the first one's. */
 
-/* Plans the cut of an AF packet of l bytes. Tells 20 bytes, two each: c, k, z and n (0 without FEC), h, S, L, f, s, and m, the
- * losses that the cut is made to bear, whichever they are. Gives 0; else the first of 40, 20, 22, 41 and 1 that is due.
+/* Plans the cut of an AF packet of l bytes. Tells 20 bytes, two each: c, k, z and n (0 without FEC), h, S, L, f, s, and the losses that
+ * the cut assures, whichever they are: m, but 4 where m is 5 and c above 1 by the newer rule. Gives 0; else the first of 40, 20, 22, 41
+ * and 1 that is due.
  *
  *     uint8_t told[BAILHAMMER_TOLD_PLAN];
  *     number = bailhammer_plan(BAILHAMMER_HOUSE, 0, l, told, sizeof told);
  *     size_t f = number == BAILHAMMER_DONE ? (size_t)told[14] * 256 + told[15] : 0;
  */
-size_t bailhammer_plan(size_t fec, size_t m, size_t mtu, size_t addressed, size_t l, uint8_t *told, size_t told_len);
+size_t bailhammer_plan(size_t fec, size_t m, size_t newer, size_t mtu, size_t addressed, size_t l, uint8_t *told, size_t told_len);
 
 /* Writes fragment `index` of an AF packet at the front of out, under the packet's number. Tells its length, 2 bytes. Gives 0; else the
  * first of 40, 20 to 25, 41, 42 and 1 that is due. Each call lays the whole packet's chunks: for all fragments, bailhammer_fragments.
@@ -224,7 +230,7 @@ size_t bailhammer_plan(size_t fec, size_t m, size_t mtu, size_t addressed, size_
  *     uint8_t told[BAILHAMMER_TOLD_FRAGMENT], out[1400];
  *     number = bailhammer_fragment(BAILHAMMER_HOUSE, BAILHAMMER_NO_ADDRESS, 7, packet, l, 0, told, sizeof told, out, sizeof out);
  */
-size_t bailhammer_fragment(size_t fec, size_t m, size_t mtu, size_t addressed, uint16_t source, uint16_t dest, uint16_t pseq,
+size_t bailhammer_fragment(size_t fec, size_t m, size_t newer, size_t mtu, size_t addressed, uint16_t source, uint16_t dest, uint16_t pseq,
                            const uint8_t *packet, size_t packet_len, size_t index, uint8_t *told, size_t told_len, uint8_t *out,
                            size_t out_len);
 
@@ -235,7 +241,7 @@ size_t bailhammer_fragment(size_t fec, size_t m, size_t mtu, size_t addressed, u
  *     uint8_t told[BAILHAMMER_TOLD_FRAGMENTS], sent[BAILHAMMER_SENT];
  *     number = bailhammer_fragments(BAILHAMMER_HOUSE, BAILHAMMER_NO_ADDRESS, 7, packet, l, told, sizeof told, sent, sizeof sent);
  */
-size_t bailhammer_fragments(size_t fec, size_t m, size_t mtu, size_t addressed, uint16_t source, uint16_t dest, uint16_t pseq,
+size_t bailhammer_fragments(size_t fec, size_t m, size_t newer, size_t mtu, size_t addressed, uint16_t source, uint16_t dest, uint16_t pseq,
                             const uint8_t *packet, size_t packet_len, uint8_t *told, size_t told_len, uint8_t *out, size_t out_len);
 
 /* Reads the header of a datagram, so that its packet's number is known before the datagram is handed on to bailhammer_receive. An address

@@ -2,6 +2,7 @@
 use crate::address_of;
 use crate::telling::tell;
 use cut::Planned;
+use cut::Rule;
 use cut::Settings;
 use sender::Sent;
 use sender::SentAll;
@@ -9,7 +10,7 @@ ghost use mathlib.Core.Path.{_≡_};
 ghost use Rattle.cut_rules.specs.Plan.{planOf, numberOf};
 ghost use Rattle.sender_rules.specs.Calls.{sentNumber, fragmentCall, allNumber, fragmentsCall};
 ghost use Rattle.card_rules.specs.Told.{CardTold, SentAs};
-ghost use Rattle.card_rules.specs.Sending.{settingsOf, twos};
+ghost use Rattle.card_rules.specs.Sending.{ruleOf, settingsOf, twos};
 
 // The bytes that a plan, a fragment and all fragments tell.
 const TOLD_PLAN: usize = 20;
@@ -18,22 +19,34 @@ const TOLD_FRAGMENT: usize = 2;
 
 const TOLD_FRAGMENTS: usize = 8;
 
+// The rule of sizes.
+fn rule_of(newer: usize) -> Rule
+    ensures { λ r. ⌜ r ≡ ruleOf newer ⌝ }
+{
+    if newer == 0 {
+        return Rule::Older;
+    }
+    Rule::Newer
+}
+
 // The settings.
 fn settings_of(
     fec: usize,
     m: usize,
+    newer: usize,
     mtu: usize,
     addressed: usize,
     source: u16,
     dest: u16,
 ) -> Settings
-    ensures { λ r. ⌜ r ≡ settingsOf fec m mtu addressed source dest ⌝ }
+    ensures { λ r. ⌜ r ≡ settingsOf fec m newer mtu addressed source dest ⌝ }
 {
     Settings {
         fec: fec != 0,
         m,
         mtu,
         address: address_of(addressed, source, dest),
+        rule: rule_of(newer),
     }
 }
 
@@ -66,14 +79,15 @@ fn tell_plan(a: Planned, told: &mut [u8]) -> usize
 pub extern "C" fn bailhammer_plan(
     fec: usize,
     m: usize,
+    newer: usize,
     mtu: usize,
     addressed: usize,
     l: usize,
     told: &mut [u8],
 ) -> usize
-    ensures { λ r. ⌜ CardTold (twos 10) (planOf (settingsOf fec m mtu addressed 0 0) l) (now (told .entry)) (now (told .exit)) r ⌝ }
+    ensures { λ r. ⌜ CardTold (twos 10) (planOf (settingsOf fec m newer mtu addressed 0 0) l) (now (told .entry)) (now (told .exit)) r ⌝ }
 {
-    let a = cut::plan(settings_of(fec, m, mtu, addressed, 0, 0), l);
+    let a = cut::plan(settings_of(fec, m, newer, mtu, addressed, 0, 0), l);
     tell_plan(a, told)
 }
 
@@ -92,6 +106,7 @@ fn tell_length(a: Sent, told: &mut [u8]) -> usize
 pub extern "C" fn bailhammer_fragment(
     fec: usize,
     m: usize,
+    newer: usize,
     mtu: usize,
     addressed: usize,
     source: u16,
@@ -102,10 +117,10 @@ pub extern "C" fn bailhammer_fragment(
     told: &mut [u8],
     out: &mut [u8],
 ) -> usize
-    ensures { λ r. ⌜ SentAs (twos 1) (fragmentCall (settingsOf fec m mtu addressed source dest) pseq (now (packet .entry)) index
+    ensures { λ r. ⌜ SentAs (twos 1) (fragmentCall (settingsOf fec m newer mtu addressed source dest) pseq (now (packet .entry)) index
         (now (out .entry))) (now (told .entry)) (now (told .exit)) (now (out .entry)) (now (out .exit)) r ⌝ }
 {
-    let g = settings_of(fec, m, mtu, addressed, source, dest);
+    let g = settings_of(fec, m, newer, mtu, addressed, source, dest);
     // With no bytes to write in nothing is written, and up to 1 the same is due.
     if told.len() < TOLD_FRAGMENT {
         let none = sender::fragment(g, pseq, packet, index, &mut []);
@@ -130,6 +145,7 @@ fn tell_split(a: SentAll, told: &mut [u8]) -> usize
 pub extern "C" fn bailhammer_fragments(
     fec: usize,
     m: usize,
+    newer: usize,
     mtu: usize,
     addressed: usize,
     source: u16,
@@ -139,10 +155,10 @@ pub extern "C" fn bailhammer_fragments(
     told: &mut [u8],
     out: &mut [u8],
 ) -> usize
-    ensures { λ r. ⌜ SentAs (twos 4) (fragmentsCall (settingsOf fec m mtu addressed source dest) pseq (now (packet .entry)) (now (out .entry)))
+    ensures { λ r. ⌜ SentAs (twos 4) (fragmentsCall (settingsOf fec m newer mtu addressed source dest) pseq (now (packet .entry)) (now (out .entry)))
         (now (told .entry)) (now (told .exit)) (now (out .entry)) (now (out .exit)) r ⌝ }
 {
-    let g = settings_of(fec, m, mtu, addressed, source, dest);
+    let g = settings_of(fec, m, newer, mtu, addressed, source, dest);
     // As in `bailhammer_fragment`.
     if told.len() < TOLD_FRAGMENTS {
         let none = sender::fragments(g, pseq, packet, &mut []);

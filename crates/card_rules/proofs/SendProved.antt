@@ -11,6 +11,7 @@ use Rattle.cut_rules.specs.Plan.{withFec, figuresOf}
 use Rattle.cut_rules.specs.Sizes.{c, k, z, n, h, S, L, f, s, assured}
 use Rattle.cut_rules.specs.declared.Settings.{Settings}
 use Rattle.cut_rules.proofs.ChunkSizes.{c-most}
+use Rattle.cut_rules.proofs.Editions.{assured-most}
 use Rattle.cut_rules.proofs.PlanCases.{within, fitted, S-most, L-most}
 use Rattle.cut_rules.proofs.Proved.{c2}
 use Rattle.code_rules.proofs.CallCases.{granted-by}
@@ -29,7 +30,7 @@ at-most false x = omega arith
 
 -- each figure of a plan that is not refused fits the two bytes in which it is told
 pub plan-whole : PlanWhole
-unfolding figuresOf withFec n assured
+unfolding figuresOf withFec n
 plan-whole g l fault =
     let there = within g l fault in
     let sizes = c2 g l fault in
@@ -44,7 +45,7 @@ plan-whole g l fault =
     let all : L g l < 65536 = omega (arith, L-most g l (there .from) (there .to)) in
     let few : f g l < 65536 = omega (arith, there .few) in
     let each : s g l < 65536 = omega (arith, sizes .s-most, room, ok .mtu-most) in
-    let losses : assured g l < 65536 = omega (arith, ok .m-most) in
+    let losses : assured g l < 65536 = omega (arith, ok .m-most, assured-most g l) in
     more chunks (more data-bytes (more zeros (more cells (more header (more most (more all (more few (more each (more losses none)))))))))
 
 -- ---- the fragments

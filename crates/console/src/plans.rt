@@ -8,9 +8,15 @@ use crate::words;
 use crate::words::Number;
 use crate::words::Pair;
 
-// The settings that a question has in its words 1 to 4.
+// The settings that a question has in its words 1 to 4, and in its last where that says the rule.
 pub(crate) enum Asked {
     Of(cut::Settings),
+    Malformed,
+}
+
+// The rule of sizes that a question's last word says.
+enum Ruled {
+    By(cut::Rule),
     Malformed,
 }
 
@@ -19,7 +25,7 @@ pub(crate) enum Asked {
 pub(crate) fn answer(line: &[u8], out: &mut [u8]) -> usize
     ensures { λ r. ⌜ Wrote (now (out .entry)) 0 r (now (out .exit)) ⌝ }
 {
-    if words::asks(line, b"plan", 5) {
+    if words::asks_or_more(line, b"plan", 5) {
         return answer_plan(line, out);
     }
     if words::asks(line, b"house", 0) {
@@ -31,24 +37,26 @@ pub(crate) fn answer(line: &[u8], out: &mut [u8]) -> usize
     0
 }
 
-// `plan FEC M MTU ADDR L` is answered with the figures, or `refused N`.
+// `plan FEC M MTU ADDR L` is answered with the figures, or `refused N`; with `old` or `new` behind L the
+// figures are followed by the losses assured.
 fn answer_plan(line: &[u8], out: &mut [u8]) -> usize
     ensures { λ r. ⌜ Wrote (now (out .entry)) 0 r (now (out .exit)) ⌝ }
 {
-    let Asked::Of(g) = settings(line) else {
+    let Asked::Of(g) = settings(line, 6) else {
         return 0;
     };
     let Number::Of(l) = words::decimal_at(line, 5) else {
         return 0;
     };
     match cut::plan(g, l) {
-        cut::Planned::Cut(figures) => write_plan(out, figures),
+        cut::Planned::Cut(figures) => write_cut(out, figures, words::has(line, 6)),
         cut::Planned::Refused(by) => replies::refused(out, by),
     }
 }
 
-// The settings FEC M MTU ADDR; each word has to say what stands in its place.
-pub(crate) fn settings(line: &[u8]) -> Asked {
+// The settings FEC M MTU ADDR, and the rule in the word with the number `last`; each word has to say
+// what stands in its place.
+pub(crate) fn settings(line: &[u8], last: usize) -> Asked {
     let Number::Of(fec) = words::decimal_to(line, 1, 1) else {
         return Asked::Malformed;
     };
@@ -61,12 +69,44 @@ pub(crate) fn settings(line: &[u8]) -> Asked {
     let Pair::Of(address) = words::address(words::nth(line, 4)) else {
         return Asked::Malformed;
     };
+    let Ruled::By(rule) = rule_at(line, last) else {
+        return Asked::Malformed;
+    };
     Asked::Of(cut::Settings {
         fec: fec == 1,
         m,
         mtu,
         address,
+        rule,
     })
+}
+
+// The rule that the word with that number says, `old` or `new`; where the line has no such word, the
+// older one.
+fn rule_at(line: &[u8], at: usize) -> Ruled {
+    if !words::has(line, at) {
+        return Ruled::By(cut::Rule::Older);
+    }
+    let word = words::nth(line, at);
+    if words::is(word, b"old") {
+        return Ruled::By(cut::Rule::Older);
+    }
+    if words::is(word, b"new") {
+        return Ruled::By(cut::Rule::Newer);
+    }
+    Ruled::Malformed
+}
+
+// The figures of a cut, and where a rule was said the losses that it assures.
+fn write_cut(out: &mut [u8], f: cut::Figures, ruled: bool) -> usize
+    ensures { λ r. ⌜ Wrote (now (out .entry)) 0 r (now (out .exit)) ⌝ }
+{
+    let assured = f.assured;
+    let at = write_plan(out, f);
+    if ruled {
+        return replies::labelled(out, at, b" assured=", assured);
+    }
+    at
 }
 
 // The figures in a row, each behind a blank, its name and an equals sign.

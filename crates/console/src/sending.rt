@@ -17,16 +17,17 @@ enum Wanted {
 pub(crate) fn answer(line: &[u8], out: &mut [u8]) -> usize
     ensures { λ r. ⌜ Wrote (now (out .entry)) 0 r (now (out .exit)) ⌝ }
 {
-    if words::asks(line, b"fragment", 8) {
+    if words::asks_or_more(line, b"fragment", 8) {
         return answer_one(line, out);
     }
-    if words::asks(line, b"fragments", 7) {
+    if words::asks_or_more(line, b"fragments", 7) {
         return answer_wanted(line, out, Wanted::All, 6);
     }
     0
 }
 
-// `fragment FEC M MTU ADDR PSEQ INDEX ROOM PACKET` is answered `fragment BYTES`, or `refused N`.
+// `fragment FEC M MTU ADDR PSEQ INDEX ROOM PACKET` is answered `fragment BYTES`, or `refused N`; `old` or
+// `new` may stand behind PACKET.
 fn answer_one(line: &[u8], out: &mut [u8]) -> usize
     ensures { λ r. ⌜ Wrote (now (out .entry)) 0 r (now (out .exit)) ⌝ }
 {
@@ -36,13 +37,14 @@ fn answer_one(line: &[u8], out: &mut [u8]) -> usize
     answer_wanted(line, out, Wanted::One(index), 7)
 }
 
-// `fragments FEC M MTU ADDR PSEQ ROOM PACKET` is answered `fragments BYTES`, or `refused N`; with one
-// fragment wanted, the words from ROOM on stand one further, and `at` says where.
+// `fragments FEC M MTU ADDR PSEQ ROOM PACKET` is answered `fragments BYTES`, or `refused N`, and `old` or
+// `new` may stand behind PACKET; with one fragment wanted, the words from ROOM on stand one further, and
+// `at` says where.
 fn answer_wanted(line: &[u8], out: &mut [u8], wanted: Wanted, at: usize) -> usize
     requires { ⌜ at ≤ 7 ⌝ }
     ensures { λ r. ⌜ Wrote (now (out .entry)) 0 r (now (out .exit)) ⌝ }
 {
-    let Asked::Of(g) = plans::settings(line) else {
+    let Asked::Of(g) = plans::settings(line, at + 2) else {
         return 0;
     };
     let Number::Of(pseq) = words::decimal_to(line, 5, 65535) else {

@@ -92,6 +92,22 @@ pub(crate) fn asks(line: &[u8], name: &[u8], follow: usize) -> bool {
     }
 }
 
+// Whether the line asks that question, or does with one more word at its end.
+pub(crate) fn asks_or_more(line: &[u8], name: &[u8], follow: usize) -> bool
+    requires { ⌜ follow ≤ 8 ⌝ }
+{
+    if asks(line, name, follow) {
+        true
+    } else {
+        asks(line, name, follow + 1)
+    }
+}
+
+// Whether the line has a word with that number, be it empty.
+pub(crate) fn has(line: &[u8], number: usize) -> bool {
+    number <= blanks(line)
+}
+
 // What the word with that number says where a number is asked.
 pub(crate) fn decimal_at(line: &[u8], at: usize) -> Number {
     decimal(nth(line, at))

@@ -11,7 +11,7 @@ use Rattle.base_rules.specs.Answer.{answered}
 use Rattle.base_rules.specs.Bounds.{least-l, most-l, most-f, most-m, most-mtu}
 use Rattle.base_rules.specs.Round.{ceil}
 use Rattle.base_rules.specs.Tests.{first}
-use Rattle.base_rules.proofs.Logic.{either}
+use Rattle.base_rules.proofs.Logic.{either, and-left}
 use Rattle.cut_rules.specs.Claims.{AssuredIs, FiveNotAlways, withRule, SameCut, OneUp, SameAtNone}
 use Rattle.cut_rules.specs.Edge.{newer}
 use Rattle.cut_rules.specs.Missing.{worst, firsts, missing}
@@ -43,6 +43,17 @@ assured-is g l =
       m-sure = figure-m (g .rule) (g .m) (size.c l);
       four-sure = λ is-newer five more. rw (is-newer, five, lt-ltb 1 (size.c l) more);
     }
+
+-- no cut assures more than its sender is set for
+pub assured-most : (g : Settings) (l : ℕ) → size.assured g l ≤ g .m
+unfolding size.assured
+assured-most g l = at-most (g .rule) (g .m) (size.c l)
+  where
+    at-most : (r : Rule) (m c : ℕ) → size.assuredBy r m c ≤ m
+    at-most Older m c = omega arith
+    at-most Newer m c = either (eqb m 5 && ltb 1 c)
+        (λ e. rw e (omega (arith, eqb-true m 5 (and-left (eqb m 5) (ltb 1 c) e))))
+        (λ e. rw e (omega arith))
 
 -- ---- where the two cut alike
 

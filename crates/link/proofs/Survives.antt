@@ -9,8 +9,9 @@ use lib.ListN.{length}
 use Rattle.base_rules.proofs.Logic.{either}
 use Rattle.cut_rules.specs.Missing.{losses, suffice}
 use Rattle.cut_rules.specs.Sizes as cut
+use Rattle.cut_rules.proofs.Editions.{assured-is, assured-most}
 use Rattle.cut_rules.proofs.PlanCases.{fitted}
-use Rattle.cut_rules.proofs.Proved.{c6, assures-m}
+use Rattle.cut_rules.proofs.Proved.{c6}
 use Rattle.cut_rules.proofs.Sufficing.{suffice-from}
 use Rattle.sender_rules.proofs.Checks.{taken, in-bounds}
 use Rattle.link.specs.Run.{lost}
@@ -18,7 +19,7 @@ use Rattle.link.specs.Demand.{count, keyFor, chunks, enoughAfter, T3, T3
 
 -- with FEC no chunk misses more than 48 bytes, by C6; without it 40 leaves m 0, so that none is lost
 pub survives : T3
-unfolding enoughAfter cut.assured
+unfolding enoughAfter
 survives g n packet es takes few =
     let gone : ℕ → Bool = lost (keyFor g n) es in
     let coded : Bool = suffice gone (count g packet) (cut.n (length packet)) (chunks g packet) in
@@ -30,8 +31,8 @@ survives g n packet es takes few =
     (λ j l. c6 g (length packet) (taken g packet (takes .passed)) fec gone few .0 j))
     (λ fec.
     ap (λ (b : Bool). cond b coded plain) fec
-    ∙ eq-eqb (losses gone (count g packet)) 0 (omega (arith, few, fitted g (in-bounds g packet (takes .passed) .ok) .m-fec fec)))
+    ∙ eq-eqb (losses gone (count g packet)) 0 (omega (arith, few, assured-most g (length packet), fitted g (in-bounds g packet (takes .passed) .ok) .m-fec fec)))
 
--- the plan's figure is m
+-- where the plan's figure is m, so many
 pub survives-m : T3m
-survives-m g n packet es takes few = survives g n packet es takes (omega (arith, few, assures-m g (length packet)))
+survives-m g n packet es takes sure few = survives g n packet es takes (omega (arith, few, assured-is g (length packet) .m-sure sure))

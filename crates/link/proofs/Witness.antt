@@ -13,6 +13,7 @@ use Rattle.base_rules.proofs.Firsts.{skip, none-due}
 use Rattle.base_rules.proofs.Splice.{splice-start}
 use Rattle.base_rules.proofs.Logic.{same}
 use Rattle.cut_rules.specs.declared.Address.the-variants.{None}
+use Rattle.cut_rules.specs.declared.Rule.the-variants.{Older}
 use Rattle.cut_rules.specs.declared.Settings.{Settings}
 use Rattle.cut_rules.specs.Plan.{fit}
 use Rattle.cut_rules.specs.Sizes as cut
@@ -27,7 +28,7 @@ use Rattle.link.specs.Demand.{Takes, count}
 
 -- without FEC and address, at an MTU
 abbrev pub plainAt : ℕ → Settings
-plainAt mtu = record { fec = false; m = 0; mtu = mtu; address = None }
+plainAt mtu = record { fec = false; m = 0; mtu = mtu; address = None; rule = Older }
 
 -- the packet of the payload b
 abbrev pub packetWith : ℕ → List ℕ

@@ -9,6 +9,7 @@ use lib.ListN.{length}
 use Rattle.base_rules.specs.Bytes.{Bytes, splice}
 use Rattle.base_rules.specs.Tests.{among}
 use Rattle.cut_rules.specs.declared.Settings.{Settings}
+use Rattle.cut_rules.specs.Claims.{SureOfM}
 use Rattle.cut_rules.specs.Missing.{losses, suffice}
 use Rattle.cut_rules.specs.Sizes as cut
 use Rattle.header_rules.specs.Read.{badAddress}
@@ -145,17 +146,18 @@ Lifted =
     → Scene g n packet first es now
     → Each (λ earlier e. HeldAfter g n earlier → Said g n packet earlier e) es
 
--- "A sender set for m losses, 1 to 5, always leaves enough after any m": of the m that it is set for,
-abbrev pub T3m : Type 0
-T3m =
-    (g : Settings) (n : ℕ) (packet : List ℕ) (es : List Call) → Takes g n packet
-    → losses (lost (keyFor g n) es) (count g packet) ≤ g .m → enoughAfter g n packet es ≡ true
-
--- and of the figure that its plan is answered with, which is m
+-- "A sender set for m losses, 1 to 5, always leaves enough after any m": document 02, Item 6, has this sentence speak of the losses that the
+-- plan assures,
 abbrev pub T3 : Type 0
 T3 =
     (g : Settings) (n : ℕ) (packet : List ℕ) (es : List Call) → Takes g n packet
     → losses (lost (keyFor g n) es) (count g packet) ≤ cut.assured g (length packet) → enoughAfter g n packet es ≡ true
+
+-- which are m by document 000's rule, and by document 001's unless m is 5 and c above 1
+abbrev pub T3m : Type 0
+T3m =
+    (g : Settings) (n : ℕ) (packet : List ℕ) (es : List Call) → Takes g n packet → SureOfM g (length packet)
+    → losses (lost (keyFor g n) es) (count g packet) ≤ g .m → enoughAfter g n packet es ≡ true
 
 -- "addresses match": a call whose configuration accepts the packet's address hears every fragment of it, as the one that it is
 abbrev pub MatchHeard : Type 0

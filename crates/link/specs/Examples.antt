@@ -31,7 +31,7 @@ here = Pair 1 2
 
 -- document 01, "Bounds": the setting for two losses, but with this address
 abbrev pub twoLosses : Settings
-twoLosses = record { fec = twoLossesOf .fec; m = twoLossesOf .m; mtu = twoLossesOf .mtu; address = here }
+twoLosses = record { fec = twoLossesOf .fec; m = twoLossesOf .m; mtu = twoLossesOf .mtu; address = here; rule = twoLossesOf .rule }
 
 -- document 01, l 415, m 2: 12 fragments, "Any three lost still rebuild, no four do"
 unfoldable pub packet : List ℕ

@@ -4,6 +4,7 @@ pub mod Typed
 pub mod Steps
 pub mod Runs
 pub mod Query
+pub mod Planned
 pub mod Answers
 pub mod Main
 pub mod Proved

@@ -13,7 +13,7 @@ use Rattle.link.specs.Demand as link
 use Rattle.link.proofs.Proved as proved
 use Rattle.shipped.specs.Runs.{Buffers, Call, after, Made, Run, start, next, Reached, callOf, stateOf}
 use Rattle.shipped.specs.Main.{Sending, settings, Cut, key, Own, Scene, missingAfter, Said, HeldAfter, Demanded}
-use Rattle.shipped.specs.Main.{Demand3, Lifted, Bears, NamesGone}
+use Rattle.shipped.specs.Main.{Demand3, Lifted, Bears, BearsM, NamesGone}
 use Rattle.shipped.proofs.Answers.{told-handed, told-named, link-handed, link-named}
 use Rattle.shipped.proofs.Query.{holds-alike, open-told}
 use Rattle.shipped.proofs.Runs.{Gave, goes-on, reached-state, reached-after, made-link, made-gave}
@@ -128,11 +128,16 @@ lifted c first es now scene =
     (scene .run)
     (proved.lifted g (c .number) (c .packet) (stateOf first) (map callOf es) (stateOf now) (scene-link c cut first es now scene))
 
--- after any m losses it is enough
+-- after the losses that the plan assures it is enough
 pub bears : Bears
-unfolding settingsOf
 bears c cut es few =
-    proved.t3m (settings c) (c .number) (c .packet) (map callOf es) (takes c cut) (omega (arith, missing-is c cut es, few))
+    proved.t3 (settings c) (c .number) (c .packet) (map callOf es) (takes c cut) (omega (arith, missing-is c cut es, few))
+
+-- and so after any m, where these are m
+pub bears-m : BearsM
+unfolding settingsOf
+bears-m c cut sure es few =
+    proved.t3m (settings c) (c .number) (c .packet) (map callOf es) (takes c cut) sure (omega (arith, missing-is c cut es, few))
 
 -- no false alarm
 pub names-gone : NamesGone

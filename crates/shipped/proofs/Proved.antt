@@ -1,7 +1,8 @@
 -- The claims of specs/Main.antt and Runs.antt, each by citation. Assumes nothing.
-use Rattle.shipped.specs.Main.{Demand3, Lifted, Bears, SentAll, SentOne, MatchHeard, NamesGone}
+use Rattle.shipped.specs.Main.{Demand3, Lifted, Bears, PlanTells, BearsM, SentAll, SentOne, MatchHeard, NamesGone}
 use Rattle.shipped.specs.Runs.{IsRun, GoesOn, ReachedState, QueryTells, HoldsAlike, OpenTold, SomeCall}
 use Rattle.shipped.proofs.Main as main
+use Rattle.shipped.proofs.Planned as planned
 use Rattle.shipped.proofs.Query as query
 use Rattle.shipped.proofs.Runs as runs
 use Rattle.shipped.proofs.Sent as sent
@@ -16,6 +17,12 @@ lifted = main.lifted
 
 pub bears : Bears
 bears = main.bears
+
+pub plan-tells : PlanTells
+plan-tells = planned.plan-tells
+
+pub bears-m : BearsM
+bears-m = main.bears-m
 
 pub sent-all : SentAll
 sent-all = sent.sent-all

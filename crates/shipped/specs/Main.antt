@@ -9,11 +9,14 @@ use Prim.Native.Nat.{ℕ, _≤_, _<_}
 use lib.ListN.{length, getD, take}
 use Rattle.base_rules.specs.Bytes.{Bytes, splice, numberAt}
 use Rattle.cut_rules.specs.declared.Settings.{Settings}
+use Rattle.cut_rules.specs.Claims.{SureOfM}
 use Rattle.cut_rules.specs.Missing.{losses}
+use Rattle.cut_rules.specs.Plan.{planOf}
+use Rattle.cut_rules.specs.Sizes.{assured}
 use Rattle.places_rules.specs.Places.{open-now}
 use Rattle.sender_rules.specs.Fragments.{fragmentFor}
 use Rattle.sender_rules.specs.Calls.{fragmentCall, fragmentsCall, partAt}
-use Rattle.card_rules.specs.Told.{SentAs}
+use Rattle.card_rules.specs.Told.{CardTold, SentAs}
 use Rattle.card_rules.specs.Sending.{settingsOf, twos}
 use Rattle.link.specs.Run.{heard, numberIn, indexIn, lost, All, Each}
 use Rattle.link.specs.Demand as link
@@ -25,6 +28,7 @@ use Rattle.shipped.specs.Runs.{Buffers, Call, after, Made, Run, Reached,
 pub record Sending : Type 0 where
   pub fec : ℕ
   pub m : ℕ
+  pub newer : ℕ
   pub mtu : ℕ
   pub addressed : ℕ
   pub source : ℕ
@@ -38,7 +42,7 @@ pub record Sending : Type 0 where
 
 -- its settings
 abbrev pub settings : Sending → Settings
-settings c = settingsOf (c .fec) (c .m) (c .mtu) (c .addressed) (c .source) (c .dest)
+settings c = settingsOf (c .fec) (c .m) (c .newer) (c .mtu) (c .addressed) (c .source) (c .dest)
 
 -- the call gave 0; numbers and bytes are what their types in card.h say
 pub record Cut (c : Sending) : Type 0 where
@@ -154,9 +158,22 @@ Lifted =
     (c : Sending) (first : Buffers) (es : List Call) (now : Buffers) → Scene c first es now
     → Each (λ earlier e. HeldAfter c earlier → Said c earlier e) es
 
--- "A sender set for m losses, 1 to 5, always leaves enough after any m"
+-- "A sender set for m losses, 1 to 5, always leaves enough after any m": document 02, Item 6, has this sentence speak of the losses that the
+-- plan assures,
 abbrev pub Bears : Type 0
-Bears = (c : Sending) → Cut c → (es : List Call) → missingAfter c es ≤ c .m → enoughAfter c es ≡ true
+Bears = (c : Sending) → Cut c → (es : List Call) → missingAfter c es ≤ assured (settings c) (length (c .packet)) → enoughAfter c es ≡ true
+
+-- which bailhammer_plan tells last, in its bytes 18 and 19, where it is handed the same numbers and 20 bytes to tell in,
+abbrev pub PlanTells : Type 0
+PlanTells =
+    (c : Sending) → Cut c → (told told-after : List ℕ) (r : ℕ) → 20 ≤ length told
+    → CardTold (twos 10) (planOf (settingsOf (c .fec) (c .m) (c .newer) (c .mtu) (c .addressed) 0 0) (length (c .packet))) told told-after r
+    → (r ≡ 0) × (numberAt 2 told-after 18 ≡ assured (settings c) (length (c .packet)))
+
+-- and which are m by document 000's rule, and by document 001's unless m is 5 and c above 1
+abbrev pub BearsM : Type 0
+BearsM =
+    (c : Sending) → Cut c → SureOfM (settings c) (length (c .packet)) → (es : List Call) → missingAfter c es ≤ c .m → enoughAfter c es ≡ true
 
 -- what bailhammer_fragments wrote, split by what it told, are the fragments of the packet that `Own` of link/specs/Demand.antt speaks of
 abbrev pub SentAll : Type 0

@@ -53,6 +53,7 @@ extern "C" {
     pub fn bailhammer_plan(
         fec: usize,
         m: usize,
+        newer: usize,
         mtu: usize,
         addressed: usize,
         l: usize,
@@ -62,6 +63,7 @@ extern "C" {
     pub fn bailhammer_fragment(
         fec: usize,
         m: usize,
+        newer: usize,
         mtu: usize,
         addressed: usize,
         source: u16,
@@ -78,6 +80,7 @@ extern "C" {
     pub fn bailhammer_fragments(
         fec: usize,
         m: usize,
+        newer: usize,
         mtu: usize,
         addressed: usize,
         source: u16,

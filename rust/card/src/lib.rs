@@ -22,11 +22,11 @@ pub mod tag;
 
 pub use receiver::{Place, Received, Receiver};
 pub use refused::Refused;
-pub use sender::{Address, Settings};
+pub use sender::{Address, Rule, Settings};
 pub use tag::{Step, Walk};
 
 /// One more where a call, a number or a size is another than before.
-pub const VERSION: usize = 1;
+pub const VERSION: usize = 2;
 /// One more where a record or lent bytes that were kept mean something else than before.
 pub const RECORD_LAYOUT: usize = 1;
 

@@ -92,6 +92,7 @@ pub fn walk_step(packet: &[u8], names: &[u8], walker: &mut [u8], told: &mut [u8]
 pub fn plan(
     fec: usize,
     m: usize,
+    newer: usize,
     mtu: usize,
     addressed: usize,
     l: usize,
@@ -99,12 +100,13 @@ pub fn plan(
 ) -> usize {
     let room = told.len();
     // Safety: pointer and length are those of a live slice.
-    unsafe { ffi::bailhammer_plan(fec, m, mtu, addressed, l, told.as_mut_ptr(), room) }
+    unsafe { ffi::bailhammer_plan(fec, m, newer, mtu, addressed, l, told.as_mut_ptr(), room) }
 }
 
 pub fn fragment(
     fec: usize,
     m: usize,
+    newer: usize,
     mtu: usize,
     addressed: usize,
     source: u16,
@@ -120,6 +122,7 @@ pub fn fragment(
         ffi::bailhammer_fragment(
             fec,
             m,
+            newer,
             mtu,
             addressed,
             source,
@@ -139,6 +142,7 @@ pub fn fragment(
 pub fn fragments(
     fec: usize,
     m: usize,
+    newer: usize,
     mtu: usize,
     addressed: usize,
     source: u16,
@@ -153,6 +157,7 @@ pub fn fragments(
         ffi::bailhammer_fragments(
             fec,
             m,
+            newer,
             mtu,
             addressed,
             source,

@@ -12,13 +12,36 @@ pub struct Address {
     pub dest: u16,
 }
 
-/// How a sender cuts. `m` is the fragments that may be lost, and `mtu` the most bytes of one.
+/// By which edition's rule S is worked out, the most payload bytes of a fragment, where m is above
+/// 0; at 0 the two are the same. A receiver takes the fragments of either without being told.
+///
+/// ```
+/// use card::{sender, Rule, Settings};
+/// let newer = Settings { m: 5, rule: Rule::Newer, ..Settings::HOUSE };
+/// let older = Settings { rule: Rule::Older, ..newer };
+/// let (few, many) = (sender::plan(&newer, 414)?, sender::plan(&older, 414)?);
+/// assert_eq!((few.f, few.s, few.losses), (27, 19, 4));
+/// assert_eq!((many.f, many.s, many.losses), (32, 16, 5));
+/// # Ok::<(), card::Refused>(())
+/// ```
+#[derive(Clone, Copy, Debug, PartialEq, Eq)]
+pub enum Rule {
+    /// Document 000's: S is the smaller of floor(48 c / (m + 1)) and mtu - h. The settings with a
+    /// name have this one.
+    Older,
+    /// Document 001's: S is the smaller of floor(48 c / m) and mtu - h.
+    Newer,
+}
+
+/// How a sender cuts. `m` is the losses that it is set for, [`Plan::losses`] those that a cut then
+/// assures; `mtu` is the most bytes of a fragment, header and all.
 #[derive(Clone, Copy, Debug, PartialEq, Eq)]
 pub struct Settings {
     pub fec: bool,
     pub m: usize,
     pub mtu: usize,
     pub address: Option<Address>,
+    pub rule: Rule,
 }
 
 impl Settings {
@@ -30,10 +53,12 @@ impl Settings {
     ///     ..card::Settings::HOUSE
     /// };
     /// ```
-    pub const HOUSE: Settings = Settings { fec: true, m: 1, mtu: 1_400, address: None };
+    pub const HOUSE: Settings =
+        Settings { fec: true, m: 1, mtu: 1_400, address: None, rule: Rule::Older };
 
     /// The setting for two losses, the house default of old: any two fragments may be lost.
-    pub const TWO_LOSSES: Settings = Settings { fec: true, m: 2, mtu: 1_400, address: None };
+    pub const TWO_LOSSES: Settings =
+        Settings { fec: true, m: 2, mtu: 1_400, address: None, rule: Rule::Older };
 }
 
 /// The house default.
@@ -64,7 +89,8 @@ pub struct Plan {
     pub f: u16,
     /// Payload bytes of each; without FEC the last may have fewer.
     pub s: u16,
-    /// The lost fragments that the cut is made to bear, whichever they are.
+    /// The lost fragments that the cut assures, whichever they are: m, but 4 at m 5 by the newer
+    /// rule where c is above 1.
     pub losses: u16,
 }
 
@@ -139,6 +165,14 @@ pub(crate) fn pair(address: Option<Address>) -> (usize, u16, u16) {
     }
 }
 
+/// A rule as the library takes it: whether it is the newer one.
+fn newer(rule: Rule) -> usize {
+    match rule {
+        Rule::Older => 0,
+        Rule::Newer => 1,
+    }
+}
+
 /// Plans the cut of a packet of l bytes. Refused: 40, 20, 22, 41.
 ///
 /// ```
@@ -151,8 +185,9 @@ pub(crate) fn pair(address: Option<Address>) -> (usize, u16, u16) {
 /// ```
 pub fn plan(settings: &Settings, l: usize) -> Result<Plan, Refused> {
     let mut told = [0; raw::TOLD_PLAN];
-    let Settings { fec, m, mtu, address } = *settings;
-    done(raw::plan(fec.into(), m, mtu, address.is_some().into(), l, &mut told))?;
+    let Settings { fec, m, mtu, address, rule } = *settings;
+    let addressed = address.is_some().into();
+    done(raw::plan(fec.into(), m, newer(rule), mtu, addressed, l, &mut told))?;
     Ok(Plan {
         c: short(&told, 0),
         k: short(&told, 2),
@@ -177,11 +212,12 @@ pub fn fragment(
     out: &mut [u8],
 ) -> Result<usize, Refused> {
     let mut told = [0; raw::TOLD_FRAGMENT];
-    let Settings { fec, m, mtu, address } = *settings;
+    let Settings { fec, m, mtu, address, rule } = *settings;
     let (addressed, source, dest) = pair(address);
     done(raw::fragment(
         fec.into(),
         m,
+        newer(rule),
         mtu,
         addressed,
         source,
@@ -217,11 +253,12 @@ pub fn fragments(
     out: &mut [u8],
 ) -> Result<Split, Refused> {
     let mut told = [0; raw::TOLD_FRAGMENTS];
-    let Settings { fec, m, mtu, address } = *settings;
+    let Settings { fec, m, mtu, address, rule } = *settings;
     let (addressed, source, dest) = pair(address);
     done(raw::fragments(
         fec.into(),
         m,
+        newer(rule),
         mtu,
         addressed,
         source,

@@ -18,6 +18,8 @@ pub struct Call {
     pub datagram: Vec<u8>,
     pub told: Vec<u8>,
     pub out: Vec<u8>,
+    /// The datagram is as it was sent, and the older rule would have cut its packet otherwise.
+    pub otherwise: bool,
 }
 
 impl Call {
@@ -53,7 +55,7 @@ impl Call {
 
     /// All of it in hex.
     pub fn inputs(&self) -> String {
-        let Call { own, table, lent, datagram, told, out } = self;
+        let Call { own, table, lent, datagram, told, out, .. } = self;
         let (table, lent, datagram) = (hex(table), hex(lent), hex(datagram));
         format!(
             "own={own:?} datagram={datagram} told={} out={} table={table} lent={lent}",

@@ -137,6 +137,9 @@ fn questions(seed: u64) -> Tally {
 
 /// Prints the counts and what is wrong with them.
 fn report(tallies: &[Tally], whole: bool) -> ExitCode {
+    for case in tallies.iter().flat_map(Tally::cases) {
+        println!("{case}");
+    }
     println!("kind         calls   number: how often");
     for tally in tallies {
         println!("{}", tally.line());

@@ -12,7 +12,10 @@ use crate::record;
 use crate::rng::Rng;
 use crate::sender::{pair, typed_address};
 use crate::tally::{number_of, told, Judge, Tally};
-use crate::traffic::{damage, Traffic};
+use crate::traffic::{damage, Datagram, Traffic};
+
+/// The packets that show the newer rule to the receiver, which is not told of it.
+const OTHERWISE: &str = "packets handed out that the older rule would have cut otherwise";
 
 /// What the reference comes to: its answer, its table and all that was lent, afterwards.
 struct Known {
@@ -82,8 +85,9 @@ impl Desk {
 
     /// The next call, and whether its record was changed.
     fn call(&mut self, rng: &mut Rng) -> (Call, bool) {
-        let (mut datagram, address) = self.traffic.next(rng);
-        if rng.chance(12) {
+        let Datagram { bytes: mut datagram, address, otherwise } = self.traffic.next(rng);
+        let damaged = rng.chance(12);
+        if damaged {
             damage(rng, &mut datagram, address);
         }
         let other = Some(Address { source: rng.short(), dest: rng.short() });
@@ -97,7 +101,8 @@ impl Desk {
         }
         let (told, room) = (rng.room(raw::TOLD_RECEIVE), af::MOST + rng.pick(&[0, 0, 1, 300]));
         let (lent, out) = (self.lent.clone(), rng.bytes(room));
-        (Call { own, table, lent, datagram, told, out }, changed)
+        let otherwise = otherwise && !damaged;
+        (Call { own, table, lent, datagram, told, out, otherwise }, changed)
     }
 
     /// Compares a call of receive; gives what the reference came to, where it is known.
@@ -170,6 +175,7 @@ impl Desk {
         let Ok(Received { kept: Kept::Delivered { length, missing }, .. }) = answer else {
             return;
         };
+        self.received.note(OTHERWISE, call.otherwise);
         self.delivered.push((*length, *missing));
         if rng.chance(70) {
             self.traffic.forget(u16::from_be_bytes([call.datagram[2], call.datagram[3]]));

@@ -1,12 +1,24 @@
 //! The sender: plan, fragment, fragments.
 
 use card::{raw, sender};
-use reference::plan::{header_length, plan as expected_plan, Plan, Settings, MOST_MTU};
+use reference::plan::{header_length, plan as expected_plan, Plan, Rule, Settings, MOST_MTU};
 use reference::sender::{fragment as expected_fragment, fragments as expected_fragments, Sent};
 
 use crate::af::{packet, wrong_packet};
 use crate::rng::Rng;
 use crate::tally::{due, hex, number_of, told, Judge, Tally};
+
+/// The calls that show the newer rule: many settings are cut alike by both.
+const OTHERWISE: &str = "granted that the older rule would cut otherwise";
+/// The plans that assure fewer losses than the sender is set for.
+const FEWER: &str = "granted that assure 4 losses at m 5";
+
+/// Whether the older rule cuts a packet of l bytes otherwise; where f is the same, so is all else
+/// of the fragments.
+pub fn cut_otherwise(settings: &Settings, l: usize) -> bool {
+    let f = |rule| expected_plan(&Settings { rule, ..*settings }, l).map(|plan| plan.f);
+    f(settings.rule) != f(Rule::Older)
+}
 
 /// Settings in their bounds for packets of about l bytes, and at times any.
 pub fn settings(rng: &mut Rng, l: usize) -> Settings {
@@ -20,7 +32,7 @@ pub fn settings(rng: &mut Rng, l: usize) -> Settings {
         6..9 => h + 1 + l / rng.within(1, 40),
         _ => rng.within(h + 1, MOST_MTU),
     };
-    Settings { fec, m, mtu, address }
+    Settings { fec, m, mtu, address, rule: rng.pick(&[Rule::Older, Rule::Newer]) }
 }
 
 /// Settings that cannot be, for the most part.
@@ -56,8 +68,12 @@ pub fn typed_address(address: Option<reference::plan::Address>) -> Option<sender
 
 /// Settings for the typed calls.
 pub fn typed_settings(settings: &Settings) -> sender::Settings {
-    let Settings { fec, m, mtu, address } = *settings;
-    sender::Settings { fec, m, mtu, address: typed_address(address) }
+    let Settings { fec, m, mtu, address, rule } = *settings;
+    let rule = match rule {
+        Rule::Older => sender::Rule::Older,
+        Rule::Newer => sender::Rule::Newer,
+    };
+    sender::Settings { fec, m, mtu, address: typed_address(address), rule }
 }
 
 /// An address as the calls take it; without one, source and dest may be any.
@@ -80,22 +96,26 @@ pub fn plan(rng: &mut Rng, tally: &mut Tally) {
     };
     let (settings, before) = (any_settings(rng, l.min(8_192)), rng.room(raw::TOLD_PLAN));
     let (fec, addressed) = (rng.flag(settings.fec), rng.flag(settings.address.is_some()));
-    let mut after = before.clone();
-    let number = raw::plan(fec, settings.m, settings.mtu, addressed, l, &mut after);
+    let (newer, mut after) = (rng.flag(settings.rule == Rule::Newer), before.clone());
+    let number = raw::plan(fec, settings.m, newer, settings.mtu, addressed, l, &mut after);
     let typed = sender::plan(&typed_settings(&settings), l).map_err(|refused| refused.0);
     let expected = expected_plan(&settings, l);
 
     let mut judge = Judge::default();
     let shown = |p: Plan| [p.c, p.k, p.z, p.n, p.h, p.most, p.total, p.f, p.s, p.losses];
+    let fewer = expected.is_ok_and(|plan| plan.losses < settings.m);
     let expected = expected.map(shown);
     let due = due(&expected, &before, raw::TOLD_PLAN);
     judge.same("number", number, number_of(&due));
     let line = due.map_or(before.clone(), |figures| told(&before, &shorts(figures)));
     judge.bytes("told", &after, &line);
+    tally.note(OTHERWISE, due.is_ok() && cut_otherwise(&settings, l));
+    tally.note(FEWER, due.is_ok() && fewer);
     let typed = typed.map(|p| [p.c, p.k, p.z, p.n, p.h, p.most, p.total, p.f, p.s, p.losses]);
     judge.same("typed", typed.map(|p| p.map(usize::from)), expected);
     tally.count(number, judge, || {
-        format!("fec={fec} {settings:?} addressed={addressed} l={l} told={}", hex(&before))
+        let flags = format!("fec={fec} newer={newer} addressed={addressed}");
+        format!("{flags} {settings:?} l={l} told={}", hex(&before))
     });
 }
 
@@ -126,8 +146,9 @@ pub fn fragment(rng: &mut Rng, tally: &mut Tally) {
         (before.clone(), before.clone(), before.clone());
     let (fec, (addressed, source, dest)) = (rng.flag(settings.fec), pair(rng, settings.address));
     let (m, mtu, mut after) = (settings.m, settings.mtu, told_before.clone());
+    let newer = rng.flag(settings.rule == Rule::Newer);
     let number = raw::fragment(
-        fec, m, mtu, addressed, source, dest, pseq, &packet, index, &mut after, &mut out,
+        fec, m, newer, mtu, addressed, source, dest, pseq, &packet, index, &mut after, &mut out,
     );
     let typed = sender::fragment(&typed_settings(&settings), pseq, &packet, index, &mut typed_out);
     let expected = expected_fragment(&settings, pseq, &packet, index, &mut expected_out);
@@ -137,13 +158,15 @@ pub fn fragment(rng: &mut Rng, tally: &mut Tally) {
     judge.same("number", number, number_of(&due));
     let line = due.map_or(told_before.clone(), |length| told(&told_before, &shorts(&[*length])));
     judge.bytes("told", &after, &line);
+    tally.note(OTHERWISE, due.is_ok() && cut_otherwise(&settings, packet.len()));
     judge.bytes("out", &out, if due.is_ok() { &expected_out } else { &before });
     judge.same("typed", typed.map_err(|refused| refused.0), expected);
     judge.bytes("typed out", &typed_out, &expected_out);
     tally.count(number, judge, || {
         let (packet, told, out) = (hex(&packet), hex(&told_before), hex(&before));
         let pair = format!("addressed={addressed} source={source} dest={dest}");
-        format!("fec={fec} {settings:?} {pair} number={pseq} packet={packet} index={index} told={told} out={out}")
+        let flags = format!("fec={fec} newer={newer} {settings:?} {pair}");
+        format!("{flags} number={pseq} packet={packet} index={index} told={told} out={out}")
     });
 }
 
@@ -157,8 +180,10 @@ pub fn fragments(rng: &mut Rng, tally: &mut Tally) {
         (before.clone(), before.clone(), before.clone());
     let (fec, (addressed, source, dest)) = (rng.flag(settings.fec), pair(rng, settings.address));
     let (m, mtu, mut after) = (settings.m, settings.mtu, told_before.clone());
-    let number =
-        raw::fragments(fec, m, mtu, addressed, source, dest, pseq, &packet, &mut after, &mut out);
+    let newer = rng.flag(settings.rule == Rule::Newer);
+    let number = raw::fragments(
+        fec, m, newer, mtu, addressed, source, dest, pseq, &packet, &mut after, &mut out,
+    );
     let typed = sender::fragments(&typed_settings(&settings), pseq, &packet, &mut typed_out);
     let expected = expected_fragments(&settings, pseq, &packet, &mut expected_out);
 
@@ -168,6 +193,7 @@ pub fn fragments(rng: &mut Rng, tally: &mut Tally) {
     let shown = |sent: &Sent| shorts(&[sent.f, sent.h, sent.s, sent.last]);
     let line = due.map_or(told_before.clone(), |sent| told(&told_before, &shown(sent)));
     judge.bytes("told", &after, &line);
+    tally.note(OTHERWISE, due.is_ok() && cut_otherwise(&settings, packet.len()));
     judge.bytes("out", &out, if due.is_ok() { &expected_out } else { &before });
     let typed = typed.map(|t| Sent { f: t.f, h: t.h, s: t.s, last: t.last });
     judge.same("typed", typed.map_err(|refused| refused.0), expected);
@@ -175,6 +201,7 @@ pub fn fragments(rng: &mut Rng, tally: &mut Tally) {
     tally.count(number, judge, || {
         let (packet, told, out) = (hex(&packet), hex(&told_before), hex(&before));
         let pair = format!("addressed={addressed} source={source} dest={dest}");
-        format!("fec={fec} {settings:?} {pair} number={pseq} packet={packet} told={told} out={out}")
+        let flags = format!("fec={fec} newer={newer} {settings:?} {pair}");
+        format!("{flags} number={pseq} packet={packet} told={told} out={out}")
     });
 }

@@ -36,12 +36,23 @@ pub struct Tally {
     pub kind: &'static str,
     numbers: &'static [usize],
     counts: BTreeMap<usize, usize>,
+    noted: BTreeMap<&'static str, usize>,
     pub differing: usize,
 }
 
 impl Tally {
     pub fn new(kind: &'static str, numbers: &'static [usize]) -> Tally {
-        Tally { kind, numbers, counts: BTreeMap::new(), differing: 0 }
+        Tally { kind, numbers, counts: BTreeMap::new(), noted: BTreeMap::new(), differing: 0 }
+    }
+
+    /// Counts a call as a case of its own where `met` holds; a case that none meets is a fault.
+    pub fn note(&mut self, case: &'static str, met: bool) {
+        *self.noted.entry(case).or_default() += usize::from(met);
+    }
+
+    /// How many calls met each case, one line each.
+    pub fn cases(&self) -> Vec<String> {
+        self.noted.iter().map(|(case, met)| format!("{}: {met} {case}", self.kind)).collect()
     }
 
     /// Counts a call by its number, and prints it where it differs.
@@ -86,6 +97,9 @@ impl Tally {
         }
         if self.given(0) * 3 < self.calls() {
             faults.push(format!("{}: under a third succeed", self.kind));
+        }
+        for (case, _) in self.noted.iter().filter(|(_, met)| **met == 0) {
+            faults.push(format!("{}: none {case}", self.kind));
         }
         for number in self.numbers.iter().filter(|number| self.given(**number) == 0) {
             faults.push(format!("{}: number {number} never occurs", self.kind));

@@ -16,10 +16,20 @@ const ON_THE_WAY: [usize; 12] = [1, 1, 2, 2, 2, 3, 3, 3, 4, 4, 4, 6];
 /// The fragments of a packet, for the most part.
 const FEW: usize = 16;
 
-/// The fragments of a packet that are still to come, last one first.
+/// The fragments of a packet that are still to come, last one first, and whether the older rule
+/// would have cut them otherwise.
 struct Source {
     address: Option<Address>,
     fragments: Vec<Vec<u8>>,
+    otherwise: bool,
+}
+
+/// A fragment, the address that it is meant for, and whether the older rule would have cut its
+/// packet otherwise.
+pub struct Datagram {
+    pub bytes: Vec<u8>,
+    pub address: Option<Address>,
+    pub otherwise: bool,
 }
 
 /// Packets on their way.
@@ -30,8 +40,8 @@ pub struct Traffic {
 }
 
 impl Traffic {
-    /// The next datagram, which is a fragment, and the address that it is meant for.
-    pub fn next(&mut self, rng: &mut Rng) -> (Vec<u8>, Option<Address>) {
+    /// The next datagram.
+    pub fn next(&mut self, rng: &mut Rng) -> Datagram {
         loop {
             if self.sources.len() < rng.pick(&ON_THE_WAY) {
                 self.number = self.number.wrapping_add(1);
@@ -42,9 +52,9 @@ impl Traffic {
                 continue;
             }
             let at = rng.below(self.sources.len());
-            let source = &mut self.sources[at];
-            match source.fragments.pop() {
-                Some(fragment) => return (fragment, source.address),
+            let Source { address, ref mut fragments, otherwise } = self.sources[at];
+            match fragments.pop() {
+                Some(bytes) => return Datagram { bytes, address, otherwise },
                 None => drop(self.sources.swap_remove(at)),
             }
         }
@@ -72,14 +82,15 @@ fn length(rng: &mut Rng) -> usize {
 /// A packet cut and sent: in any order or in its own, with losses and repeats, and at times with
 /// damage to what it carries.
 fn source(rng: &mut Rng, number: u16) -> Source {
-    let (address, mut fragments) = match rng.below(20) {
+    let mut source = match rng.below(20) {
         0..12 => planned(rng, number),
         12..17 => woven(rng, number),
         _ => plain(rng, number),
     };
+    let fragments = &mut source.fragments;
     let f = fragments.len();
     if rng.chance(60) {
-        rng.shuffle(&mut fragments);
+        rng.shuffle(fragments);
     }
     if rng.chance(40) {
         let lost = rng.within(0, f.div_ceil(4));
@@ -96,11 +107,11 @@ fn source(rng: &mut Rng, number: u16) -> Source {
             rng.damage(&mut fragments[at][payload..]);
         }
     }
-    Source { address, fragments }
+    source
 }
 
-/// A packet cut by the sender.
-fn planned(rng: &mut Rng, number: u16) -> (Option<Address>, Vec<Vec<u8>>) {
+/// A packet cut by the sender, by either rule.
+fn planned(rng: &mut Rng, number: u16) -> Source {
     let mut out = vec![0; 32_768];
     loop {
         let l = length(rng);
@@ -108,7 +119,9 @@ fn planned(rng: &mut Rng, number: u16) -> (Option<Address>, Vec<Vec<u8>>) {
         let typed = sender::typed_settings(&settings);
         let sent = typed_sender::fragments(&typed, number, &packet, &mut out).ok();
         if let Some(split) = sent.filter(|split| split.f <= FEW || rng.chance(4)) {
-            return (settings.address, split.parts(&out).map(<[u8]>::to_vec).collect());
+            let fragments = split.parts(&out).map(<[u8]>::to_vec).collect();
+            let otherwise = sender::cut_otherwise(&settings, l);
+            return Source { address: settings.address, fragments, otherwise };
         }
     }
 }
@@ -123,7 +136,7 @@ fn content(rng: &mut Rng, l: usize) -> Vec<u8> {
 }
 
 /// A packet with FEC under other sizes than a sender's: any chunks, any count of fragments.
-fn woven(rng: &mut Rng, number: u16) -> (Option<Address>, Vec<Vec<u8>>) {
+fn woven(rng: &mut Rng, number: u16) -> Source {
     let (k, c) = block::chunks(rng, 20);
     let (l, n) = (c * k - rng.below(k), k + PARITY);
     let (mut f, mut s) = block::fragments(rng, c * n);
@@ -143,11 +156,11 @@ fn woven(rng: &mut Rng, number: u16) -> (Option<Address>, Vec<Vec<u8>>) {
         let header = Header { number, findex, fcount: f, plen: s, chunks, address };
         header.bytes().into_iter().chain(payload).collect()
     };
-    (address, (0..f).map(fragment).collect())
+    Source { address, fragments: (0..f).map(fragment).collect(), otherwise: false }
 }
 
 /// A packet without FEC, cut anywhere.
-fn plain(rng: &mut Rng, number: u16) -> (Option<Address>, Vec<Vec<u8>>) {
+fn plain(rng: &mut Rng, number: u16) -> Source {
     let l = if rng.chance(10) { rng.within(1, 30) } else { length(rng) };
     let (packet, least) = (content(rng, l), l.div_ceil(MOST_FRAGMENTS));
     let s = rng.within(least.max(l / 30).max(1), l);
@@ -158,7 +171,8 @@ fn plain(rng: &mut Rng, number: u16) -> (Option<Address>, Vec<Vec<u8>>) {
         let header = Header { number, findex, fcount, plen, chunks: None, address };
         [header.bytes(), payload.to_vec()].concat()
     };
-    (address, packet.chunks(s).enumerate().map(fragment).collect())
+    let fragments = packet.chunks(s).enumerate().map(fragment).collect();
+    Source { address, fragments, otherwise: false }
 }
 
 /// Damages a datagram so that it is refused, for the most part.

@@ -1,7 +1,7 @@
 //! The questions of the console: from a line to an answer.
 
 use crate::code::{Filling, MOST_DATA, PARITY};
-use crate::plan::{Address, Settings, HOUSE, TWO_LOSSES};
+use crate::plan::{Address, Rule, Settings, HOUSE, TWO_LOSSES};
 use crate::receiver::{Condition, Kept, Received, Table};
 use crate::tag::{Name, Walked};
 use crate::{af, code, crc, field, listing, number, plan, sender, tag, Answer};
@@ -107,18 +107,32 @@ fn on_sender(words: &[&str]) -> Option<Answer<String>> {
     match words {
         ["house"] => Some(Ok(show_settings(&HOUSE))),
         ["twolosses"] => Some(Ok(show_settings(&TWO_LOSSES))),
+        [question @ .., "old"] => on_cut(question, Some(Rule::Older)),
+        [question @ .., "new"] => on_cut(question, Some(Rule::Newer)),
+        _ => on_cut(words, None),
+    }
+}
+
+/// A question to the sender without its last word, which may name the rule; `plan` tells what is
+/// assured where it does.
+fn on_cut(words: &[&str], named: Option<Rule>) -> Option<Answer<String>> {
+    let rule = named.unwrap_or(Rule::Older);
+    match words {
         ["plan", fec, m, mtu, addr, l] => {
-            let settings = settings(fec, m, mtu, addr)?;
-            Some(plan::plan(&settings, any_number(l)?).map(|plan| show_plan(&plan)))
+            let plan = plan::plan(&settings(fec, m, mtu, addr, rule)?, any_number(l)?);
+            Some(plan.map(|plan| match named {
+                Some(_) => format!("{} assured={}", show_plan(&plan), plan.losses),
+                None => show_plan(&plan),
+            }))
         }
         ["fragment", fec, m, mtu, addr, pseq, index, room, packet] => {
-            let (settings, number) = (settings(fec, m, mtu, addr)?, short(pseq)?);
+            let (settings, number) = (settings(fec, m, mtu, addr, rule)?, short(pseq)?);
             let (index, mut out, packet) = (any_number(index)?, buffer(room)?, bytes(packet)?);
             let sent = sender::fragment(&settings, number, &packet, index, &mut out);
             Some(sent.map(|length| format!("fragment {}", hex(&out[..length]))))
         }
         ["fragments", fec, m, mtu, addr, pseq, room, packet] => {
-            let (settings, number) = (settings(fec, m, mtu, addr)?, short(pseq)?);
+            let (settings, number) = (settings(fec, m, mtu, addr, rule)?, short(pseq)?);
             let (mut out, packet) = (buffer(room)?, bytes(packet)?);
             let sent = sender::fragments(&settings, number, &packet, &mut out);
             Some(sent.map(|sent| format!("fragments {}", hex(&out[..sent.total()]))))
@@ -236,9 +250,9 @@ fn address(word: &str) -> Option<Option<Address>> {
     Some(Some(Address { source, dest }))
 }
 
-fn settings(fec: &str, m: &str, mtu: &str, addr: &str) -> Option<Settings> {
+fn settings(fec: &str, m: &str, mtu: &str, addr: &str, rule: Rule) -> Option<Settings> {
     let (fec, address) = (flag(fec)?, address(addr)?);
-    Some(Settings { fec, m: any_number(m)?, mtu: any_number(mtu)?, address })
+    Some(Settings { fec, m: any_number(m)?, mtu: any_number(mtu)?, address, rule })
 }
 
 /// The positions named, as a mask over so many bytes.

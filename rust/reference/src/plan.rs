@@ -1,4 +1,4 @@
-//! Clause 7.2: the sizes of a packet's fragments.
+//! Clause 7.2 of both editions: the sizes of a packet's fragments.
 
 use crate::code::{MOST_DATA, PARITY};
 use crate::{af, number, refuse, Answer};
@@ -17,6 +17,14 @@ pub struct Address {
     pub dest: u16,
 }
 
+/// By which edition's formula S is worked out (document 02, Item 6): document 000's is the older,
+/// document 001's the newer.
+#[derive(Clone, Copy, Debug, PartialEq)]
+pub enum Rule {
+    Older,
+    Newer,
+}
+
 /// How a sender cuts.
 #[derive(Clone, Copy, Debug, PartialEq)]
 pub struct Settings {
@@ -24,16 +32,19 @@ pub struct Settings {
     pub m: usize,
     pub mtu: usize,
     pub address: Option<Address>,
+    pub rule: Rule,
 }
 
 /// The house default (document 02, Item 5).
-pub const HOUSE: Settings = Settings { fec: true, m: 1, mtu: 1_400, address: None };
+pub const HOUSE: Settings =
+    Settings { fec: true, m: 1, mtu: 1_400, address: None, rule: Rule::Older };
 /// The setting for two losses, the house default of document 01, "Bounds".
-pub const TWO_LOSSES: Settings = Settings { fec: true, m: 2, mtu: 1_400, address: None };
+pub const TWO_LOSSES: Settings =
+    Settings { fec: true, m: 2, mtu: 1_400, address: None, rule: Rule::Older };
 
 /// The sizes under their names in document 01; `most` is S and `total` is L. Without FEC c, k, z
-/// and n are 0. `losses` is how many fragments may be lost whichever they are: what the sender is
-/// set for, and none without FEC.
+/// and n are 0. `losses` is how many fragments may be lost whichever they are, as the sender
+/// assures it, and none without FEC.
 #[derive(Clone, Copy, Debug, PartialEq)]
 pub struct Plan {
     pub c: usize,
@@ -84,16 +95,28 @@ pub fn plan(settings: &Settings, l: usize) -> Answer<Plan> {
     Ok(plan)
 }
 
-/// The formulas of clause 7.2.2, as document 01 writes them.
+/// The formulas of clause 7.2.2, as documents 01 and 02 write them.
 fn sizes(settings: &Settings, l: usize) -> Plan {
     let h = header_length(settings.fec, settings.address.is_some());
     let (c, k, z, n) = if settings.fec { chunks(l) } else { (0, 0, 0, 0) };
     let room = settings.mtu - h;
-    let most = if settings.m == 0 { room } else { room.min(PARITY * c / (settings.m + 1)) };
+    let most = match (settings.m, settings.rule) {
+        (0, _) => room,
+        (m, Rule::Older) => room.min(PARITY * c / (m + 1)),
+        (m, Rule::Newer) => room.min(PARITY * c / m),
+    };
     let total = if settings.fec { c * n } else { l };
     let f = total.div_ceil(most);
     let s = total.div_ceil(f);
-    Plan { c, k, z, n, most, total, f, s, h, losses: settings.m }
+    Plan { c, k, z, n, most, total, f, s, h, losses: assured(settings, c) }
+}
+
+/// Document 02, Item 6: m, but 4 when m is 5 and c above 1 under the new rule.
+fn assured(settings: &Settings, c: usize) -> usize {
+    match (settings.rule, settings.m) {
+        (Rule::Newer, 5) if c > 1 => 4,
+        (_, m) => m,
+    }
 }
 
 /// c, k, z and n of a packet of l bytes.

@@ -1,6 +1,6 @@
 //! What documents 01 and 02 say that a line of the console does not show.
 
-use reference::plan::{plan, Plan, Settings, HOUSE, TWO_LOSSES};
+use reference::plan::{plan, Plan, Rule, Settings, HOUSE, TWO_LOSSES};
 use reference::receiver::{Kept, Received, Table, LENT};
 use reference::{af, crc, field, number, sender, tag};
 
@@ -12,6 +12,11 @@ fn packet(l: usize) -> Vec<u8> {
     let mut packet = vec![0; l];
     assert_eq!(af::wrap(7, true, &payload, &mut packet), Ok(l));
     packet
+}
+
+/// Settings for m losses by document 001's rule.
+fn newer(m: usize) -> Settings {
+    Settings { m, rule: Rule::Newer, ..HOUSE }
 }
 
 /// The fragments of a packet under number 9.
@@ -88,6 +93,48 @@ fn starred_rows() {
     assert_eq!((field::power(8), field::power(9)), (29, 58));
 }
 
+/// Document 02, Item 6, at MTU 1,400: f, s and the losses assured for m from 1 to 5.
+#[test]
+fn rows_of_the_newer_rule() {
+    let rows = [
+        (12, [(2, 30), (3, 20), (4, 15), (5, 12), (7, 9)], 5),
+        (207, [(6, 43), (11, 24), (16, 16), (22, 12), (29, 9)], 5),
+        (208, [(4, 76), (7, 44), (10, 31), (13, 24), (16, 19)], 4),
+        (414, [(6, 85), (11, 47), (16, 32), (22, 24), (27, 19)], 4),
+        (415, [(4, 141), (8, 71), (12, 47), (16, 36), (21, 27)], 4),
+        (8_192, [(8, 1_265), (11, 920), (16, 633), (22, 460), (27, 375)], 4),
+    ];
+    for (l, sizes, at_five) in rows {
+        for (m, ((f, s), assured)) in (1..).zip(sizes.into_iter().zip([1, 2, 3, 4, at_five])) {
+            let plan = plan(&newer(m), l).unwrap();
+            assert_eq!((plan.f, plan.s, plan.losses), (f, s, assured), "l {l} m {m}");
+        }
+    }
+    let short = |mtu, l| plan(&Settings { mtu, ..newer(5) }, l);
+    let shown = |plan: Plan| (plan.most, plan.f, plan.s, plan.losses);
+    assert_eq!(short(30, 414).map(shown), Ok((14, 37, 14, 4)));
+    assert_eq!(short(56, 8_192).map(shown), Ok((40, 253, 40, 4)));
+    assert_eq!(short(55, 8_192), Err(number::TOOMANY));
+}
+
+/// Document 02, Item 6: with m 0 both rules cut alike, and each refusal is that of the older one.
+#[test]
+fn what_the_rule_does_not_change() {
+    let both = |settings: Settings, l| {
+        let older = plan(&Settings { rule: Rule::Older, ..settings }, l);
+        assert_eq!(plan(&Settings { rule: Rule::Newer, ..settings }, l), older);
+        older
+    };
+    let without = Settings { fec: false, m: 0, ..HOUSE };
+    let shown = |plan: Plan| (plan.f, plan.s, plan.losses);
+    assert_eq!(both(without, 1_387).map(shown), Ok((2, 694, 0)));
+    assert_eq!(both(Settings { m: 0, ..HOUSE }, 8_192).map(shown), Ok((8, 1_265, 0)));
+    assert_eq!(both(Settings { m: 6, ..HOUSE }, 414), Err(number::SETTINGS));
+    assert_eq!(both(Settings { m: 1, ..without }, 414), Err(number::SETTINGS));
+    assert_eq!(both(HOUSE, 11), Err(number::AF_SHORT));
+    assert_eq!(both(HOUSE, 8_193), Err(number::AF_LENGTH));
+}
+
 /// l 415, m 2: any three lost still rebuild, no four do.
 #[test]
 fn three_lost_rebuild_and_no_four() {
@@ -105,6 +152,50 @@ fn three_lost_rebuild_and_no_four() {
             assert!(desk.out[LENGTH..].iter().all(|byte| *byte == 0x5A));
         }
     }
+}
+
+/// What a receiver, which is not told the rule, answers to the last fragment that is not lost; a
+/// packet that it hands out is the one that was cut.
+fn last_answer(packet: &[u8], cut: &[Vec<u8>], lost: &[usize]) -> Option<Result<Received, u8>> {
+    let mut desk = Desk::new();
+    let come = (0..cut.len()).filter(|i| !lost.contains(i));
+    let last = come.map(|i| desk.take(&cut[i])).last();
+    if let Some(Ok(Received { kept: Kept::Delivered { length, .. }, .. })) = last {
+        assert_eq!(&desk.out[..length], packet);
+    }
+    last
+}
+
+/// By the newer rule, l 415 and m from 1 to 4, and m 5 where c is 1: any m lost rebuild, and here
+/// no more do.
+#[test]
+fn by_the_newer_rule_m_lost_rebuild_and_no_more() {
+    for (l, m) in [(LENGTH, 1), (LENGTH, 2), (LENGTH, 3), (LENGTH, 4), (12, 5)] {
+        let packet = packet(l);
+        let fragments = cut(&newer(m), &packet);
+        let f = fragments.len();
+        for set in (0u32..1 << f).filter(|set| (m..=m + 1).contains(&(set.count_ones() as usize))) {
+            let lost: Vec<usize> = (0..f).filter(|i| set >> i & 1 == 1).collect();
+            let delivered = Kept::Delivered { length: l, missing: m };
+            let due = if lost.len() == m { delivered } else { Kept::Waits };
+            assert_eq!(last_answer(&packet, &fragments, &lost), Some(kept(due)));
+        }
+    }
+}
+
+/// l 414, m 5 by the newer rule: "five lost fragments can take 50 bytes of a chunk" of 255, which
+/// has 9 bytes in each of 27 fragments and one more in 12 of them.
+#[test]
+fn five_lost_of_27_rebuild_at_times() {
+    let packet = packet(414);
+    let fragments = cut(&newer(5), &packet);
+    let answer = |lost: &[usize]| last_answer(&packet, &fragments, lost);
+    let delivered = |missing| Some(kept(Kept::Delivered { length: 414, missing }));
+    assert_eq!(answer(&[0, 1, 2, 3, 4]), Some(kept(Kept::Waits)));
+    assert_eq!(answer(&[12, 13, 14, 15, 16]), Some(kept(Kept::Waits)));
+    assert_eq!(answer(&[0, 1, 12, 13, 24]), delivered(5));
+    assert_eq!(answer(&[0, 1, 2, 3]), delivered(4));
+    assert_eq!(answer(&[12, 13, 14, 15]), delivered(4));
 }
 
 #[test]

@@ -20,7 +20,7 @@ returns c =
     let short = sent .before .before in
     let set = short .before in
     let a = set .before .before .before .before .args in
-    fragment-short (settingsOf (a .fec) (a .m) (a .mtu) (a .addressed) (a .source) (a .dest)) (a .pseq) (a .packet .now) (a .out .now) (a .told .now)
+    fragment-short (settingsOf (a .fec) (a .m) (a .newer) (a .mtu) (a .addressed) (a .source) (a .dest)) (a .pseq) (a .packet .now) (a .out .now) (a .told .now)
     (a .index) (omega arith)
     (sent .fragment .ensures ∙ ap (λ (x : Settings). fragmentCall x (a .pseq) (a .packet .now) (a .index) []) (set .settings-of .ensures))
     (said .tell-length .ensures)

@@ -26,6 +26,9 @@ array-borrow-prefix-buffer c =
 slice-aggregate-send-2 : tie.Need-slice-aggregate-send-2
 slice-aggregate-send-2 c = front _ _ (array-borrow-prefix-buffer (c .before))
 
+add-settings : tie.Need-add-settings
+add-settings c = search needs
+
 settings-requires : tie.Need-settings-requires
 settings-requires c κs = search needs
 
@@ -99,6 +102,7 @@ pub answer-wanted-spec : {M : Type 1} → statement M
 answer-wanted-spec =
     tie.close
     (tie.spec
+    add-settings
     settings-requires
     enum-known-g
     enum-told
