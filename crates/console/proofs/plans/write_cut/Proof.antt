@@ -17,7 +17,7 @@ same-length : tie.Need-same-length
 same-length c = search needs
 
 returns : tie.Need-returns
-returns c = goes _ (c .before .before .before .before .before .before .before .write-plan .ensures) (c .before .before .labelled .ensures)
+returns c = goes _ (c .before .before .before .before .before .before .before .before .write-plan .ensures) (c .before .before .labelled .ensures)
 
 same-length-2 : tie.Need-same-length-2
 same-length-2 c = search needs
