@@ -15,7 +15,7 @@ use crate::tally::{number_of, told, Judge, Tally};
 use crate::traffic::{damage, Datagram, Traffic};
 
 /// The packets that show the newer rule to the receiver, which is not told of it.
-const OTHERWISE: &str = "packets handed out that the older rule would have cut otherwise";
+const OTHERWISE: &str = "that hand out a packet which the older rule would have cut otherwise";
 
 /// What the reference comes to: its answer, its table and all that was lent, afterwards.
 struct Known {

@@ -52,7 +52,7 @@ impl Tally {
 
     /// How many calls met each case, one line each.
     pub fn cases(&self) -> Vec<String> {
-        self.noted.iter().map(|(case, met)| format!("{}: {met} {case}", self.kind)).collect()
+        self.noted.iter().map(|(case, met)| format!("{}: {met} calls {case}", self.kind)).collect()
     }
 
     /// Counts a call by its number, and prints it where it differs.
@@ -99,7 +99,7 @@ impl Tally {
             faults.push(format!("{}: under a third succeed", self.kind));
         }
         for (case, _) in self.noted.iter().filter(|(_, met)| **met == 0) {
-            faults.push(format!("{}: none {case}", self.kind));
+            faults.push(format!("{}: no calls {case}", self.kind));
         }
         for number in self.numbers.iter().filter(|number| self.given(**number) == 0) {
             faults.push(format!("{}: number {number} never occurs", self.kind));
