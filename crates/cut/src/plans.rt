@@ -155,11 +155,10 @@ fn divided(g: Settings) -> usize
 fn sure_newer(m: usize, c: usize) -> usize
     ensures { λ r. ⌜ r ≡ assuredBy Newer m c ⌝ }
 {
-    if m == 5 {
-        if 1 < c { 4 } else { m }
-    } else {
-        m
+    if m != 5 {
+        return m;
     }
+    if 1 < c { 4 } else { m }
 }
 
 // How many lost fragments the cut is made to bear.

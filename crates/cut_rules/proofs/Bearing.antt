@@ -140,12 +140,22 @@ bears g l in-bounds fec =
 
 -- ---- the fragments
 
+-- a sixth of 48 c or more, by either rule
+pub share-least : (g : Settings) (l : ℕ) → Fit g → (g .m ≡ 0 → ⊥) → 8 * c l ≤ parity * c l / divisor g
+share-least g l ok more =
+    le-div-iff-mul-le {k = divisor g} (divisor-some g ok more) .1 (omega (arith, mul-le-mul-right (8 * c l) (divisor-most g ok)))
+
+-- with FEC and room for 8 c bytes in a fragment there are 256 fragments at the most
+pub few-thick : (g : Settings) (l : ℕ) → Fit g → g .fec ≡ true → least-l ≤ l → 8 * c l ≤ S g l → f g l ≤ most-f
+unfolding f n
+few-thick g l ok fec from thick =
+    let cells : c l * (k l + parity) ≤ c l * (most-k + parity) = mul-le-mul-left (c l) (omega (arith, chunk.k-most l (omega arith))) in
+    ceils.least (L g l) (S g l) (S-some g l ok from) most-f (omega (arith, L-fec g l fec, cells, thick))
+
 -- with FEC, m above 0 and 41 bytes behind a header, a packet of 12 to 8,192 bytes is cut into 256 fragments at the most
 pub few : (g : Settings) (l : ℕ) → Fit g → g .fec ≡ true → (g .m ≡ 0 → ⊥) → 41 ≤ g .mtu - h g → least-l ≤ l → l ≤ most-l → f g l ≤ most-f
 unfolding f n
 few g l ok fec more wide from to =
     let cells : c l * (k l + parity) ≤ c l * (most-k + parity) = mul-le-mul-left (c l) (omega (arith, chunk.k-most l (omega arith))) in
-    let share : 8 * c l ≤ parity * c l / divisor g =
-    le-div-iff-mul-le {k = divisor g} (divisor-some g ok more) .1 (omega (arith, mul-le-mul-right (8 * c l) (divisor-most g ok))) in
     ceils.least (L g l) (S g l) (S-some g l ok from) most-f
-    (omega (arith, L-fec g l fec, L-most g l from to, S-both g l more, cells, share, wide))
+    (omega (arith, L-fec g l fec, L-most g l from to, S-both g l more, cells, share-least g l ok more, wide))

@@ -3,16 +3,17 @@
 use mathlib.Core.Path.{_≡_, refl, sym, ap, ap₂, _∙_}
 use mathlib.Core.Bool.{Bool, true, false, cond, not, _&&_}
 use mathlib.Core.List.{_∷_, []}
-use Prim.Native.Nat.{ℕ, _+_, _-_, _*_, _≤_, _<_}
+use Prim.Native.Nat.{ℕ, _+_, _-_, _*_, _/_, _≤_, _<_}
+use native.Mathlib.Nat.{le-div-iff-mul-le, div-mul-le-self}
 use native.Mathlib.Omega.{arith}
-use borrow.Author.Tests.{eqb-true, ne-eqb, lt-ltb, le-ltb, le-leb}
+use borrow.Author.Tests.{eqb-true, ne-eqb, ltb-false, leb-true, leb-false, lt-ltb, le-ltb, le-leb}
 use lib.Dec.{leb, ltb, eqb, lit≤}
 use Rattle.base_rules.specs.Answer.{answered}
-use Rattle.base_rules.specs.Bounds.{least-l, most-l, most-f, most-m, most-mtu}
+use Rattle.base_rules.specs.Bounds.{least-l, most-l, most-f, most-m, parity}
 use Rattle.base_rules.specs.Round.{ceil}
 use Rattle.base_rules.specs.Tests.{first}
 use Rattle.base_rules.proofs.Logic.{either, and-left}
-use Rattle.cut_rules.specs.Claims.{AssuredIs, FiveNotAlways, withRule, SameCut, OneUp, SameAtNone}
+use Rattle.cut_rules.specs.Claims.{AssuredIs, FiveNotAlways, withRule, OneUp, SameRefusals, SameAtNone}
 use Rattle.cut_rules.specs.Edge.{newer}
 use Rattle.cut_rules.specs.Missing.{worst, firsts, missing}
 use Rattle.cut_rules.specs.Plan.{fit, withFec, figuresOf, planFault, planOf}
@@ -20,8 +21,9 @@ use Rattle.cut_rules.specs.Sizes as size
 use Rattle.cut_rules.specs.declared.Rule.{Rule}
 use Rattle.cut_rules.specs.declared.Rule.the-variants.{Older, Newer}
 use Rattle.cut_rules.specs.declared.Settings.{Settings}
+use Rattle.cut_rules.proofs.Bearing.{share-least, few-thick}
 use Rattle.cut_rules.proofs.LossCounts.{firsts-lost, firsts-take}
-use Rattle.cut_rules.proofs.PlanCases.{fitted, S-none, S-both, plan-taken, plan-40}
+use Rattle.cut_rules.proofs.PlanCases.{fitted, by-m, S-none, S-both, plan-taken, fault-40, plan-40}
 use Rattle.cut_rules.proofs.Sufficing.{suffice-no}
 
 -- ---- what a cut assures
@@ -89,13 +91,64 @@ one-up g m l some few =
       bytes = same-s g Newer Older (m + 1) m l room;
     }
 
+-- 48 c over m is no less than over m + 1
+share-more : (x m : ℕ) → 0 < m → x / (m + 1) ≤ x / m
+share-more x m some =
+    le-div-iff-mul-le {k = m} some .1
+    (omega (arith, div-mul-le-self x (m + 1)))
+
+-- settings in bounds: both rules make more than 256 fragments of a packet, or neither does
+module _ (g : Settings) (l : ℕ) (from : least-l ≤ l) where
+  abbrev a : Settings
+  a = withRule Newer (g .m) g
+
+  abbrev b : Settings
+  b = withRule Older (g .m) g
+
+  same-many : fit a ≡ true → ltb most-f (size.f a l) ≡ ltb most-f (size.f b l)
+  unfolding fit size.h size.divisor
+  same-many fits = by-m (ltb most-f (size.f a l) ≡ ltb most-f (size.f b l)) (g .m)
+      (λ none. alike (S-none a l none ∙ sym (S-none b l none)))
+      (λ more. either (leb (g .mtu - size.h b) (parity * size.c l / (g .m + 1)))
+      (λ narrow.
+      let less = leb-true (g .mtu - size.h b) (parity * size.c l / (g .m + 1)) narrow in
+      alike (omega (arith, S-both a l more, S-both b l more, less, share-more (parity * size.c l) (g .m) (omega arith))))
+      (λ wide.
+      let most = leb-false (g .mtu - size.h b) (parity * size.c l / (g .m + 1)) wide in
+      let fec : g .fec ≡ true = either (g .fec) (λ e. e) (λ e. absurd (more (fitted a fits .m-fec e))) in
+      le-ltb most-f (size.f a l)
+      (few-thick a l (fitted a fits) fec from (omega (arith, S-both a l more, share-least a l (fitted a fits) more, share-least b l (fitted b fits) more, most)))
+      ∙ sym (le-ltb most-f (size.f b l)
+      (few-thick b l (fitted b fits) fec from (omega (arith, S-both b l more, share-least b l (fitted b fits) more, most))))))
+    where
+      alike : size.S a l ≡ size.S b l → ltb most-f (size.f a l) ≡ ltb most-f (size.f b l)
+      alike e = ap (ltb most-f) (same-f g Newer Older (g .m) (g .m) l e)
+
+-- neither rule refuses what the other takes, nor with another number
+pub same-refusals : SameRefusals
+unfolding planFault fit size.h first
+same-refusals g l =
+    let a = withRule Newer (g .m) g in
+    let b = withRule Older (g .m) g in
+    either (fit a)
+    (λ fits. either (ltb l least-l)
+    (λ short. rw short refl)
+    (λ long. ap (λ (many : Bool). first ((not (fit a), 40) ∷ (ltb l least-l, 20) ∷ (ltb most-l l, 22) ∷ (many, 41) ∷ []))
+    (same-many g l (ltb-false l least-l long) fits)))
+    (λ unfit. sym (fault-40 a l unfit) ∙ fault-40 b l unfit)
+
 -- with m 0 the answer to a plan is the same by both rules
 none : (g : Settings) (l : ℕ) → g .m ≡ 0 → planOf (withRule Newer (g .m) g) l ≡ planOf (withRule Older (g .m) g) l
 unfolding planOf fit size.h figuresOf size.assured size.L withFec
 none g l m-none =
     let room = S-none (withRule Newer (g .m) g) l m-none ∙ sym (S-none (withRule Older (g .m) g) l m-none) in
-    rw (same-fault g Newer Older (g .m) (g .m) l room refl, room, same-f g Newer Older (g .m) (g .m) l room,
-      same-s g Newer Older (g .m) (g .m) l room, figure-m Newer (g .m) (size.c l) (λ is-newer five. omega (arith, m-none)))
+    rw (
+      same-fault g Newer Older (g .m) (g .m) l room refl,
+      room,
+      same-f g Newer Older (g .m) (g .m) l room,
+      same-s g Newer Older (g .m) (g .m) l room,
+      figure-m Newer (g .m) (size.c l) (λ is-newer five. omega (arith, m-none)),
+    )
 
 -- at m 0, and without FEC, the rule changes nothing of the answer
 pub same-at-none : SameAtNone

@@ -232,10 +232,15 @@ module _ (g : Settings) (l : ℕ) where
         unfolding planOf
         plan-cut few = grants _ _ (plan-taken few)
 
-  -- settings that do not fit are refused with 40, whatever the length
+  -- where settings do not fit, 40 is due, whatever the length
+  pub fault-40 : fit g ≡ false → 40 ≡ planFault g l
+  unfolding planFault
+  fault-40 e = due 40 _ (rw e)
+
+  -- and they are refused with it
   pub plan-40 : fit g ≡ false → refused 40 ≡ planOf g l
-  unfolding planOf planFault
-  plan-40 e = refuses 40 _ _ (lit< tt) (due 40 _ (rw e))
+  unfolding planOf
+  plan-40 e = refuses 40 _ _ (lit< tt) (fault-40 e)
 
 -- ---- and what is known where nothing is refused
 

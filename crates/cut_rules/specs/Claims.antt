@@ -130,6 +130,10 @@ pub record SameCut (a b : Settings) (l : ℕ) : Type 0 where
 abbrev pub OneUp : Type 0
 OneUp = (g : Settings) (m l : ℕ) → 1 ≤ m → m ≤ 4 → SameCut (withRule Newer (m + 1) g) (withRule Older m g) l
 
+-- document 02, Item 6, "No new refusals": neither rule refuses what the other takes, nor with another number
+abbrev pub SameRefusals : Type 0
+SameRefusals = (g : Settings) (l : ℕ) → planFault (withRule Newer (g .m) g) l ≡ planFault (withRule Older (g .m) g) l
+
 -- document 02, Item 6, "with m above 0": at m 0, and without FEC, the rule changes nothing of the answer
 abbrev pub SameAtNone : Type 0
 SameAtNone = (g : Settings) (l : ℕ) → (g .fec ≡ true → g .m ≡ 0) → planOf (withRule Newer (g .m) g) l ≡ planOf (withRule Older (g .m) g) l

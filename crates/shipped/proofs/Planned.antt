@@ -45,7 +45,8 @@ plan-tells c cut told told-after r room said =
     let fine : planFault asked l ≡ 0 =
     same-fault (c .fec) (c .m) (c .newer) (c .mtu) (c .addressed) (c .source) (c .dest) l ∙ taken (settings c) (c .packet) passed in
     let due = fits-room (twos 10) told (planOf asked l) room ∙ sym (grants (planFault asked l) (figuresOf asked l) (sym fine)) in
-    let small : assured asked l < 65536 = omega (arith, assured-most asked l, fitted asked (within asked l fine .ok) .m-most) in
-    (said .number ∙ ap refusalIn due,
-    ap (λ (x : List ℕ). numberAt 2 x 18) (said .told ∙ ap (λ (a : Answer). toldOf (twos 10) a told) due)
-    ∙ tenth-back told _ _ _ _ _ _ _ _ _ (assured asked l) small)
+    let small : assured asked l < 65536 = omega (arith, assured-most asked l, fitted asked (within asked l fine .ok) .m-most) in (
+      said .number ∙ ap refusalIn due,
+      ap (λ (x : List ℕ). numberAt 2 x 18) (said .told ∙ ap (λ (a : Answer). toldOf (twos 10) a told) due)
+          ∙ tenth-back told _ _ _ _ _ _ _ _ _ (assured asked l) small,
+    )
