@@ -1,8 +1,9 @@
 // Questions on plans: how a packet of some length is cut, and which settings have a name. Settings in their words stand in the
 // sender's questions too.
-ghost use Prim.Native.Nat.{_≤_};
-ghost use lib.ListN.{length};
+ghost use mathlib.Core.Path.{_≡_};
+ghost use Rattle.text_rules.specs.Text.{laid, behind};
 ghost use Rattle.text_rules.specs.Wrote.{Wrote};
+ghost use Rattle.console.specs.inner.Said.{addressSaid};
 use crate::replies;
 use crate::words;
 use crate::words::Number;
@@ -136,10 +137,11 @@ fn write_settings(out: &mut [u8], g: cut::Settings) -> usize
     write_address(out, at, address)
 }
 
-// An address behind a blank: source and then destination, `-` for none.
+// An address behind a blank: source and then destination, `-` for none. No question has it answered with an address, so that the
+// vectors would not notice a wrong one: its promise says what stands there.
 fn write_address(out: &mut [u8], at: usize, address: cut::Address) -> usize
-    requires { ⌜ at ≤ length (now out) ⌝ }
-    ensures { λ r. ⌜ Wrote (now (out .entry)) at r (now (out .exit)) ⌝ }
+    ensures { λ r. ⌜ (r ≡ behind (now (out .entry)) at (addressSaid address))
+        × (now (out .exit) ≡ laid (now (out .entry)) at (addressSaid address)) ⌝ }
 {
     match address {
         cut::Address::None => text::plain(out, at, b" -"),

@@ -94,24 +94,21 @@ pub h-most : (g : Settings) → h g ≤ most-h
 unfolding h
 h-most g = length-most (g .fec) (g .address)
 
--- ---- the divisor: these two, and `each-bears` of Bearing, are all that know it
+-- ---- the divisor: these, `each-shares` of Bearing and what is claimed of one rule by itself are all that know it
+
+-- by either rule it is m or one more
+divided-within : (r : Rule) (m : ℕ) → (m ≤ dividedBy r m) × (dividedBy r m ≤ m + 1)
+divided-within Older m = (omega arith, omega arith)
+divided-within Newer m = (omega arith, omega arith)
 
 -- at settings in bounds with m above 0, what 48 c is divided by is not 0
 pub divisor-some : (g : Settings) → Fit g → (g .m ≡ 0 → ⊥) → 0 < divisor g
 unfolding divisor
-divisor-some g ok more = some (g .rule) (g .m) more
-  where
-    some : (r : Rule) (m : ℕ) → (m ≡ 0 → ⊥) → 0 < dividedBy r m
-    some Older m more = omega arith
-    some Newer m more = omega arith
+divisor-some g ok more = omega (arith, divided-within (g .rule) (g .m) .0)
 
 pub divisor-most : (g : Settings) → Fit g → divisor g ≤ most-m + 1
 unfolding divisor
-divisor-most g ok = few (g .rule) (g .m) (ok .m-most)
-  where
-    few : (r : Rule) (m : ℕ) → m ≤ most-m → dividedBy r m ≤ most-m + 1
-    few Older m h = omega arith
-    few Newer m h = omega arith
+divisor-most g ok = omega (arith, divided-within (g .rule) (g .m) .1, ok .m-most)
 
 -- ---- S, where m is 0 and where it is not
 

@@ -93,13 +93,13 @@ abbrev pub SureOfM : Settings → ℕ → Type 0
 SureOfM g l = g .rule ≡ Newer → g .m ≡ 5 → c l ≤ 1
 
 -- "m, but 4 when m is 5 and c above 1 under the new rule"
-pub record Figure (g : Settings) (l : ℕ) : Type 0 where
+pub record Assures (g : Settings) (l : ℕ) : Type 0 where
   pub m-sure : SureOfM g l → assured g l ≡ g .m
   pub four-sure : g .rule ≡ Newer → g .m ≡ 5 → 1 < c l → assured g l ≡ 4
 
 -- that is the figure for all settings and lengths
 abbrev pub AssuredIs : Type 0
-AssuredIs = (g : Settings) (l : ℕ) → Figure g l
+AssuredIs = (g : Settings) (l : ℕ) → Assures g l
 
 -- C6 of the m that the sender is set for: "The setting m survives any m losses", where it does
 abbrev pub C6m : Type 0

@@ -1,7 +1,7 @@
 -- `plans::write_address` meets its contract: destination goes on where source stops. Assumes nothing.
-use native.Mathlib.Omega.{arith}
 use borrow.Author.Needs.{needs}
-use Rattle.text_rules.proofs.Writing.{wrote, goes}
+use Rattle.text_rules.proofs.Laws.{lays-more}
+use Rattle.console.specs.inner.Said.{addressSaid}
 use Rattle.console.proofs.plans.write_address.Statement.{statement}
 use Rattle.console.proofs.plans.write_address.Tie as tie
 
@@ -45,20 +45,25 @@ same-length : tie.Need-same-length
 same-length c = search needs
 
 returns : tie.Need-returns
-returns c =
-    let A = c .before .before .before .before .before .before .before .before .args in
-    wrote (A .out .now) (A .at) _ (omega arith) (c .before .before .plain .ensures)
+unfolding addressSaid
+returns c = rw (c .before .before .before .before .before .enum-told .given .1) (c .before .before .plain .ensures)
 
 same-length-2 : tie.Need-same-length-2
 same-length-2 c = search needs
 
 returns-2 : tie.Need-returns-2
+unfolding addressSaid
 returns-2 c =
     let A = c .before .before .before .before .before .before .before .before .before .before .before .before .before .before .before .before
     .before .before .before .before .before .args in
     let Plain = c .before .before .before .before .before .before .before .before .before .before .before .before .before .before .plain2 in
     let Source = c .before .before .before .before .before .before .before .before .hex in
-    goes _ (goes _ (wrote (A .out .now) (A .at) _ (omega arith) (Plain .ensures)) (Source .ensures)) (c .before .before .hex2 .ensures)
+    let Pair = c .before .before .before .before .before .before .before .before .before .before .before .before .before .before .before .before
+    .before .before .address in
+    let First = c .before .before .before .before .before .before .before .before .before .before .bytes2 in
+    let Second = c .before .before .before .before .bytes22 in
+    rw (Pair .given .1, ← First .ensures, ← Second .ensures)
+    (lays-more (A .out .now) (A .at) _ _ (lays-more (A .out .now) (A .at) _ _ (Plain .ensures) (Source .ensures)) (c .before .before .hex2 .ensures))
 
 pub write-address-spec : {M : Type 1} → statement M
 write-address-spec =

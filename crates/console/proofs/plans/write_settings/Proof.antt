@@ -1,7 +1,6 @@
 -- `plans::write_settings` meets its contract: each word goes on where the one before stops. Assumes nothing.
-use native.Mathlib.Omega.{arith}
 use borrow.Author.Needs.{needs}
-use Rattle.text_rules.proofs.Writing.{chain, goes}
+use Rattle.text_rules.proofs.Writing.{goes}
 use Rattle.console.proofs.plans.write_settings.Statement.{statement}
 use Rattle.console.proofs.plans.write_settings.Tie as tie
 
@@ -24,11 +23,7 @@ labelled-requires-2 : tie.Need-labelled-requires-2
 labelled-requires-2 c κs = search needs
 
 write-address-requires : tie.Need-write-address-requires
-write-address-requires c κs =
-    let Number = c .before .before .before .before .before .before .before .before .before .before .before .before .before .number in
-    let First = c .before .before .before .before .before .before .before .before .labelled in
-    let Second = c .before .before .before .labelled2 in
-    let w = goes _ (goes _ (Number .ensures) (First .ensures)) (Second .ensures) in omega (arith, w .within, w .same)
+write-address-requires c κs = search needs
 
 same-length : tie.Need-same-length
 same-length c = search needs
@@ -38,7 +33,7 @@ returns c =
     let Number = c .before .before .before .before .before .before .before .before .before .before .before .before .before .before .before .before .number in
     let First = c .before .before .before .before .before .before .before .before .before .before .before .labelled in
     let Second = c .before .before .before .before .before .before .labelled2 in
-    chain (goes _ (goes _ (Number .ensures) (First .ensures)) (Second .ensures)) (c .before .before .write-address .ensures)
+    goes _ (goes _ (goes _ (Number .ensures) (First .ensures)) (Second .ensures)) (c .before .before .write-address .ensures)
 
 pub write-settings-spec : {M : Type 1} → statement M
 write-settings-spec =
