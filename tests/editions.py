@@ -9,7 +9,6 @@ receiver of receiver.py work them out as well and have to say the same.
 import itertools
 
 import fragments
-import packets
 import plans
 import usage
 from runs import NONE, PAIR, Run, packet
@@ -53,12 +52,11 @@ def size_questions():
 
 
 def same_questions():
-    for rule in RULES:
-        for l in (12, 207, 208, 415, 8192):
-            yield planned(1, 0, 1400, NONE, l, rule, assured=0)
-        yield planned(0, 0, 1400, NONE, 1386, rule, f=1, assured=0)
-        yield planned(0, 0, 1400, NONE, 1387, rule, f=2, s=694, assured=0)
-        yield planned(0, 0, 46, NONE, 8192, rule, f=256, s=32, assured=0)
+    for fec, mtu, l, figures in ((1, 1400, 12, {}), (1, 1400, 207, {}), (1, 1400, 208, {}), (1, 1400, 415, {}), (1, 1400, 8192, {}), (0, 1400, 1386, dict(f=1)),
+                                 (0, 1400, 1387, dict(f=2, s=694)), (0, 46, 8192, dict(f=256, s=32))):
+        pair = [planned(fec, 0, mtu, NONE, l, rule, assured=0, **figures) for rule in RULES]
+        assert pair[0][1] == pair[1][1] == plans.answer((str(fec), "0", str(mtu), NONE, str(l))) + " assured=0", pair
+        yield from pair
 
 
 def refusal_questions():
@@ -88,6 +86,12 @@ def fragment_questions():
             yield fragments.answered(fragments.one(index, packet(414), m=5, rule=rule))
         yield fragments.cut_into(2, 694, fragments.every(packet(1387), fec=0, m=0, rule=rule))
         yield fragments.answered(fragments.every(packet(60), m=3, mtu=60, address=PAIR, rule=rule))
+        for index in (0, 8):
+            yield fragments.answered(fragments.one(index, packet(207), m=2, mtu=60, address=PAIR, rule=rule))
+    # what a question said is forgotten with it: without the word the rule is the older one again
+    for rule, f, s in (("new", 27, 19), ("", 32, 16), ("new", 27, 19), ("", 32, 16)):
+        yield fragments.cut_into(f, s, fragments.every(packet(414), m=5, rule=rule))
+        yield fragments.answered(fragments.one(1, packet(414), m=5, rule=rule))
     yield fragments.refused(42, fragments.one(27, packet(414), m=5, rule="new"))
     yield fragments.answered(fragments.one(27, packet(414), m=5, rule="old"))
     yield fragments.refused(42, fragments.one(32, packet(414), m=5, rule="old"))
@@ -95,6 +99,8 @@ def fragment_questions():
     yield fragments.answered(fragments.every(packet(414), m=5, room=whole, rule="new"))
     for number, words in ((1, dict(m=5, room=whole - 1)), (40, dict(m=6)), (40, dict(fec=0, m=1)), (41, dict(m=5, mtu=17))):
         yield fragments.refused(number, fragments.every(packet(414), rule="new", **words))
+        yield fragments.refused(number, fragments.one(0, packet(414), rule="new", **(words | dict(room=34))))
+    yield fragments.answered(fragments.one(0, packet(414), m=5, room=35, rule="new"))
     yield fragments.refused(22, fragments.every(packet(414)[:-1], m=5, rule="new"))
 
 
@@ -118,7 +124,7 @@ def lost_questions():
     whole = cut(415, 5, 3)
     yield from run.kept(*whole[5:20])
     yield from run.delivered(packet(415), 5, whole[20])
-    # l 207, m 5: one chunk, of which any five may be lost, and six may not
+    # l 207, m 5: one chunk, of which any five may be lost, and not any six: the first six take 54
     whole = cut(207, 5, 4)
     yield from run.kept(*whole[6:])
     yield from run.delivered(packet(207), 5, whole[2])
@@ -155,6 +161,9 @@ def malformed_questions():
     # a malformed word comes before each refusal
     yield "plan 1 6 1400 - 414 newest", "unknown"
     yield "plan 2 5 1400 - 414 new", "unknown"
+    for line in (one, every):
+        yield line.replace(" 1 5", " 1 6") + " newest", "unknown"
+        yield line.replace(" 1 5", " 2 5") + " new", "unknown"
     for line in ("house new", "house old", "twolosses new", "twolosses old", "recv - 49152 8192 - new", "query 49152 new"):
         yield line, "unknown"
 

@@ -140,6 +140,10 @@ bears g l in-bounds fec =
 
 -- ---- the fragments
 
+-- a chunk with its parity has at most 255 bytes
+cells-most : (l : ℕ) → 0 < l → c l * (k l + parity) ≤ c l * (most-k + parity)
+cells-most l some = mul-le-mul-left (c l) (omega (arith, chunk.k-most l some))
+
 -- a sixth of 48 c or more, by either rule
 pub share-least : (g : Settings) (l : ℕ) → Fit g → (g .m ≡ 0 → ⊥) → 8 * c l ≤ parity * c l / divisor g
 share-least g l ok more =
@@ -149,13 +153,11 @@ share-least g l ok more =
 pub few-thick : (g : Settings) (l : ℕ) → Fit g → g .fec ≡ true → least-l ≤ l → 8 * c l ≤ S g l → f g l ≤ most-f
 unfolding f n
 few-thick g l ok fec from thick =
-    let cells : c l * (k l + parity) ≤ c l * (most-k + parity) = mul-le-mul-left (c l) (omega (arith, chunk.k-most l (omega arith))) in
-    ceils.least (L g l) (S g l) (S-some g l ok from) most-f (omega (arith, L-fec g l fec, cells, thick))
+    ceils.least (L g l) (S g l) (S-some g l ok from) most-f (omega (arith, L-fec g l fec, cells-most l (omega arith), thick))
 
 -- with FEC, m above 0 and 41 bytes behind a header, a packet of 12 to 8,192 bytes is cut into 256 fragments at the most
 pub few : (g : Settings) (l : ℕ) → Fit g → g .fec ≡ true → (g .m ≡ 0 → ⊥) → 41 ≤ g .mtu - h g → least-l ≤ l → l ≤ most-l → f g l ≤ most-f
 unfolding f n
 few g l ok fec more wide from to =
-    let cells : c l * (k l + parity) ≤ c l * (most-k + parity) = mul-le-mul-left (c l) (omega (arith, chunk.k-most l (omega arith))) in
     ceils.least (L g l) (S g l) (S-some g l ok from) most-f
-    (omega (arith, L-fec g l fec, L-most g l from to, S-both g l more, cells, share-least g l ok more, wide))
+    (omega (arith, L-fec g l fec, L-most g l from to, S-both g l more, cells-most l (omega arith), share-least g l ok more, wide))

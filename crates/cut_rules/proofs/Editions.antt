@@ -116,15 +116,15 @@ module _ (g : Settings) (l : ℕ) (from : least-l ≤ l) where
       (λ wide.
       let most = leb-false (g .mtu - size.h b) (parity * size.c l / (g .m + 1)) wide in
       let fec : g .fec ≡ true = either (g .fec) (λ e. e) (λ e. absurd (more (fitted a fits .m-fec e))) in
-      le-ltb most-f (size.f a l)
-      (few-thick a l (fitted a fits) fec from (omega (arith, S-both a l more, share-least a l (fitted a fits) more, share-least b l (fitted b fits) more, most)))
-      ∙ sym (le-ltb most-f (size.f b l)
-      (few-thick b l (fitted b fits) fec from (omega (arith, S-both b l more, share-least b l (fitted b fits) more, most))))))
+      let share-a = share-least a l (fitted a fits) more in
+      let share-b = share-least b l (fitted b fits) more in
+      le-ltb most-f (size.f a l) (few-thick a l (fitted a fits) fec from (omega (arith, S-both a l more, share-a, share-b, most)))
+      ∙ sym (le-ltb most-f (size.f b l) (few-thick b l (fitted b fits) fec from (omega (arith, S-both b l more, share-b, most))))))
     where
       alike : size.S a l ≡ size.S b l → ltb most-f (size.f a l) ≡ ltb most-f (size.f b l)
       alike e = ap (ltb most-f) (same-f g Newer Older (g .m) (g .m) l e)
 
--- neither rule refuses what the other takes, nor with another number
+-- neither rule refuses a plan that the other takes, nor with another number
 pub same-refusals : SameRefusals
 unfolding planFault fit size.h first
 same-refusals g l =

@@ -1,4 +1,4 @@
--- The claims of specs/Claims.antt, each by citation; those that set the two rules of sizes side by side are in Editions.antt. Assumes nothing.
+-- The claims of specs/Claims.antt, each by citation. Assumes nothing.
 use mathlib.Core.Path.{_≡_, refl, sym, ap}
 use mathlib.Core.Bool.{Bool, true, false}
 use mathlib.Core.List.{List, map}
@@ -11,7 +11,7 @@ use Rattle.base_rules.specs.Bounds.{parity}
 use Rattle.base_rules.specs.Round.{ceil}
 use Rattle.base_rules.specs.Bytes.{partOf}
 use Rattle.base_rules.proofs.Parts.{length-left}
-use Rattle.cut_rules.specs.Claims.{Taken, C2, C3, C4, C5, C6, C6m, SureOfM, SetFor, HouseBears, HouseBearsMore, TwoBorne, AnyThree, NoFour, Parted}
+use Rattle.cut_rules.specs.Claims.{Taken, C2, C3, C4, C5, C6, C6m, SureOfM, AssuredIs, FiveNotAlways, OneUp, SameRefusals, SameAtNone, SetFor, HouseBears, HouseBearsMore, TwoBorne, AnyThree, NoFour, Parted}
 use Rattle.cut_rules.specs.Edge.{Row, rows, fec}
 use Rattle.cut_rules.specs.Missing.{losses, missing, worst}
 use Rattle.cut_rules.specs.Plan.{houseOf, twoLossesOf, fit}
@@ -19,7 +19,7 @@ use Rattle.cut_rules.specs.Sizes as size
 use Rattle.cut_rules.specs.declared.Settings.{Settings}
 use Rattle.cut_rules.proofs.Bearing as bearing
 use Rattle.cut_rules.proofs.Blocks.{window}
-use Rattle.cut_rules.proofs.Editions.{assured-is}
+use Rattle.cut_rules.proofs.Editions as editions
 use Rattle.cut_rules.proofs.Interleaving.{woven, joined, part-byte}
 use Rattle.cut_rules.proofs.LossCounts.{most, fewest, firsts-lost, firsts-take, worst-more}
 use Rattle.cut_rules.proofs.PlanCases.{fitted, within, S-both, L-plain, plan-taken}
@@ -78,7 +78,24 @@ c6 g l taken with-fec lost few =
 
 -- so any m lost fragments leave enough there, where a sender is set for m
 pub c6m : C6m
-c6m g l taken with-fec sure lost few = c6 g l taken with-fec lost (omega (arith, few, assured-is g l .m-sure sure))
+c6m g l taken with-fec sure lost few = c6 g l taken with-fec lost (omega (arith, few, editions.assured-is g l .m-sure sure))
+
+-- ---- the two rules of sizes
+
+pub assured-is : AssuredIs
+assured-is = editions.assured-is
+
+pub five-not-always : FiveNotAlways
+five-not-always = editions.five-not-always
+
+pub one-up : OneUp
+one-up = editions.one-up
+
+pub same-refusals : SameRefusals
+same-refusals = editions.same-refusals
+
+pub same-at-none : SameAtNone
+same-at-none = editions.same-at-none
 
 -- ---- the settings that have a name
 
@@ -87,7 +104,7 @@ set-for : (g : Settings) → fit g ≡ true → g .fec ≡ true → (g .m ≡ 0 
 set-for g fits with-fec more wide sure =
     record {
       takes = λ l from to. sym (plan-taken g l fits from to (bearing.few g l (fitted g fits) with-fec more wide from to));
-      tells = λ l. assured-is g l .m-sure (sure l);
+      tells = λ l. editions.assured-is g l .m-sure (sure l);
       bears = λ l taken. c6m g l taken with-fec (sure l);
     }
 
@@ -111,7 +128,7 @@ two-borne = set-for twoLossesOf refl refl (λ (none : 2 ≡ 0). omega arith) (li
 
 -- ---- document 01's edge
 
--- the definitions give the sizes in all the starred rows of document 01's edge, and in the row that document 02 adds
+-- the definitions give the sizes in all the starred rows of document 01's edge, and in the rows that document 02 adds
 pub edge-rows : map (λ (r : Row). r .gives) rows ≡ map (λ (r : Row). r .says) rows
 unfolding rows partOf ceil worst size.c size.k size.z size.n size.addressBytes size.h size.divisor size.S size.L size.f size.s size.assured
 edge-rows = refl

@@ -88,7 +88,7 @@ Bears g l w = (lost : ℕ → Bool) → losses lost (f g l) ≤ w
 abbrev pub C6 : Type 0
 C6 = (g : Settings) (l : ℕ) → Taken g l → g .fec ≡ true → Bears g l (assured g l)
 
--- document 02, Item 6: where it is m by document 001's rule: "for m from 1 to 4. For m = 5 it does when c is 1"; by document 000's it always is
+-- document 02, Item 6: where that figure is m: by document 000's rule always, by document 001's "for m from 1 to 4. For m = 5 it does when c is 1"
 abbrev pub SureOfM : Settings → ℕ → Type 0
 SureOfM g l = g .rule ≡ Newer → g .m ≡ 5 → c l ≤ 1
 
@@ -97,7 +97,7 @@ pub record Assures (g : Settings) (l : ℕ) : Type 0 where
   pub m-sure : SureOfM g l → assured g l ≡ g .m
   pub four-sure : g .rule ≡ Newer → g .m ≡ 5 → 1 < c l → assured g l ≡ 4
 
--- that is the figure for all settings and lengths
+-- that is the figure, for all settings and lengths
 abbrev pub AssuredIs : Type 0
 AssuredIs = (g : Settings) (l : ℕ) → Assures g l
 
@@ -130,7 +130,7 @@ pub record SameCut (a b : Settings) (l : ℕ) : Type 0 where
 abbrev pub OneUp : Type 0
 OneUp = (g : Settings) (m l : ℕ) → 1 ≤ m → m ≤ 4 → SameCut (withRule Newer (m + 1) g) (withRule Older m g) l
 
--- document 02, Item 6, "No new refusals": neither rule refuses what the other takes, nor with another number
+-- document 02, Item 6, "No new refusals": neither rule refuses a plan that the other takes, nor with another number
 abbrev pub SameRefusals : Type 0
 SameRefusals = (g : Settings) (l : ℕ) → planFault (withRule Newer (g .m) g) l ≡ planFault (withRule Older (g .m) g) l
 

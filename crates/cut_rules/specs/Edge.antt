@@ -1,4 +1,4 @@
--- Document 01, "On each side of the edge": the starred rows of sizes, as one table; document 02 adds a row with Item 5 and one with Item 6.
+-- Document 01, "On each side of the edge": the starred rows of sizes, as one table; document 02 adds rows with its Items 5 and 6.
 use mathlib.Core.Bool.{true, false}
 use mathlib.Core.List.{List, [], _∷_}
 use Prim.Native.Nat.{ℕ, _-_, _*_}
@@ -29,7 +29,7 @@ fecBy rule m = record { fec = true; m = m; mtu = 1400; address = None; rule = ru
 abbrev pub fec : ℕ → Settings
 fec m = fecBy Older m
 
--- by document 001's rule, with which document 02, Item 6, is
+-- by document 001's rule, which document 02, Item 6, adds
 abbrev pub newer : ℕ → Settings
 newer m = fecBy Newer m
 
@@ -62,6 +62,10 @@ rows =
     ∷ row (size.c 8192 ∷ size.k 8192 ∷ size.z 8192 ∷ size.f twoLossesOf 8192 ∷ size.s twoLossesOf 8192 ∷ []) (40 ∷ 205 ∷ 8 ∷ 16 ∷ 633 ∷ [])
     -- document 02, Item 5: "the default case at 8,192 bytes is worked again beside the old one"; by document 01's formulas f 11, s 920
     ∷ row (size.c 8192 ∷ size.k 8192 ∷ size.z 8192 ∷ size.f houseOf 8192 ∷ size.s houseOf 8192 ∷ []) (40 ∷ 205 ∷ 8 ∷ 11 ∷ 920 ∷ [])
+    -- and by document 001's rule, at m 1, S is MTU - h, which is below 48 x 40: f 8, s 1,265; one is assured
+    ∷ row (size.f (newer 1) 8192 ∷ size.s (newer 1) 8192 ∷ size.assured (newer 1) 8192 ∷ []) (8 ∷ 1265 ∷ 1 ∷ [])
+    -- l 12, m 1 by that rule: S is all 48 bytes that the chunk may miss; f 2, s 30
+    ∷ row (size.S (newer 1) 12 ∷ size.f (newer 1) 12 ∷ size.s (newer 1) 12 ∷ []) (48 ∷ 2 ∷ 30 ∷ [])
     -- no FEC, MTU 1,400: l 1,386 gives f 1; 1,387 gives f 2, s 694, last 693
     ∷ row (size.f plain 1386 ∷ []) (1 ∷ [])
     ∷ row (size.f plain 1387 ∷ size.s plain 1387 ∷ lastOf plain 1387 ∷ []) (2 ∷ 694 ∷ 693 ∷ [])

@@ -1,5 +1,5 @@
 -- T1 from T2: with at most three other numbers the number stays held after every call, and so all that T2 promises holds; and what follows
--- of the theorems for the next packet, and for a sender set for m losses. Assumes nothing.
+-- of the theorems for the next packet, and where no more are lost than the plan assures. Assumes nothing.
 use mathlib.Core.List.{List, _++_}
 use Prim.Native.Nat.{ℕ, _≤_}
 use native.Mathlib.Omega.{arith}

@@ -30,8 +30,9 @@ survives g n packet es takes few =
     ∙ suffice-from gone (count g packet) (cut.n (length packet)) (chunks g packet)
     (λ j l. c6 g (length packet) (taken g packet (takes .passed)) fec gone few .0 j))
     (λ fec.
+    let none = fitted g (in-bounds g packet (takes .passed) .ok) .m-fec fec in
     ap (λ (b : Bool). cond b coded plain) fec
-    ∙ eq-eqb (losses gone (count g packet)) 0 (omega (arith, few, assured-most g (length packet), fitted g (in-bounds g packet (takes .passed) .ok) .m-fec fec)))
+    ∙ eq-eqb (losses gone (count g packet)) 0 (omega (arith, few, assured-most g (length packet), none)))
 
 -- where the plan's figure is m, so many
 pub survives-m : T3m

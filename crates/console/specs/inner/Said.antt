@@ -1,4 +1,4 @@
--- What is said of settings that no question has in them. Assumes nothing.
+-- What the console writes of an address, which no vector reaches.
 use mathlib.Core.List.{List, [], _∷_, _++_}
 use Prim.Native.Nat.{ℕ}
 use Rattle.base_rules.specs.Bytes.{bytesOf}

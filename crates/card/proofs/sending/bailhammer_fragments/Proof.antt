@@ -20,8 +20,8 @@ returns c =
     let short = sent .before .before in
     let set = short .before in
     let a = set .before .before .before .before .args in
-    fragments-short (settingsOf (a .fec) (a .m) (a .newer) (a .mtu) (a .addressed) (a .source) (a .dest)) (a .pseq) (a .packet .now) (a .out .now) (a .told .now)
-    (omega arith)
+    fragments-short (settingsOf (a .fec) (a .m) (a .newer) (a .mtu) (a .addressed) (a .source) (a .dest)) (a .pseq) (a .packet .now) (a .out .now)
+    (a .told .now) (omega arith)
     (sent .fragments .ensures ∙ ap (λ (x : Settings). fragmentsCall x (a .pseq) (a .packet .now) []) (set .settings-of .ensures))
     (said .tell-split .ensures)
 
