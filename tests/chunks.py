@@ -169,8 +169,4 @@ PARTS = (("parities, of parity.txt", parity_questions), ("chunks that are filled
 
 
 if __name__ == "__main__":
-    usage.help_or_use(__doc__)
-    for title, questions in PARTS:
-        print("#", title)
-        for question, answer in questions():
-            print(question, "=>", answer)
+    usage.show(__doc__, PARTS)

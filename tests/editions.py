@@ -181,8 +181,4 @@ PARTS = (("document 02, Item 6: \"with m above 0, S is the smaller of floor(48c 
 
 
 if __name__ == "__main__":
-    usage.help_or_use(__doc__)
-    for title, questions in PARTS:
-        print("#", title)
-        for question, answer in questions():
-            print(question, "=>", answer)
+    usage.show(__doc__, PARTS)

@@ -386,8 +386,4 @@ PARTS = (("fragments with FEC: \"With FEC, the l bytes and z zeros form c chunks
 
 
 if __name__ == "__main__":
-    usage.help_or_use(__doc__)
-    for title, questions in PARTS:
-        print("#", title)
-        for question, answer in questions():
-            print(question, "=>", answer)
+    usage.show(__doc__, PARTS)

@@ -144,9 +144,5 @@ PARTS = (("lost fragments: \"l 415, m 2: [..] Any three lost still rebuild, no f
 
 
 if __name__ == "__main__":
-    usage.help_or_use(__doc__)
-    for title, questions in PARTS:
-        print("#", title)
-        for question, answer in questions():
-            print(question, "=>", answer)
+    usage.show(__doc__, PARTS)
 

@@ -1,4 +1,5 @@
-"""What the scripts of this folder answer where they are given arguments that they do not take: their help, or how they are called."""
+"""What the scripts of this folder answer where they are given arguments that they do not take, their help or how they are called; and the
+printing of questions."""
 import sys
 
 
@@ -10,3 +11,12 @@ def help_or_use(doc, counts=(0,)):
     if len(sys.argv) - 1 not in counts:
         print(f"usage: python3 {sys.argv[0]}; --help says more", file=sys.stderr)
         sys.exit(2)
+
+
+def show(doc, parts):
+    """Prints each question of a script under its title, and the answer that it must get."""
+    help_or_use(doc)
+    for title, questions in parts:
+        print("#", title)
+        for question, answer in questions():
+            print(question, "=>", answer)
