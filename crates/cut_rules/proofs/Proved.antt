@@ -11,7 +11,8 @@ use Rattle.base_rules.specs.Bounds.{parity}
 use Rattle.base_rules.specs.Round.{ceil}
 use Rattle.base_rules.specs.Bytes.{partOf}
 use Rattle.base_rules.proofs.Parts.{length-left}
-use Rattle.cut_rules.specs.Claims.{Taken, C2, C3, C4, C5, C6, C6m, SureOfM, AssuredIs, FiveNotAlways, OneUp, SameRefusals, SameAtNone, SetFor, HouseBears, HouseBearsMore, TwoBorne, AnyThree, NoFour, Parted}
+use Rattle.cut_rules.specs.Claims.{Taken, C2, C3, C4, C5, C6, C6m, SetFor, HouseBears, HouseBearsMore, TwoBorne, AnyThree, NoFour, Parted}
+use Rattle.cut_rules.specs.Claims.{SureOfM, AssuredIs, FiveNotAlways, OneUp, SameRefusals, SameAtNone}
 use Rattle.cut_rules.specs.Edge.{Row, rows, fec}
 use Rattle.cut_rules.specs.Missing.{losses, missing, worst}
 use Rattle.cut_rules.specs.Plan.{houseOf, twoLossesOf, fit}

@@ -41,7 +41,7 @@ plain = record { fec = false; m = 0; mtu = 1400; address = None; rule = Older }
 abbrev pub lastOf : Settings → ℕ → ℕ
 lastOf g l = length (partOf (replicate l 0) (size.s g l) (size.f g l - 1))
 
--- document 01, "On each side of the edge": the starred rows of sizes, each of document 02's beside the one that it stands against
+-- document 01, "On each side of the edge": the starred rows of sizes, and between them those of document 02: at l 414 its figures, else worked out
 unfoldable pub rows : List Row
 rows =
     -- l 207: c 1, k 207, z 0
