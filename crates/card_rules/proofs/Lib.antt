@@ -8,6 +8,7 @@ pub mod ItemLaws
 pub mod HeaderLaws
 pub mod CountLaws
 pub mod RefusalLaws
+pub mod EndureLaws
 pub mod SendProved
 pub mod ReceiveProved
 pub mod FillProved

@@ -1,10 +1,11 @@
 -- The claims of specs/Claims.antt, each by citation. Assumes nothing.
-use Rattle.card_rules.specs.Claims.{PlanWhole, LengthWhole, SplitWhole}
+use Rattle.card_rules.specs.Claims.{PlanWhole, LengthWhole, SplitWhole, EnduranceWhole}
 use Rattle.card_rules.specs.Claims.{ZerosFresh, ClearedZeros, OneReceipt, RefusedUnchanged, NoSilence, ReceiptWhole}
 use Rattle.card_rules.specs.Claims.{HeaderWhole, PayloadBegins, RefusedAlike}
 use Rattle.card_rules.specs.Claims.{OneFilling}
 use Rattle.card_rules.specs.Claims.{OpensTyped, StepsTyped, ReadBack, StepNumbers, FoundWhole, StepWhole}
 use Rattle.card_rules.proofs.SendProved as sender
+use Rattle.card_rules.proofs.EndureLaws as endurance
 use Rattle.card_rules.proofs.ReceiveProved as receiver
 use Rattle.card_rules.proofs.HeaderProved as header
 use Rattle.card_rules.proofs.FillProved as filler
@@ -19,6 +20,9 @@ length-whole = sender.length-whole
 
 pub split-whole : SplitWhole
 split-whole = sender.split-whole
+
+pub endurance-whole : EnduranceWhole
+endurance-whole = endurance.endurance-whole
 
 pub zeros-fresh : ZerosFresh
 zeros-fresh = receiver.zeros-fresh

@@ -6,10 +6,14 @@ use Prim.Native.Nat.{ℕ, _+_, _^_, _<_, _≤_}
 use lib.ListN.{length, getD, drop, replicate}
 use Rattle.base_rules.specs.Answer.{granted, answerIn}
 use Rattle.base_rules.specs.Bounds.{most-f, most-l}
-use Rattle.base_rules.specs.Bytes.{Bytes, splice}
+use Rattle.base_rules.specs.Bytes.{Bytes, splice, numberAt}
+use Rattle.base_rules.specs.Tests.{bit}
 use Rattle.cut_rules.specs.Plan.{planFault, figuresOf}
+use Rattle.cut_rules.specs.Sizes.{f}
 use Rattle.cut_rules.specs.declared.Address.{Address}
 use Rattle.cut_rules.specs.declared.Settings.{Settings}
+use Rattle.endurance_rules.specs.Claims.{handedOut}
+use Rattle.endurance_rules.specs.Endure.{standsOf}
 use Rattle.sender_rules.specs.Calls.{fragmentCall, fragmentsCall}
 use Rattle.packed_rules.specs.Packed.{table-bytes, tableFrom, unpackFault, unpackCall}
 use Rattle.places_rules.specs.Places.{freshTable}
@@ -27,6 +31,7 @@ use Rattle.walk_rules.specs.declared.Walker.{Walker}
 use Rattle.walk_rules.specs.Names.{deepest, namesFault}
 use Rattle.walk_rules.specs.Step.{opens, walkStep}
 use Rattle.card_rules.specs.Told.{refusalIn, inWidths, toldLength, CardWritten, CardTold}
+use Rattle.card_rules.specs.Endurance.{endureFor, endure-widths}
 use Rattle.card_rules.specs.Headers.{header-widths, parseFor}
 use Rattle.card_rules.specs.Receiving.{receiptTold, receipt-widths, Held, RefusedWith, CardReceived, clearFor}
 use Rattle.card_rules.specs.Items.{walker-bytes, walkerBytes, walkerFrom, step-widths, walkStepCall}
@@ -53,6 +58,18 @@ LengthWhole =
 abbrev pub SplitWhole : Type 0
 SplitWhole =
     (g : Settings) (number : ℕ) (packet out values : List ℕ) → answerIn (fragmentsCall g number packet out) ≡ granted values → InTwo values
+
+-- card.h, bailhammer_endure, "w (2), f (2), and 256 bytes": what reads back of what is told
+pub record EnduranceRead (g : Settings) (l : ℕ) (told : List ℕ) : Type 0 where
+  pub most : numberAt 2 told 0 ≡ standsOf g l
+  pub count : numberAt 2 told 2 ≡ f g l
+  pub set : (i : ℕ) → i < most-f → getD told (4 + i) 0 ≡ bit (handedOut g l i)
+
+-- document 02, Item 12: so it is where the plan is not refused and there is room, and nothing is cut off
+abbrev pub EnduranceWhole : Type 0
+EnduranceWhole =
+    (g : Settings) (l : ℕ) → planFault g l ≡ 0 → (before after : List ℕ) (r : ℕ) → toldLength endure-widths ≤ length before
+    → CardTold endure-widths (endureFor g l) before after r → (r ≡ 0) × EnduranceRead g l after
 
 -- ---- the receiver
 

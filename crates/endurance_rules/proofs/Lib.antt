@@ -1,0 +1,5 @@
+pub mod Exact
+pub mod Flags
+pub mod Cuts
+pub mod Calls
+pub mod Proved

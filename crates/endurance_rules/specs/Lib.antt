@@ -1,0 +1,2 @@
+pub mod Endure
+pub mod Claims
