@@ -5,7 +5,7 @@
 
 enum { ROUNDS = 200 };
 
-static uint8_t payload[BAILHAMMER_PACKET], packet[BAILHAMMER_PACKET], out[2][BAILHAMMER_SENT];
+static uint8_t packet[BAILHAMMER_PACKET], out[2][BAILHAMMER_SENT];
 static struct bailhammer_receiver receiver; /* behind the structs */
 static uint8_t record[BAILHAMMER_RECORD], lent[BAILHAMMER_LENT]; /* behind the bytes */
 
@@ -62,29 +62,6 @@ static void faces_of_walk(size_t length, const char *names, size_t names_len)
     }
 }
 
-/* Writes an item at payload + at, its value drawn, and gives the place behind it. */
-static size_t add_item(size_t at, const char *name, size_t bytes)
-{
-    static uint8_t value[BAILHAMMER_PACKET];
-    for (size_t i = 0; i < bytes; i++)
-        value[i] = (uint8_t)drawn(256);
-    bailhammer_item(bailhammer_name(name), (uint32_t)(8 * bytes), value, bytes, payload + at, sizeof payload - at);
-    return at + BAILHAMMER_ITEM_HEAD + bytes;
-}
-
-/* Items, one of them in a container, and padding; at times a byte is changed. Gives the payload's length. */
-static size_t make_payload(void)
-{
-    size_t inner = add_item(BAILHAMMER_ITEM_HEAD, "afpf", drawn(40)) - BAILHAMMER_ITEM_HEAD;
-    memcpy(payload, "fio_", 4);
-    put(payload + 4, 4, 8 * inner);
-    size_t at = add_item(BAILHAMMER_ITEM_HEAD + inner, "demo", drawn(3000));
-    at = add_item(at, drawn(10) ? "time" : "demo", 8) + drawn(8);
-    if (drawn(4) == 0)
-        payload[drawn(at)] ^= (uint8_t)(1 + drawn(255));
-    return at;
-}
-
 /* The faces on a payload and on its AF packet, whose length it gives. */
 static size_t faces_of_packets(void)
 {
@@ -128,6 +105,25 @@ static void faces_of_plan(const struct bailhammer_settings *settings, size_t l)
     at = put(put(put(put(put(at, 2, cut.c), 2, cut.k), 2, cut.z), 2, cut.n), 2, cut.h);
     put(put(put(put(put(at, 2, cut.S), 2, cut.L), 2, cut.f), 2, cut.s), 2, cut.losses);
     same("plan", told, again, sizeof told);
+}
+
+/* A refusal leaves told as it was, filled, and zeros in the struct. */
+static void faces_of_endure(const struct bailhammer_settings *settings, size_t l)
+{
+    uint8_t told[BAILHAMMER_TOLD_ENDURE], again[BAILHAMMER_TOLD_ENDURE], *at = again;
+    struct bailhammer_endurance endurance;
+    memset(&endurance, 1, sizeof endurance);
+    memcpy(again, memset(told, 0x5a, sizeof told), sizeof again);
+    size_t number = bailhammer_endure(settings->fec, settings->m, settings->newer, settings->mtu, settings->address.given, l, told, sizeof told);
+    same_number("endure", number, bailhammer_sender_endure(settings, l, &endurance));
+    if (number != BAILHAMMER_DONE) {
+        same("told of a refusal", told, again, sizeof told);
+        memset(told, 0, sizeof told);
+    }
+    at = put(put(at, 2, endurance.most), 2, endurance.f);
+    for (size_t i = 0; i < BAILHAMMER_FRAGMENTS; i++)
+        at = put(at, 1, endurance.lost[i]);
+    same("endure", told, again, sizeof told);
 }
 
 /* One fragment, as far as room goes; gives its length. */
@@ -186,6 +182,7 @@ static struct bailhammer_sent faces_of_rules(struct bailhammer_settings settings
     for (size_t i = 0; i < 2; i++) {
         settings.newer = !settings.newer;
         faces_of_plan(&settings, length);
+        faces_of_endure(&settings, length);
         faces_of_fragment(&settings, 1, length, drawn(20), drawn(1500));
         sent[i] = faces_of_fragments(&settings, (uint16_t)drawn(6), length, bytes);
     }
@@ -288,8 +285,11 @@ static void faces_of_names(void)
 
 int main(void)
 {
+    const struct bailhammer_settings least = {false, 0, false, 15, {BAILHAMMER_NO_ADDRESS}}; /* a byte of the packet in each fragment */
     faces_of_names();
     faces_of_settings();
+    faces_of_plan(&least, BAILHAMMER_FRAGMENTS);
+    faces_of_endure(&least, BAILHAMMER_FRAGMENTS);
     for (size_t round = 0; round < ROUNDS; round++) {
         faces_of_line(faces_of_packets());
         if (round % 20 == 19)

@@ -13,9 +13,10 @@ static struct tally {
     const char *call;
     size_t done, refused;
 } tallies[] = {{"check", 0, 0},    {"find", 0, 0},      {"walk_open", 0, 0}, {"walk_step", 0, 0}, {"plan", 0, 0},
-               {"fragment", 0, 0}, {"fragments", 0, 0}, {"parse", 0, 0},     {"receive", 0, 0},   {"query", 0, 0},
-               {"clear", 0, 0}};
+               {"endure", 0, 0},   {"fragment", 0, 0},  {"fragments", 0, 0}, {"parse", 0, 0},     {"receive", 0, 0},
+               {"query", 0, 0},    {"clear", 0, 0}};
 static size_t compared, delivered, displaced, cut_otherwise;
+static uint8_t payload[BAILHAMMER_PACKET];
 
 static void same(const char *what, const void *one, const void *other, size_t bytes)
 {
@@ -79,6 +80,29 @@ static struct bailhammer_settings draw_settings(void)
     if (drawn(2))
         settings.address = bailhammer_address_of((uint16_t)drawn(3), (uint16_t)drawn(3));
     return settings;
+}
+
+/* Writes an item at payload + at, its value drawn, and gives the place behind it. */
+static size_t add_item(size_t at, const char *name, size_t bytes)
+{
+    static uint8_t value[BAILHAMMER_PACKET];
+    for (size_t i = 0; i < bytes; i++)
+        value[i] = (uint8_t)drawn(256);
+    bailhammer_item(bailhammer_name(name), (uint32_t)(8 * bytes), value, bytes, payload + at, sizeof payload - at);
+    return at + BAILHAMMER_ITEM_HEAD + bytes;
+}
+
+/* Items, one of them in a container, and padding; at times a byte is changed. Gives the payload's length. */
+static size_t make_payload(void)
+{
+    size_t inner = add_item(BAILHAMMER_ITEM_HEAD, "afpf", drawn(40)) - BAILHAMMER_ITEM_HEAD;
+    memcpy(payload, "fio_", 4);
+    put(payload + 4, 4, 8 * inner);
+    size_t at = add_item(BAILHAMMER_ITEM_HEAD + inner, "demo", drawn(3000));
+    at = add_item(at, drawn(10) ? "time" : "demo", 8) + drawn(8);
+    if (drawn(4) == 0)
+        payload[drawn(at)] ^= (uint8_t)(1 + drawn(255));
+    return at;
 }
 
 /* Prints how often each call was done and refused; each must have been both, and the rules must not always have cut alike. */

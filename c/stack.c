@@ -28,7 +28,7 @@ static ucontext_t outside, inside;
 static uint8_t payload[PAYLOAD], packet[BAILHAMMER_PACKET], out[BAILHAMMER_PACKET];
 static uint8_t sent[BAILHAMMER_SENT], block[C * (K + 48)], kept[F];
 static uint8_t record[BAILHAMMER_RECORD], lent[BAILHAMMER_LENT], walker[BAILHAMMER_WALKER];
-static uint8_t nested[8 * DEPTHS + 1], told[32];
+static uint8_t nested[8 * DEPTHS + 1], told[BAILHAMMER_TOLD_ENDURE];
 static const uint8_t names[4] = {'n', 'e', 's', 't'};
 static size_t h, s, next, number;
 
@@ -67,6 +67,11 @@ static void walk_step(void)
 static void plan(void)
 {
     number = bailhammer_plan(TWO_LOSSES, 0, sizeof packet, told, sizeof told);
+}
+
+static void endure(void)
+{
+    number = bailhammer_endure(TWO_LOSSES, 0, sizeof packet, told, sizeof told);
 }
 
 static void fragment(void)
@@ -187,6 +192,7 @@ int main(void)
     tell("walk_open", walk_open);
     tell("walk_step", walk_step);
     tell("plan", plan);
+    tell("endure", endure);
     tell("fragment", fragment);
     tell("encode", encode);
     tell("fragments", fragments);

@@ -6,6 +6,7 @@
  *     bailhammer_tag_walk_open        bailhammer_walk_open
  *     bailhammer_tag_walk_step        bailhammer_walk_step
  *     bailhammer_sender_plan          bailhammer_plan
+ *     bailhammer_sender_endure        bailhammer_endure
  *     bailhammer_sender_fragment      bailhammer_fragment
  *     bailhammer_sender_fragments     bailhammer_fragments
  *     bailhammer_receiver_parse       bailhammer_parse
@@ -87,6 +88,29 @@ static inline size_t bailhammer_sender_plan(const struct bailhammer_settings *se
     cut->f = bailhammer_told(told + 14, 2);
     cut->s = bailhammer_told(told + 16, 2);
     cut->losses = bailhammer_told(told + 18, 2);
+    return number;
+}
+
+/* What a cut stands, exactly, where the losses of struct bailhammer_cut are what it is made to bear. */
+struct bailhammer_endurance {
+    size_t most;                     /* the most lost fragments that a transmission survives, whichever they are */
+    size_t f;                        /* fragments */
+    bool lost[BAILHAMMER_FRAGMENTS]; /* yes for each fragment of one set of most + 1 whose loss it does not survive */
+};
+
+/* Works out how many losses the cut of an AF packet of l bytes stands, and a set that is one too many.
+ *
+ *     struct bailhammer_endurance endurance;
+ *     number = bailhammer_sender_endure(&settings, 8192, &endurance); // at the house default endurance.most is 2 of 11, and lost 0, 1 and 2
+ */
+static inline size_t bailhammer_sender_endure(const struct bailhammer_settings *settings, size_t l, struct bailhammer_endurance *endurance)
+{
+    uint8_t told[BAILHAMMER_TOLD_ENDURE] = {0};
+    size_t number = bailhammer_endure(settings->fec, settings->m, settings->newer, settings->mtu, settings->address.given, l, told, sizeof told);
+    endurance->most = bailhammer_told(told, 2);
+    endurance->f = bailhammer_told(told + 2, 2);
+    for (size_t i = 0; i < BAILHAMMER_FRAGMENTS; i++)
+        endurance->lost[i] = told[4 + i] != 0;
     return number;
 }
 

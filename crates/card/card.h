@@ -38,6 +38,7 @@ extern "C" {
 #define BAILHAMMER_TOLD_FIND 17
 #define BAILHAMMER_TOLD_STEP 22 /* bailhammer_walk_step */
 #define BAILHAMMER_TOLD_PLAN 20
+#define BAILHAMMER_TOLD_ENDURE 260
 #define BAILHAMMER_TOLD_FRAGMENT 2
 #define BAILHAMMER_TOLD_FRAGMENTS 8
 #define BAILHAMMER_TOLD_PARSE 17
@@ -223,6 +224,19 @@ size_t bailhammer_walk_step(const uint8_t *packet, size_t packet_len, const uint
  *     size_t f = number == BAILHAMMER_DONE ? (size_t)told[14] * 256 + told[15] : 0;
  */
 size_t bailhammer_plan(size_t fec, size_t m, size_t newer, size_t mtu, size_t addressed, size_t l, uint8_t *told, size_t told_len);
+
+/* Works out how many losses the cut of an AF packet of l bytes stands, exactly. Tells 260 bytes: w (2), f (2), and 256 bytes, one for each index
+ * of a fragment from 0 on, 1 where it is in the set told and else 0. w is the greatest number such that any w lost fragments, whichever they
+ * are, leave every chunk, counted by the receiver's c, at most 48 bytes short: a transmission survives them. The set told is w + 1 fragments
+ * whose loss it does not survive: the first ones, 0 to w, which is below f. Of other sets as large it may survive some. Without FEC w is 0, and
+ * the set is fragment 0 alone. The last figure of bailhammer_plan is what the cut is made to bear; w is what it stands, and never less. Gives 0;
+ * else the first of 40, 20, 22, 41 and 1 that is due.
+ *
+ *     uint8_t told[BAILHAMMER_TOLD_ENDURE];
+ *     number = bailhammer_endure(BAILHAMMER_HOUSE, 0, l, told, sizeof told);
+ *     size_t w = number == BAILHAMMER_DONE ? (size_t)told[0] * 256 + told[1] : 0;
+ */
+size_t bailhammer_endure(size_t fec, size_t m, size_t newer, size_t mtu, size_t addressed, size_t l, uint8_t *told, size_t told_len);
 
 /* Writes fragment `index` of an AF packet at the front of out, under the packet's number. Tells its length, 2 bytes. Gives 0; else the
  * first of 40, 20 to 25, 41, 42 and 1 that is due. Each call lays the whole packet's chunks: for all fragments, bailhammer_fragments.

@@ -2,6 +2,7 @@
 mod blocks;
 mod headers;
 mod items;
+mod losses;
 mod packets;
 mod receiving;
 mod sending;
@@ -15,6 +16,7 @@ pub use headers::bailhammer_parse;
 pub use items::bailhammer_find;
 pub use items::bailhammer_walk_open;
 pub use items::bailhammer_walk_step;
+pub use losses::bailhammer_endure;
 pub use packets::bailhammer_check;
 pub use packets::bailhammer_item;
 pub use packets::bailhammer_wrap;

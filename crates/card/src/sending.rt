@@ -30,7 +30,7 @@ fn rule_of(newer: usize) -> Rule
 }
 
 // The settings.
-fn settings_of(
+pub(crate) fn settings_of(
     fec: usize,
     m: usize,
     newer: usize,

@@ -3,7 +3,7 @@ use mathlib.Core.Path.{_≡_, refl, sym, ap, _∙_, subst}
 use mathlib.Core.Logic.{_⊎_, inl, inr}
 use mathlib.Core.Bool.{Bool, true, false}
 use mathlib.Core.List.{List, [], _∷_, _++_, map}
-use Prim.Native.Nat.{ℕ, suc, _+_, _≤_, _<_}
+use Prim.Native.Nat.{ℕ, zero, suc, _+_, _≤_, _<_}
 use native.Mathlib.Nat.{eq-or-lt-of-le}
 use native.Mathlib.Omega.{arith}
 use lib.ListN.{length, getD, set, drop, replicate, length-map, List·getD-append, List·getD-map}
@@ -17,29 +17,38 @@ use Rattle.base_rules.proofs.Numbers.{number-back}
 use Rattle.cut_rules.specs.Plan.{planFault}
 use Rattle.cut_rules.specs.Sizes.{f}
 use Rattle.cut_rules.proofs.PlanCases.{within}
-use Rattle.endurance_rules.specs.Endure.{standsOf, flagged, losing, endureCall}
+use Rattle.endurance_rules.specs.Endure.{standsOf, flagged, losing, endureCall, enduredNumber, enduranceOf}
+use Rattle.endurance_rules.specs.declared.Endurance.{Endurance}
+use Rattle.endurance_rules.specs.declared.Endured.{Endured}
+use Rattle.endurance_rules.specs.declared.Endured.the-variants.{Losses, Refused}
 use Rattle.endurance_rules.proofs.Cuts.{losing-taken}
 use Rattle.endurance_rules.proofs.Flags.{length-flagged}
 use Rattle.endurance_rules.proofs.Proved.{below}
 use Rattle.card_rules.specs.Claims.{EnduranceWhole}
 use Rattle.card_rules.specs.Endurance.{withFlags, endureFor, endure-widths}
-use Rattle.card_rules.specs.Told.{refusalIn, inWidths, roomFor, toldOf}
+use Rattle.card_rules.specs.Told.{refusalIn, inWidths, roomFor, toldOf, CardTold}
 use Rattle.card_rules.proofs.TellLaws.{fits-room}
+use Rattle.card_rules.proofs.ToldLaws.{told-as, told-refused}
 
--- ---- a list that is laid down from the left
+-- ---- the numbers that are told, laid in an array from the left
 
 -- the first i numbers of xs are those of ys
 pub record Laid (ys xs : List ℕ) (i : ℕ) : Type 0 where
   pub at : (q : ℕ) → q < i → getD xs q 0 ≡ getD ys q 0
 
-module _ (ys : List ℕ) where
-  -- before any is laid
-  pub laid-none : (xs : List ℕ) → Laid ys xs 0
-  laid-none xs = record { at = λ q (b : q < 0). absurd (omega arith) }
+-- with the first two alike
+pub laid-two : (a b : ℕ) (ys xs : List ℕ) → Laid (a ∷ b ∷ ys) (a ∷ b ∷ xs) 2
+laid-two a b ys xs = record { at = go }
+  where
+    go : (q : ℕ) → q < 2 → getD (a ∷ b ∷ xs) q 0 ≡ getD (a ∷ b ∷ ys) q 0
+    go zero h = refl
+    go (suc zero) h = refl
+    go (suc (suc q)) h = absurd (omega arith)
 
+module _ (ys : List ℕ) where
   -- with the next one laid
-  pub laid-more : (xs : List ℕ) (i v : ℕ) → Laid ys xs i → i < length xs → v ≡ getD ys i 0 → Laid ys (set xs i v) (i + 1)
-  laid-more xs i v laid inside e = record { at = λ q (b : q < i + 1). go q (eq-or-lt-of-le b) }
+  pub laid-more : (xs : List ℕ) (i v : ℕ) → Laid ys xs i → i < length xs → v ≡ getD ys i 0 → (j : ℕ) → j ≤ i + 1 → Laid ys (set xs i v) j
+  laid-more xs i v laid inside e j near = record { at = λ q (b : q < j). let under : suc q ≤ i + 1 = omega arith in go q (eq-or-lt-of-le under) }
     where
       go : (q : ℕ) → (suc q ≡ i + 1) ⊎ (suc q < i + 1) → getD (set xs i v) q 0 ≡ getD ys q 0
       go q (inl s) =
@@ -50,6 +59,29 @@ module _ (ys : List ℕ) where
   -- with as many as there are
   pub laid-all : (xs : List ℕ) (i : ℕ) → Laid ys xs i → length xs ≡ length ys → length xs ≤ i → xs ≡ ys
   laid-all xs i laid long all = ext-getD 0 xs ys long (λ q inside. laid .at q (omega arith))
+
+-- flag i stands behind two numbers
+pub flag-third : (a b : ℕ) (flags : List Bool) (i : ℕ) → bit (getD flags i false) ≡ getD (a ∷ b ∷ map bit flags) (2 + i) 0
+flag-third a b flags i =
+    let two : suc (suc i) ≡ 2 + i = omega arith in
+    sym (List·getD-map bit flags i false) ∙ ap (λ (x : ℕ). getD (a ∷ b ∷ map bit flags) x 0) two
+
+-- ---- the answer, case by case
+
+module _ (e : Endurance) (before : List ℕ) where
+  -- what a cut stands is told: w, f and the set
+  pub told-losses : {most f : ℕ} {widths values after : List ℕ} {r : ℕ} → e .answer ≡ Losses most f → widths ≡ endure-widths
+      → values ≡ most ∷ f ∷ map bit (e .lost) → CardTold widths (granted values) before after r
+      → CardTold endure-widths (withFlags (enduranceOf e)) before after r
+  unfolding withFlags enduredNumber
+  told-losses {values = values} {after = after} {r = r} is w v said =
+      told-as endure-widths before (ap granted v ∙ sym (ap (λ (a : Endured). withFlags (enduredNumber a, e .lost)) is))
+      (subst (λ (x : List ℕ). CardTold x (granted values) before after r) w said)
+
+  -- of a refusal nothing is
+  pub told-nothing : {n : ℕ} → e .answer ≡ Refused n → CardTold endure-widths (withFlags (enduranceOf e)) before before n
+  unfolding withFlags enduredNumber
+  told-nothing is = told-refused endure-widths before (ap (λ (a : Endured). withFlags (enduredNumber a, e .lost)) is)
 
 -- ---- what is told, read back
 
