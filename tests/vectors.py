@@ -7,8 +7,8 @@ The answers come from crc.txt (made by a peer), from plans.py and fields.py (com
 01 and 02), from chunks.py (of parity.txt, made by a peer), from packets.py (written out beside the
 sentence of document 01 that gives it, or by its own reader), from fragments.py (by its own sender),
 from receiving.py (by hand and by its own receiver), from editions.py (both rules of sizes, by hand
-and by all of these) and from the lists below. None is taken from the program. Running this again
-gives the same bytes.
+and by all of these), from endurance.py (losses, counted) and from the lists below. None is taken
+from the program. Running this again gives the same bytes.
 """
 import pathlib
 import sys
@@ -16,6 +16,7 @@ import sys
 sys.dont_write_bytecode = True
 import chunks
 import editions
+import endurance
 import fields
 import fragments
 import packets
@@ -249,6 +250,10 @@ def either_edition():
     ask_parts(editions.PARTS)
 
 
+def exact_losses():
+    ask_parts(endurance.PARTS)
+
+
 MALFORMED = """\
 mul
 mul 1
@@ -375,7 +380,7 @@ def long_lines():
 
 def main():
     for part in (sums, sizes, settings, counts, ordinary, named_settings, elements, whole_chunks, packets_and_items, longest_packets,
-                 sent_packets, received_fragments, either_edition, malformed, long_lines):
+                 sent_packets, received_fragments, either_edition, exact_losses, malformed, long_lines):
         part()
         silent("")
     questions.pop()

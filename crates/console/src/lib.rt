@@ -4,6 +4,7 @@
 mod chunks;
 mod fields;
 mod items;
+mod losses;
 mod packets;
 mod plans;
 mod receiving;
@@ -24,8 +25,9 @@ pub const LINE: usize = 2 * words::BYTES + 512;
 // letters, as in ` 0:6162635f:262080`, and ` end 0`, and each item has a head of 8 bytes of its own. No
 // other answer may be as long: that to `items` has at most 2 letters for each byte of the packet and 13
 // more, which are `items`, ` end 0`, and one for each item of over 99,999 bits, of which there are two at
-// most (with 5 digits, a head of 8 bytes has 16 letters, as in ` 6162635f:80000:`). The rest have 2
-// letters for each byte that they tell of, and fewer than 100 more, or list a packet of at most 8,192 bytes.
+// most (with 5 digits, a head of 8 bytes has 16 letters, as in ` 6162635f:80000:`). That to `endure` has
+// at most 4 letters for each of 256 fragments. The rest have 2 letters for each byte that they tell of,
+// and fewer than 100 more, or list a packet of at most 8,192 bytes.
 pub const ANSWER: usize = 18 * (words::BYTES / 8) + 10;
 
 // A seat: what the receiver's questions leave for the next line. One of zeros holds a fresh table. With a seat of

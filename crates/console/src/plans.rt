@@ -1,9 +1,10 @@
-// Questions on plans: how a packet of some length is cut, and which settings have a name. Settings in their words stand in the
-// sender's questions too.
+// Questions on plans: how a packet of some length is cut, what the cut stands, and which settings have a name. Settings in their words
+// stand in the sender's questions too.
 ghost use mathlib.Core.Path.{_≡_};
 ghost use Rattle.text_rules.specs.Text.{laid, behind};
 ghost use Rattle.text_rules.specs.Wrote.{Wrote};
 ghost use Rattle.console.specs.inner.Said.{addressSaid};
+use crate::losses;
 use crate::replies;
 use crate::words;
 use crate::words::Number;
@@ -28,6 +29,9 @@ pub(crate) fn answer(line: &[u8], out: &mut [u8]) -> usize
 {
     if words::asks_or_more(line, b"plan", 5) {
         return answer_plan(line, out);
+    }
+    if words::asks_or_more(line, b"endure", 5) {
+        return losses::answer(line, out);
     }
     if words::asks(line, b"house", 0) {
         return write_settings(out, cut::house());
