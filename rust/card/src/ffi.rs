@@ -60,6 +60,16 @@ extern "C" {
         told: *mut u8,
         told_len: usize,
     ) -> usize;
+    pub fn bailhammer_endure(
+        fec: usize,
+        m: usize,
+        newer: usize,
+        mtu: usize,
+        addressed: usize,
+        l: usize,
+        told: *mut u8,
+        told_len: usize,
+    ) -> usize;
     pub fn bailhammer_fragment(
         fec: usize,
         m: usize,

@@ -12,6 +12,7 @@
 
 pub mod af;
 pub mod block;
+mod endurance;
 pub mod ffi;
 pub mod header;
 pub mod raw;

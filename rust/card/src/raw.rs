@@ -15,6 +15,8 @@ pub const TOLD_FIND: usize = 17;
 pub const TOLD_STEP: usize = 22;
 /// The bytes that a plan tells.
 pub const TOLD_PLAN: usize = 20;
+/// The bytes that an endurance tells.
+pub const TOLD_ENDURE: usize = 260;
 /// The bytes that a fragment tells.
 pub const TOLD_FRAGMENT: usize = 2;
 /// The bytes that all fragments tell.
@@ -101,6 +103,20 @@ pub fn plan(
     let room = told.len();
     // Safety: pointer and length are those of a live slice.
     unsafe { ffi::bailhammer_plan(fec, m, newer, mtu, addressed, l, told.as_mut_ptr(), room) }
+}
+
+pub fn endure(
+    fec: usize,
+    m: usize,
+    newer: usize,
+    mtu: usize,
+    addressed: usize,
+    l: usize,
+    told: &mut [u8],
+) -> usize {
+    let room = told.len();
+    // Safety: pointer and length are those of a live slice.
+    unsafe { ffi::bailhammer_endure(fec, m, newer, mtu, addressed, l, told.as_mut_ptr(), room) }
 }
 
 pub fn fragment(

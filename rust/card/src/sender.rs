@@ -1,9 +1,13 @@
-//! The sender: planning a cut, writing one fragment or all fragments of a packet.
+//! The sender: planning a cut, telling how many losses it stands, writing one fragment or all
+//! fragments of a packet.
 
+pub use crate::endurance::{endure, Endurance};
 use crate::{done, raw, short, Refused};
 
 /// The bytes that no packet's fragments exceed.
 pub const SENT: usize = 17_408;
+/// The most fragments of a packet.
+pub const FRAGMENTS: usize = 256;
 
 /// The address of a fragment, or the one that a receiver takes.
 #[derive(Clone, Copy, Debug, PartialEq, Eq)]
@@ -166,7 +170,7 @@ pub(crate) fn pair(address: Option<Address>) -> (usize, u16, u16) {
 }
 
 /// A rule as the library takes it: whether it is the newer one.
-fn newer(rule: Rule) -> usize {
+pub(crate) fn newer(rule: Rule) -> usize {
     match rule {
         Rule::Older => 0,
         Rule::Newer => 1,

@@ -1,7 +1,11 @@
-//! The sender: plan, fragment, fragments.
+//! The sender: plan, endure, fragment, fragments.
 
 use card::{raw, sender};
-use reference::plan::{header_length, plan as expected_plan, Plan, Rule, Settings, MOST_MTU};
+use reference::code::PARITY;
+use reference::endurance::{endure as expected_endure, Endurance};
+use reference::plan::{
+    header_length, plan as expected_plan, Plan, Rule, Settings, MOST_FRAGMENTS, MOST_MTU,
+};
 use reference::sender::{fragment as expected_fragment, fragments as expected_fragments, Sent};
 
 use crate::af::{packet, wrong_packet};
@@ -12,6 +16,14 @@ use crate::tally::{due, hex, number_of, told, Judge, Tally};
 const OTHERWISE: &str = "granted that the older rule would cut otherwise";
 /// The plans that assure fewer losses than the sender is set for.
 const FEWER: &str = "granted that assure 4 losses at m 5";
+/// The cuts that stand losses which their plan does not assure.
+const MORE: &str = "granted that stand more losses than the plan assures";
+/// Those of them that are set for no loss.
+const UNASKED: &str = "granted that stand a loss at m 0";
+/// The cuts where it matters that not all fragments have as much of a chunk.
+const UNLIKE: &str = "granted that stand more than by the greatest share alone";
+/// The cuts that stand no loss, whatever they are.
+const PLAIN: &str = "granted without FEC";
 
 /// Whether the older rule cuts a packet of l bytes otherwise; where f is the same, so is all else
 /// of the fragments.
@@ -87,13 +99,18 @@ fn shorts(figures: &[usize]) -> Vec<u8> {
     figures.iter().flat_map(|figure| (*figure as u16).to_be_bytes()).collect()
 }
 
-pub fn plan(rng: &mut Rng, tally: &mut Tally) {
-    let l = match rng.below(100) {
+/// The length of a packet to be planned: at times that of none.
+fn some_length(rng: &mut Rng) -> usize {
+    match rng.below(100) {
         0..5 => rng.within(0, 11),
         5..10 => rng.pick(&[8_193, 8_194, 65_536, usize::MAX]),
         10..60 => rng.within(12, 8_192),
         _ => 12 + rng.length(8_180),
-    };
+    }
+}
+
+pub fn plan(rng: &mut Rng, tally: &mut Tally) {
+    let l = some_length(rng);
     let (settings, before) = (any_settings(rng, l.min(8_192)), rng.room(raw::TOLD_PLAN));
     let (fec, addressed) = (rng.flag(settings.fec), rng.flag(settings.address.is_some()));
     let (newer, mut after) = (rng.flag(settings.rule == Rule::Newer), before.clone());
@@ -113,6 +130,46 @@ pub fn plan(rng: &mut Rng, tally: &mut Tally) {
     tally.note(FEWER, due.is_ok() && fewer);
     let typed = typed.map(|p| [p.c, p.k, p.z, p.n, p.h, p.most, p.total, p.f, p.s, p.losses]);
     judge.same("typed", typed.map(|p| p.map(usize::from)), expected);
+    tally.count(number, judge, || {
+        let flags = format!("fec={fec} newer={newer} addressed={addressed}");
+        format!("{flags} {settings:?} l={l} told={}", hex(&before))
+    });
+}
+
+/// What is told of an endurance: w and f, and a flag for each of 256 fragments.
+fn bytes_of(endured: &Endurance) -> Vec<u8> {
+    let flags = (0..MOST_FRAGMENTS).map(|i| u8::from(endured.lost.contains(&i)));
+    shorts(&[endured.most, endured.f]).into_iter().chain(flags).collect()
+}
+
+/// What the typed call tells, as the reference does.
+fn counted(endured: sender::Endurance) -> Endurance {
+    let lost = (0..MOST_FRAGMENTS).filter(|i| endured.lost[*i]).collect();
+    Endurance { most: endured.most.into(), f: endured.f.into(), lost }
+}
+
+pub fn endure(rng: &mut Rng, tally: &mut Tally) {
+    let l = some_length(rng);
+    let (settings, before) = (any_settings(rng, l.min(8_192)), rng.room(raw::TOLD_ENDURE));
+    let (fec, addressed) = (rng.flag(settings.fec), rng.flag(settings.address.is_some()));
+    let (newer, mut after) = (rng.flag(settings.rule == Rule::Newer), before.clone());
+    let number = raw::endure(fec, settings.m, newer, settings.mtu, addressed, l, &mut after);
+    let typed = sender::endure(&typed_settings(&settings), l).map_err(|refused| refused.0);
+    let expected = expected_endure(&settings, l);
+
+    let mut judge = Judge::default();
+    let due = due(&expected, &before, raw::TOLD_ENDURE);
+    judge.same("number", number, number_of(&due));
+    let line = due.map_or(before.clone(), |endured| told(&before, &bytes_of(endured)));
+    judge.bytes("told", &after, &line);
+    let share = |plan: Plan| plan.n.div_ceil(plan.f);
+    let (plan, stood) = (expected_plan(&settings, l), due.map_or(0, |endured| endured.most));
+    tally.note(OTHERWISE, due.is_ok() && cut_otherwise(&settings, l));
+    tally.note(MORE, plan.is_ok_and(|plan| stood > plan.losses));
+    tally.note(UNASKED, stood > 0 && settings.m == 0);
+    tally.note(UNLIKE, plan.is_ok_and(|plan| stood * share(plan) > PARITY));
+    tally.note(PLAIN, due.is_ok() && !settings.fec);
+    judge.same("typed", typed.map(counted), expected);
     tally.count(number, judge, || {
         let flags = format!("fec={fec} newer={newer} addressed={addressed}");
         format!("{flags} {settings:?} l={l} told={}", hex(&before))

@@ -1,6 +1,7 @@
 //! The questions of the console: from a line to an answer.
 
 use crate::code::{Filling, MOST_DATA, PARITY};
+use crate::endurance::{endure, Endurance};
 use crate::plan::{Address, Rule, Settings, HOUSE, TWO_LOSSES};
 use crate::receiver::{Condition, Kept, Received, Table};
 use crate::tag::{Name, Walked};
@@ -43,7 +44,9 @@ impl Console {
             &"fresh" | &"recv" | &"query" | &"clear" => self.on_receiver(&words)?,
             &"crc" | &"mul" | &"div" | &"log" | &"pow" => on_field(&words)?,
             &"parity" | &"fill" => on_chunks(&words)?,
-            &"house" | &"twolosses" | &"plan" | &"fragment" | &"fragments" => on_sender(&words)?,
+            &"house" | &"twolosses" | &"plan" | &"endure" | &"fragment" | &"fragments" => {
+                on_sender(&words)?
+            }
             &"afcheck" | &"afwrap" => on_af(&words)?,
             _ => on_tag(&words)?,
         };
@@ -124,6 +127,10 @@ fn on_cut(words: &[&str], named: Option<Rule>) -> Option<Answer<String>> {
                 Some(_) => format!("{} assured={}", show_plan(&plan), plan.losses),
                 None => show_plan(&plan),
             }))
+        }
+        ["endure", fec, m, mtu, addr, l] => {
+            let endured = endure(&settings(fec, m, mtu, addr, rule)?, any_number(l)?);
+            Some(endured.map(|endured| show_endurance(&endured)))
         }
         ["fragment", fec, m, mtu, addr, pseq, index, room, packet] => {
             let (settings, number) = (settings(fec, m, mtu, addr, rule)?, short(pseq)?);
@@ -294,6 +301,11 @@ fn show_plan(plan: &plan::Plan) -> String {
         "plan c={} k={} z={} n={} S={} L={} f={} s={} h={}",
         plan.c, plan.k, plan.z, plan.n, plan.most, plan.total, plan.f, plan.s, plan.h
     )
+}
+
+fn show_endurance(endured: &Endurance) -> String {
+    let lost: Vec<String> = endured.lost.iter().map(usize::to_string).collect();
+    format!("endures {} of {} losing {}", endured.most, endured.f, lost.join(","))
 }
 
 fn show_af(header: &af::Header) -> String {

@@ -9,6 +9,7 @@ pub mod block;
 pub mod code;
 pub mod console;
 pub mod crc;
+pub mod endurance;
 pub mod field;
 pub mod listing;
 pub mod pft;

@@ -1,5 +1,6 @@
 //! What documents 01 and 02 say that a line of the console does not show.
 
+use reference::endurance::{endure, Endurance};
 use reference::plan::{plan, Plan, Rule, Settings, HOUSE, TWO_LOSSES};
 use reference::receiver::{Kept, Received, Table, LENT};
 use reference::{af, crc, field, number, sender, tag};
@@ -135,6 +136,34 @@ fn what_the_rule_does_not_change() {
     assert_eq!(both(HOUSE, 8_193), Err(number::AF_LENGTH));
 }
 
+/// Document 02, Item 12, at MTU 1,400: the losses stood for m from 0 to 5, and at shorter MTUs f
+/// too. At m 0 the two rules are the same.
+#[test]
+fn rows_of_the_losses_stood() {
+    let rows = [
+        (Rule::Older, 12, [0, 2, 3, 4, 5, 6]),
+        (Rule::Older, 207, [0, 2, 3, 4, 5, 6]),
+        (Rule::Older, 208, [0, 2, 3, 4, 4, 6]),
+        (Rule::Older, 414, [0, 2, 3, 4, 4, 6]),
+        (Rule::Older, 415, [0, 2, 3, 4, 5, 6]),
+        (Rule::Older, 8_192, [1, 2, 3, 4, 4, 6]),
+        (Rule::Newer, 208, [0, 1, 2, 3, 4, 4]),
+        (Rule::Newer, 415, [0, 1, 2, 3, 4, 5]),
+        (Rule::Newer, 8_192, [1, 1, 2, 3, 4, 4]),
+    ];
+    for (rule, l, row) in rows {
+        let stood = |m| endure(&Settings { m, rule, ..HOUSE }, l).unwrap().most;
+        assert_eq!([0, 1, 2, 3, 4, 5].map(stood), row, "{rule:?} l {l}");
+    }
+    let short = |mtu, l| endure(&Settings { mtu, ..newer(5) }, l).map(|cut| (cut.f, cut.most));
+    assert_eq!(short(30, 414), Ok((37, 6)));
+    assert_eq!(short(100, 8_192), Ok((121, 18)));
+    assert_eq!(short(56, 8_192), Ok((253, 48)));
+    assert_eq!(short(55, 8_192), Err(number::TOOMANY));
+    let without = endure(&Settings { fec: false, m: 0, ..HOUSE }, 1_387);
+    assert_eq!(without, Ok(Endurance { most: 0, f: 2, lost: vec![0] }));
+}
+
 /// l 415, m 2: any three lost still rebuild, no four do.
 #[test]
 fn three_lost_rebuild_and_no_four() {
@@ -196,6 +225,21 @@ fn five_lost_of_27_rebuild_at_times() {
     assert_eq!(answer(&[0, 1, 12, 13, 24]), delivered(5));
     assert_eq!(answer(&[0, 1, 2, 3]), delivered(4));
     assert_eq!(answer(&[12, 13, 14, 15]), delivered(4));
+}
+
+/// Document 02, Item 12, by the receiver: it waits where the losing set is lost, and where any w in
+/// a row are, it has the packet with the last fragment that comes, or had it before.
+#[test]
+fn the_losing_set_does_not_rebuild() {
+    for (settings, l) in [(HOUSE, 207), (TWO_LOSSES, LENGTH), (newer(4), 208), (newer(5), 414)] {
+        let (packet, waits) = (packet(l), Some(kept(Kept::Waits)));
+        let (fragments, endured) = (cut(&settings, &packet), endure(&settings, l).unwrap());
+        assert_eq!(last_answer(&packet, &fragments, &endured.lost), waits);
+        for first in 0..endured.f {
+            let lost: Vec<usize> = (0..endured.most).map(|i| (first + i) % endured.f).collect();
+            assert_ne!(last_answer(&packet, &fragments, &lost), waits, "{lost:?} of l {l}");
+        }
+    }
 }
 
 #[test]
