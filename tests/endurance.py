@@ -20,7 +20,7 @@ from runs import NONE, PAIR, Run, packet
 PARITY = 48  # bytes that a chunk may miss
 FEW = 12  # of so many fragments all sets are tried
 
-# l, and the losses that are borne at MTU 1,400 without address: by the older rule for m 0 to 5, by the newer for m 1 to 5
+# l, and the losses that are stood at MTU 1,400 without address: by the older rule for m 0 to 5, by the newer for m 1 to 5
 OLDER = ((12, "0 2 3 4 5 6"), (207, "0 2 3 4 5 6"), (208, "0 2 3 4 4 6"), (414, "0 2 3 4 4 6"), (415, "0 2 3 4 5 6"), (8192, "1 2 3 4 4 6"))
 NEWER = ((208, "1 2 3 4 4"), (415, "1 2 3 4 5"), (8192, "1 2 3 4 4"))
 
@@ -65,7 +65,7 @@ def taken(counts, lost):
 
 
 @functools.cache
-def borne(f, s, n):
+def stood(f, s, n):
     """The greatest number of losses of which no chunk misses more than 48 bytes."""
     counts = shares(f, s, n)
     w = max(w for w in range(f + 1) if most(counts, w) <= PARITY)
@@ -89,7 +89,7 @@ def computed(words):
     if isinstance(figures, str):
         return figures
     c, n, f, s = figures
-    w = borne(f, s, n) if c else 0
+    w = stood(f, s, n) if c else 0
     assert plans.assured(c, int(words[1]), *words[5:] or [None]) <= w, (words, w)
     return f"endures {w} of {f} losing " + ",".join(map(str, range(w + 1)))
 
@@ -129,7 +129,7 @@ def figure_questions():
     for l, figures in NEWER:
         for m, w in zip(itertools.count(1), figures.split()):
             yield asked(1, m, 1400, NONE, l, "new", w=w)
-    # MTU - h is the smaller, and far more are borne than the 4 that are assured
+    # MTU - h is the smaller, and far more are stood than the 4 that are assured
     for mtu, l, f, w in ((30, 414, 37, 6), (100, 8192, 121, 18), (56, 8192, 253, 48)):
         yield asked(1, 5, mtu, NONE, l, "new", w=w, f=f)
 
@@ -161,7 +161,7 @@ def plain_questions():
 
 
 def rule_questions():
-    # l, and for m 1 to 5 what the older rule's cut bears and what the newer one's does
+    # l, and for m 1 to 5 what the older rule's cut stands and what the newer one's does
     for l, figures in ((207, "2-1 3-2 4-3 5-4 6-5"), (1000, "2-1 3-2 4-3 4-4 6-4")):
         for m, pair in zip(itertools.count(1), figures.split()):
             for rule, w in zip(RULES, pair.split("-")):

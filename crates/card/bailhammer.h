@@ -93,9 +93,9 @@ static inline size_t bailhammer_sender_plan(const struct bailhammer_settings *se
 
 /* What a cut stands, exactly, where the losses of struct bailhammer_cut are what it is made to bear. */
 struct bailhammer_endurance {
-    size_t most;                     /* the most lost fragments that a transmission survives, whichever they are */
+    size_t most;                     /* the most lost fragments, whichever they are, without which the others are enough */
     size_t f;                        /* fragments */
-    bool lost[BAILHAMMER_FRAGMENTS]; /* yes for each fragment of one set of most + 1 whose loss it does not survive */
+    bool lost[BAILHAMMER_FRAGMENTS]; /* yes for each fragment of one set of most + 1 without which they are not */
 };
 
 /* Works out how many losses the cut of an AF packet of l bytes stands, and a set that is one too many.

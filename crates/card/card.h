@@ -227,10 +227,10 @@ size_t bailhammer_plan(size_t fec, size_t m, size_t newer, size_t mtu, size_t ad
 
 /* Works out how many losses the cut of an AF packet of l bytes stands, exactly. Tells 260 bytes: w (2), f (2), and 256 bytes, one for each index
  * of a fragment from 0 on, 1 where it is in the set told and else 0. w is the greatest number such that any w lost fragments, whichever they
- * are, leave every chunk, counted by the receiver's c, at most 48 bytes short: a transmission survives them. The set told is w + 1 fragments
- * whose loss it does not survive: the first ones, 0 to w, which is below f. Of other sets as large it may survive some. Without FEC w is 0, and
- * the set is fragment 0 alone. The last figure of bailhammer_plan is what the cut is made to bear; w is what it stands, and never less. Gives 0;
- * else the first of 40, 20, 22, 41 and 1 that is due.
+ * are, leave every chunk, counted by the receiver's c, at most 48 bytes short: those that come are enough. The set told is w + 1 fragments
+ * without which the others are not enough: the first ones, 0 to w, which is below f. Of other sets as large some may be lost. Without FEC w is
+ * 0, and the set is fragment 0 alone. The last figure of bailhammer_plan is what the cut is made to bear; w is what it stands, and never less.
+ * Gives 0; else the first of 40, 20, 22, 41 and 1 that is due.
  *
  *     uint8_t told[BAILHAMMER_TOLD_ENDURE];
  *     number = bailhammer_endure(BAILHAMMER_HOUSE, 0, l, told, sizeof told);

@@ -1,13 +1,11 @@
 -- What is told of the losses that a cut stands: the numbers as they are laid in an array, and read back from the bytes. Assumes nothing.
 use mathlib.Core.Path.{_≡_, refl, sym, ap, _∙_, subst}
-use mathlib.Core.Logic.{_⊎_, inl, inr}
 use mathlib.Core.Bool.{Bool, true, false}
 use mathlib.Core.List.{List, [], _∷_, _++_, map}
-use Prim.Native.Nat.{ℕ, zero, suc, _+_, _≤_, _<_}
-use native.Mathlib.Nat.{eq-or-lt-of-le}
+use Prim.Native.Nat.{ℕ, suc, _+_, _≤_, _<_}
 use native.Mathlib.Omega.{arith}
-use lib.ListN.{length, getD, set, drop, replicate, length-map, List·getD-append, List·getD-map}
-use lib.Seq.{getD-set-same, getD-set-other, ext-getD}
+use lib.ListN.{length, getD, set, take, drop, replicate, length-map, List·getD-append, List·getD-map}
+use lib.Seq.{take-all}
 use Rattle.base_rules.specs.Answer.{Answer, granted}
 use Rattle.base_rules.specs.Bounds.{most-f}
 use Rattle.base_rules.specs.Bytes.{splice, numberAt, bytesOf}
@@ -21,6 +19,7 @@ use Rattle.endurance_rules.specs.Endure.{standsOf, flagged, losing, endureCall,
 use Rattle.endurance_rules.specs.declared.Endurance.{Endurance}
 use Rattle.endurance_rules.specs.declared.Endured.{Endured}
 use Rattle.endurance_rules.specs.declared.Endured.the-variants.{Losses, Refused}
+use Rattle.packed_rules.proofs.FlagLaws.{filled-more, filled-all}
 use Rattle.endurance_rules.proofs.Cuts.{losing-taken}
 use Rattle.endurance_rules.proofs.Flags.{length-flagged}
 use Rattle.endurance_rules.proofs.Proved.{below}
@@ -30,41 +29,45 @@ use Rattle.card_rules.specs.Told.{refusalIn, inWidths, roomFor, toldOf, 
 use Rattle.card_rules.proofs.TellLaws.{fits-room}
 use Rattle.card_rules.proofs.ToldLaws.{told-as, told-refused}
 
--- ---- the numbers that are told, laid in an array from the left
+-- ---- the numbers that are told, laid in an array from the left: a list that is filled by the rule that keeps each number as it is
 
--- the first i numbers of xs are those of ys
-pub record Laid (ys xs : List ℕ) (i : ℕ) : Type 0 where
-  pub at : (q : ℕ) → q < i → getD xs q 0 ≡ getD ys q 0
+abbrev same : ℕ → ℕ
+same x = x
 
--- with the first two alike
-pub laid-two : (a b : ℕ) (ys xs : List ℕ) → Laid (a ∷ b ∷ ys) (a ∷ b ∷ xs) 2
-laid-two a b ys xs = record { at = go }
-  where
-    go : (q : ℕ) → q < 2 → getD (a ∷ b ∷ xs) q 0 ≡ getD (a ∷ b ∷ ys) q 0
-    go zero h = refl
-    go (suc zero) h = refl
-    go (suc (suc q)) h = absurd (omega arith)
+all-same : (xs : List ℕ) → map same xs ≡ xs
+all-same [] = refl
+all-same (x ∷ xs) = ap (λ (l : List ℕ). x ∷ l) (all-same xs)
 
-module _ (ys : List ℕ) where
-  -- with the next one laid
-  pub laid-more : (xs : List ℕ) (i v : ℕ) → Laid ys xs i → i < length xs → v ≡ getD ys i 0 → (j : ℕ) → j ≤ i + 1 → Laid ys (set xs i v) j
-  laid-more xs i v laid inside e j near = record { at = λ q (b : q < j). let under : suc q ≤ i + 1 = omega arith in go q (eq-or-lt-of-le under) }
-    where
-      go : (q : ℕ) → (suc q ≡ i + 1) ⊎ (suc q < i + 1) → getD (set xs i v) q 0 ≡ getD ys q 0
-      go q (inl s) =
-          let z : q ≡ i = omega arith in
-          subst (λ (x : ℕ). getD (set xs i v) x 0 ≡ getD ys x 0) (sym z) (getD-set-same xs i v 0 inside ∙ e)
-      go q (inr s) = getD-set-other xs i q v 0 (λ (z : q ≡ i). omega arith) ∙ laid .at q (omega arith)
+module _ (most f : ℕ) (flags : List Bool) where
+  abbrev figures : List ℕ
+  figures = most ∷ f ∷ map bit flags
 
-  -- with as many as there are
-  pub laid-all : (xs : List ℕ) (i : ℕ) → Laid ys xs i → length xs ≡ length ys → length xs ≤ i → xs ≡ ys
-  laid-all xs i laid long all = ext-getD 0 xs ys long (λ q inside. laid .at q (omega arith))
+  -- the first j are laid
+  pub record Laid (told : List ℕ) (j : ℕ) : Type 0 where
+    pub front : take j told ≡ map same (take j figures)
 
--- flag i stands behind two numbers
-pub flag-third : (a b : ℕ) (flags : List Bool) (i : ℕ) → bit (getD flags i false) ≡ getD (a ∷ b ∷ map bit flags) (2 + i) 0
-flag-third a b flags i =
-    let two : suc (suc i) ≡ 2 + i = omega arith in
-    sym (List·getD-map bit flags i false) ∙ ap (λ (x : ℕ). getD (a ∷ b ∷ map bit flags) x 0) two
+  -- the two figures,
+  pub laid-two : (rest : List ℕ) → Laid (most ∷ f ∷ rest) (2 + 0)
+  laid-two rest = record { front = refl }
+
+  -- one flag more,
+  pub laid-flag : (told : List ℕ) (i v : ℕ) → Laid told (2 + i) → 2 + i < length told → i < length flags → v ≡ bit (getD flags i false)
+      → Laid (set told (2 + i) v) (2 + (i + 1))
+  laid-flag told i v laid room inside is =
+      let two : suc (suc i) ≡ 2 + i = omega arith in
+      let next : 2 + i + 1 ≡ 2 + (i + 1) = omega arith in
+      let third : v ≡ getD figures (2 + i) 0 = is ∙ sym (List·getD-map bit flags i false) ∙ ap (λ (x : ℕ). getD figures x 0) two in
+      record {
+        front = subst (λ (j : ℕ). take j (set told (2 + i) v) ≡ map same (take j figures)) next
+            (filled-more same figures told (2 + i) v 0 (laid .front) room (omega (arith, length-map flags bit)) third);
+      }
+
+  -- and all of them
+  pub laid-all : (told : List ℕ) (i : ℕ) → Laid told (2 + i) → length told ≤ 2 + i → length flags ≤ i → told ≡ figures
+  laid-all told i laid end all =
+      filled-all told _ (2 + i) end (laid .front)
+      ∙ all-same (take (2 + i) figures)
+      ∙ take-all (2 + i) figures (omega (arith, length-map flags bit))
 
 -- ---- the answer, case by case
 

@@ -3,10 +3,8 @@ ghost use Prim.Native.Nat.{_≤_};
 ghost use lib.ListN.{length};
 ghost use Rattle.text_rules.specs.Wrote.{Wrote};
 use crate::plans;
-use crate::plans::Asked;
+use crate::plans::Cutting;
 use crate::replies;
-use crate::words;
-use crate::words::Number;
 use base::MOST_F;
 use endurance::Endured;
 
@@ -14,10 +12,7 @@ use endurance::Endured;
 pub(crate) fn answer(line: &[u8], out: &mut [u8]) -> usize
     ensures { λ r. ⌜ Wrote (now (out .entry)) 0 r (now (out .exit)) ⌝ }
 {
-    let Asked::Of(g) = plans::settings(line, 6) else {
-        return 0;
-    };
-    let Number::Of(l) = words::decimal_at(line, 5) else {
+    let Cutting::Of(g, l) = plans::cut_in(line) else {
         return 0;
     };
     let e = endurance::endure(g, l);

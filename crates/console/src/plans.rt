@@ -16,6 +16,12 @@ pub(crate) enum Asked {
     Malformed,
 }
 
+// The settings and the length of a packet that a question on a cut has in its words.
+pub(crate) enum Cutting {
+    Of(cut::Settings, usize),
+    Malformed,
+}
+
 // The rule of sizes that a question's last word says.
 enum Ruled {
     By(cut::Rule),
@@ -47,16 +53,24 @@ pub(crate) fn answer(line: &[u8], out: &mut [u8]) -> usize
 fn answer_plan(line: &[u8], out: &mut [u8]) -> usize
     ensures { λ r. ⌜ Wrote (now (out .entry)) 0 r (now (out .exit)) ⌝ }
 {
-    let Asked::Of(g) = settings(line, 6) else {
-        return 0;
-    };
-    let Number::Of(l) = words::decimal_at(line, 5) else {
+    let Cutting::Of(g, l) = cut_in(line) else {
         return 0;
     };
     match cut::plan(g, l) {
         cut::Planned::Cut(figures) => write_cut(out, figures, words::has(line, 6)),
         cut::Planned::Refused(by) => replies::refused(out, by),
     }
+}
+
+// What a question FEC M MTU ADDR L [RULE] asks of.
+pub(crate) fn cut_in(line: &[u8]) -> Cutting {
+    let Asked::Of(g) = settings(line, 6) else {
+        return Cutting::Malformed;
+    };
+    let Number::Of(l) = words::decimal_at(line, 5) else {
+        return Cutting::Malformed;
+    };
+    Cutting::Of(g, l)
 }
 
 // The settings FEC M MTU ADDR, and the rule in the word with the number `last`; each word has to say

@@ -20,7 +20,8 @@ fn most_lost(n: usize, f: usize) -> usize
 {
     let each = n / f;
     let thick = n % f;
-    // So many of the fragments that take one byte more than the others; where there are not as many, all of them and some others.
+    // So many of the fragments that take one byte more than the others; where there are no more than that, all of them and perhaps some
+    // others.
     let few = PARITY / (each + 1);
     if few < thick {
         return few;

@@ -18,7 +18,7 @@ use Rattle.endurance_rules.specs.declared.Endurance.{Endurance}
 
 -- ---- the words of the request
 
--- whether what is not lost leaves "every chunk, counted by the receiver's c, at most 48 bytes short"
+-- with FEC, whether what is lost leaves "every chunk, counted by the receiver's c, at most 48 bytes short"
 abbrev pub leavesEnough : Settings → ℕ → (ℕ → Bool) → Bool
 leavesEnough g l lost = suffice lost (f g l) (n l) (receivedC (f g l) (s g l) (k l))
 

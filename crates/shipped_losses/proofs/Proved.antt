@@ -4,7 +4,7 @@ use mathlib.Core.Bool.{Bool, true, false, cond}
 use mathlib.Core.List.{map}
 use Prim.Native.Nat.{ℕ, _+_, _≤_, _<_}
 use native.Mathlib.Omega.{arith}
-use borrow.Author.Tests.{eq-eqb, ltb-true}
+use borrow.Author.Tests.{le-ltb, eq-eqb, ltb-true}
 use lib.ListN.{length}
 use Rattle.base_rules.proofs.Logic.{either, clash}
 use Rattle.cut_rules.specs.Missing.{losses}
@@ -22,7 +22,7 @@ use Rattle.shipped.specs.Main.{settings, count, key, enoughAfter}
 use Rattle.shipped.specs.Runs.{callOf}
 use Rattle.shipped.proofs.Sent.{count-is}
 use Rattle.shipped_losses.specs.Claims.{inSet, EndureTells, Survives, SurvivesNot}
-use Rattle.shipped_losses.proofs.Told.{planned, read, set-is}
+use Rattle.shipped_losses.proofs.Told.{planned, read, set-at, set-is}
 
 -- a choice by a flag, whichever way it goes
 either-way : (b x y v : Bool) → (b ≡ true → x ≡ v) → (b ≡ false → y ≡ v) → cond b x y ≡ v
@@ -48,6 +48,10 @@ endure-tells c cut told given asked =
           ∙ losses-same (inSet told) (handedOut g l) (size.f g l) (cuts.some g l (within g l fine)) (set-is c cut told given asked)
           ∙ cuts.handed-lost g l fine
           ∙ ap (λ (w : ℕ). w + 1) (sym most);
+      of-the-cut = λ i past inside.
+          set-at c cut told given asked i inside
+          ∙ cuts.handed-at g l fine i
+          ∙ le-ltb i (standsOf g l + 1) (omega (arith, past, all, endurance.below g l fine));
     }
 
 -- where as many have not come as are told, it is enough

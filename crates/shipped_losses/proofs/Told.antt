@@ -6,6 +6,7 @@ use Prim.Native.Nat.{ℕ, _<_}
 use native.Mathlib.Omega.{arith}
 use lib.Dec.{eqb}
 use lib.ListN.{length}
+use Rattle.base_rules.specs.Bounds.{most-f}
 use Rattle.base_rules.specs.Tests.{bit}
 use Rattle.base_rules.proofs.Logic.{either}
 use Rattle.cut_rules.specs.declared.Settings.{Settings}
@@ -56,7 +57,10 @@ module _ (c : Sending) (cut : Cut c) where
         let same = same-asked (c .fec) (c .m) (c .newer) (c .mtu) (c .addressed) (c .source) (c .dest) l in
         endurance-whole g l planned (asked .before) told given (asked .room) (told-as endure-widths (asked .before) same (asked .meets))
 
-    -- fragment by fragment
+    -- flag by flag,
+    pub set-at : (i : ℕ) → i < most-f → inSet told i ≡ handedOut g l i
+    set-at i inside = ap (λ (x : ℕ). eqb x 1) (read .1 .set i inside) ∙ bit-back (handedOut g l i)
+
+    -- and so for each fragment
     pub set-is : (i : ℕ) → i < f g l → inSet told i ≡ handedOut g l i
-    set-is i inside =
-        ap (λ (x : ℕ). eqb x 1) (read .1 .set i (omega (arith, within g l planned .few))) ∙ bit-back (handedOut g l i)
+    set-is i inside = set-at i (omega (arith, within g l planned .few))

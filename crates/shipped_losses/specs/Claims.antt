@@ -6,6 +6,7 @@ use mathlib.Core.List.{List, map}
 use Prim.Native.Nat.{ℕ, _+_, _≤_, _<_}
 use lib.Dec.{eqb}
 use lib.ListN.{length, getD}
+use Rattle.base_rules.specs.Bounds.{most-f}
 use Rattle.base_rules.specs.Bytes.{numberAt}
 use Rattle.cut_rules.specs.Missing.{losses}
 use Rattle.cut_rules.specs.Sizes.{assured}
@@ -16,9 +17,9 @@ use Rattle.link.specs.Run.{lost}
 use Rattle.shipped.specs.Main.{Sending, settings, Cut, count, key, enoughAfter, missingAfter}
 use Rattle.shipped.specs.Runs.{Call, callOf}
 
--- card.h, bailhammer_endure: "Tells 260 bytes"
+-- card.h, bailhammer_endure: "Tells 260 bytes", 4 and one for each of 256 fragments
 abbrev pub endure-bytes : ℕ
-endure-bytes = 260
+endure-bytes = 4 + most-f
 
 -- a call of bailhammer_endure with the numbers of the call that wrote the packet, and room for what it tells: what it left, and the number it gave
 pub record Asked (c : Sending) (told : List ℕ) (given : ℕ) : Type 0 where
@@ -34,13 +35,15 @@ stood told = numberAt 2 told 0
 abbrev pub inSet : List ℕ → ℕ → Bool
 inSet told i = eqb (getD told (4 + i) 0) 1
 
--- the call gives 0 and tells as f what bailhammer_fragments told; w is below it, and no less than the plan assures; the set has w + 1 fragments
+-- the call gives 0 and tells as f what bailhammer_fragments told; w is below it, and no less than the plan assures; the set has w + 1 fragments,
+-- and none from f on
 pub record Tells (c : Sending) (told : List ℕ) (given : ℕ) : Type 0 where
   pub done : given ≡ 0
   pub fragments : numberAt 2 told 2 ≡ count c
   pub below : stood told < count c
   pub assures : assured (settings c) (length (c .packet)) ≤ stood told
   pub one-more : losses (inSet told) (count c) ≡ stood told + 1
+  pub of-the-cut : (i : ℕ) → count c ≤ i → i < most-f → inSet told i ≡ false
 
 -- so it is of every packet that was written
 abbrev pub EndureTells : Type 0

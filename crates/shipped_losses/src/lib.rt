@@ -1,2 +1,1 @@
-// Document 02, Item 12, of the library that is shipped: what bailhammer_endure tells, and what the receiver hands out then. Claims alone, no
-// functions.
+// Document 02, Item 12, of the library that is shipped: what bailhammer_endure tells, and when it is enough. Claims alone, no functions.

@@ -22,7 +22,7 @@ const MORE: &str = "granted that stand more losses than the plan assures";
 const UNASKED: &str = "granted that stand a loss at m 0";
 /// The cuts where it matters that not all fragments have as much of a chunk.
 const UNLIKE: &str = "granted that stand more than by the greatest share alone";
-/// The cuts that stand no loss, whatever they are.
+/// The cuts without FEC, which stand no loss.
 const PLAIN: &str = "granted without FEC";
 
 /// Whether the older rule cuts a packet of l bytes otherwise; where f is the same, so is all else

@@ -136,8 +136,8 @@ fn what_the_rule_does_not_change() {
     assert_eq!(both(HOUSE, 8_193), Err(number::AF_LENGTH));
 }
 
-/// Document 02, Item 12, at MTU 1,400: the losses stood for m from 0 to 5, and at shorter MTUs f
-/// too. At m 0 the two rules are the same.
+/// Counted by document 02, Item 12, at MTU 1,400: the losses stood for m from 0 to 5, and at shorter
+/// MTUs f too. At m 0 the two rules are the same.
 #[test]
 fn rows_of_the_losses_stood() {
     let rows = [
@@ -237,7 +237,10 @@ fn the_losing_set_does_not_rebuild() {
         assert_eq!(last_answer(&packet, &fragments, &endured.lost), waits);
         for first in 0..endured.f {
             let lost: Vec<usize> = (0..endured.most).map(|i| (first + i) % endured.f).collect();
-            assert_ne!(last_answer(&packet, &fragments, &lost), waits, "{lost:?} of l {l}");
+            match last_answer(&packet, &fragments, &lost) {
+                Some(Ok(Received { kept: Kept::Delivered { .. }, .. }) | Err(number::LATE)) => {}
+                other => panic!("{other:?} without {lost:?} of l {l}"),
+            }
         }
     }
 }

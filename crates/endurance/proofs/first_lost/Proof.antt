@@ -20,7 +20,9 @@ loop-holds : tie.Need-loop-holds Inv-loop μ-loop
 loop-holds c = (omega arith, none-flagged)
 
 array-write-lost : tie.Need-array-write-lost Inv-loop μ-loop
-array-write-lost c = omega (arith, c .before .before .pre, ap length (c .before .loop .inv .1), length-flagged (c .before .loop .i) (omega (arith, c .before .before .pre)))
+array-write-lost c =
+    let d = c .before in
+    omega (arith, d .before .pre, ap length (d .loop .inv .1), length-flagged (d .loop .i) (omega (arith, d .before .pre)))
 
 add-i : tie.Need-add-i Inv-loop μ-loop
 add-i c = omega arith

@@ -1,18 +1,16 @@
 -- `figures` meets its contract: behind the losses and f the first i flags stand as numbers after i turns. Assumes nothing.
 use mathlib.Core.Path.{_≡_, refl, _∙_}
-use mathlib.Core.List.{_∷_, map}
 use Prim.Native.Nat.{_+_, _-_, _≤_}
 use native.Mathlib.Omega.{arith}
 use borrow.Author.Needs.{needs}
-use lib.ListN.{length, length-set, length-map, replicate}
+use lib.ListN.{length, length-set, replicate}
 use Rattle.base_rules.specs.Bounds.{most-f}
-use Rattle.base_rules.specs.Tests.{bit}
-use Rattle.card_rules.proofs.EndureLaws.{Laid, laid-two, laid-more, laid-all, flag-third}
+use Rattle.card_rules.proofs.EndureLaws.{Laid, laid-two, laid-flag, laid-all}
 use Rattle.card.proofs.losses.figures.Statement.{statement}
 use Rattle.card.proofs.losses.figures.Tie as tie
 
 abbrev Inv-loop : tie.InvT-loop
-Inv-loop most f lost told₀ i₀ told i = (i ≤ most-f) × (length told ≡ most-f + 2) × Laid (most ∷ f ∷ map bit lost) told (2 + i)
+Inv-loop most f lost told₀ i₀ told i = (i ≤ most-f) × (length told ≡ most-f + 2) × Laid most f lost told (2 + i)
 
 abbrev μ-loop : tie.MeasureT-loop
 μ-loop most f lost told₀ i₀ told i = most-f - i
@@ -24,7 +22,7 @@ array-write-told-2 : tie.Need-array-write-told-2 Inv-loop μ-loop
 array-write-told-2 c = search needs
 
 loop-holds : tie.Need-loop-holds Inv-loop μ-loop
-loop-holds c = (omega arith, refl, laid-two (c .args .most) (c .args .f) (map bit (c .args .t3)) (replicate most-f 0))
+loop-holds c = (omega arith, refl, laid-two (c .args .most) (c .args .f) (c .args .t3) (replicate most-f 0))
 
 array-read-bit-of : tie.Need-array-read-bit-of Inv-loop μ-loop
 array-read-bit-of c = search needs
@@ -50,20 +48,22 @@ loop-less c = omega arith
 loop-again : tie.Need-loop-again Inv-loop μ-loop
 loop-again c =
     let d = c .before .before .loop in
-    let a = c .before .before .before .args in (
+    let start = c .before .before .before in
+    let a = start .args in
+    let long : length (a .t3) ≡ most-f = start .good .1 .1 .0 .1 .0 .1 in (
       omega arith,
       length-set (d .told) (2 + d .i) (c .bit-of .result) ∙ d .inv .1,
-      laid-more (a .most ∷ a .f ∷ map bit (a .t3)) (d .told) (2 + d .i) (c .bit-of .result) (d .inv .2) (omega (arith, d .inv .1))
-          (c .bit-of .ensures ∙ flag-third (a .most) (a .f) (a .t3) (d .i)) _ (omega arith),
+      laid-flag (a .most) (a .f) (a .t3) (d .told) (d .i) (c .bit-of .result) (d .inv .2) (omega (arith, d .inv .1)) (omega (arith, long))
+          (c .bit-of .ensures),
     )
 
 returns : tie.Need-returns Inv-loop μ-loop
 returns c =
     let d = c .before .loop in
-    let a = c .before .before .args in
-    let long : length (a .t3) ≡ most-f = c .before .before .good .1 .1 .0 .1 .0 .1 in
-    laid-all (a .most ∷ a .f ∷ map bit (a .t3)) (d .told) (2 + d .i) (d .inv .2)
-    (omega (arith, d .inv .1, long, length-map (a .t3) bit)) (omega (arith, d .inv .1))
+    let start = c .before .before in
+    let a = start .args in
+    let long : length (a .t3) ≡ most-f = start .good .1 .1 .0 .1 .0 .1 in
+    laid-all (a .most) (a .f) (a .t3) (d .told) (d .i) (d .inv .2) (omega (arith, d .inv .1)) (omega (arith, long))
 
 pub figures-spec : {M : Type 1} → statement M
 figures-spec =
