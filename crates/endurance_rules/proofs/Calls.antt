@@ -4,8 +4,6 @@ use mathlib.Core.Bool.{Bool, true, false, cond}
 use mathlib.Core.List.{List, [], _∷_}
 use Prim.Native.Nat.{ℕ, zero, suc, _+_, _≤_, _<_}
 use native.Mathlib.Omega.{arith}
-use borrow.Author.Tests.{ne-eqb}
-use lib.Dec.{eqb}
 use lib.ListN.{getD}
 use Rattle.base_rules.specs.Answer.{Answer, granted, refused, answered}
 use Rattle.base_rules.specs.Bounds.{most-f, most-k, parity}
@@ -16,7 +14,7 @@ use Rattle.cut_rules.specs.declared.Planned.the-variants as planned
 use Rattle.cut_rules.specs.declared.Settings.{Settings}
 use Rattle.cut_rules.proofs.ChunkSizes as chunk
 use Rattle.cut_rules.proofs.PlanCases.{within}
-use Rattle.endurance_rules.specs.Endure.{stands, standsOf, flagged, losing, endureCall, enduredNumber}
+use Rattle.endurance_rules.specs.Endure.{stands, standsOf, flagged, endureCall, enduredNumber}
 use Rattle.endurance_rules.specs.declared.Endured.the-variants.{Losses, Refused}
 use Rattle.endurance_rules.proofs.Cuts as cuts
 
@@ -27,10 +25,10 @@ granted-by zero u v e = (refl, cc)
 granted-by (suc fault) u v e = let z : _≡_ {A = ℕ} 0 1 = cc in absurd (omega arith)
 
 -- one that refuses has a fault, and refuses whatever would be granted
-pub refused-by : (fault number : ℕ) (u v : List ℕ) → refused number ≡ answered fault u → (refused number ≡ answered fault v) × (eqb fault 0 ≡ false)
+pub refused-by : (fault number : ℕ) (u v : List ℕ) → refused number ≡ answered fault u → (refused number ≡ answered fault v) × (fault ≡ 0 → ⊥)
 unfolding answered
 refused-by zero number u v e = let z : _≡_ {A = ℕ} 0 1 = cc in absurd (omega arith)
-refused-by (suc fault) number u v e = (e, ne-eqb (suc fault) 0 (λ (z : suc fault ≡ 0). omega arith))
+refused-by (suc fault) number u v e = (e, (λ (z : suc fault ≡ 0). omega arith))
 
 module _ (g : Settings) (l : ℕ) where
   -- a plan that is answered with figures is not refused
@@ -86,7 +84,7 @@ module _ (g : Settings) (l : ℕ) where
   -- a plan that is refused: the same number, and no fragment in the set
   pub unendured : (number : ℕ) (lost : List Bool) → numberOf (planned.Refused number) ≡ planOf g l → lost ≡ flagged 0
       → (enduredNumber (Refused number), lost) ≡ endureCall g l
-  unfolding planOf numberOf endureCall enduredNumber losing
+  unfolding planOf numberOf endureCall enduredNumber
   unendured number lost e set =
       let all = refused-by (planFault g l) number (figuresOf g l) (standsOf g l ∷ f g l ∷ []) e in
-      ap₂ (λ (a : Answer) (b : List Bool). (a, b)) (all .0) (set ∙ sym (ap (λ (b : Bool). flagged (cond b (standsOf g l + 1) 0)) (all .1)))
+      ap₂ (λ (a : Answer) (b : List Bool). (a, b)) (all .0) (set ∙ sym (ap flagged (cuts.losing-refused g l (all .1))))

@@ -4,9 +4,11 @@ use mathlib.Core.Bool.{true, false}
 use Prim.Native.Nat.{ℕ, _+_, _*_, _≤_, _<_}
 use native.Mathlib.Nat.{le-div-iff-mul-le, le-mul-of-pos-right}
 use native.Mathlib.Omega.{arith, by-contra}
+use borrow.Author.Tests.{ne-eqb, le-ltb}
 use Rattle.base_rules.specs.Bounds.{parity}
 use Rattle.cut_rules.specs.Claims.{Taken}
 use Rattle.cut_rules.specs.Missing.{losses, missing, firsts}
+use Rattle.cut_rules.specs.Plan.{planFault}
 use Rattle.cut_rules.specs.Sizes.{c, k, n, f, s, assured, receivedC}
 use Rattle.cut_rules.specs.declared.Settings.{Settings}
 use Rattle.cut_rules.proofs.Bearing as bearing
@@ -71,7 +73,20 @@ module _ (g : Settings) (l : ℕ) where
   unfolding losing
   losing-taken taken = rw taken refl
 
--- ---- the set that is handed out of a cut that is not refused: the first w + 1
+  -- and where it is refused none
+  pub losing-refused : (Taken g l → ⊥) → losing g l ≡ 0
+  unfolding losing
+  losing-refused refused = rw (ne-eqb (planFault g l) 0 refused) refl
+
+-- ---- the set that is handed out, none where the plan is refused
+
+-- no fragment is in it then
+pub handed-none : (g : Settings) (l : ℕ) → (Taken g l → ⊥) → (i : ℕ) → handedOut g l i ≡ false
+unfolding endureCall
+handed-none g l refused i =
+    flag-at (losing g l) i ∙ ap (λ (v : ℕ). firsts v i) (losing-refused g l refused) ∙ le-ltb i 0 (omega arith)
+
+-- ---- of a cut that is not refused: the first w + 1
 
 module _ (g : Settings) (l : ℕ) (taken : Taken g l) where
   -- fragment i is in it where i is one of the first w + 1,

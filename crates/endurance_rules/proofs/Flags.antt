@@ -14,7 +14,7 @@ use Rattle.cut_rules.specs.Missing.{losses, gone, missing, firsts}
 use Rattle.cut_rules.proofs.LossCounts.{count-same}
 use Rattle.endurance_rules.specs.Endure.{flagged}
 
--- no flag of a row that are all false is true, nor is one past its end
+-- of flags that are all false none is set, nor is one past their end
 none-set : (n i : ℕ) → getD (replicate n false) i false ≡ false
 none-set zero i = refl
 none-set (suc n) zero = refl

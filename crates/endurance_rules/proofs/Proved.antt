@@ -14,7 +14,7 @@ use Rattle.cut_rules.specs.Sizes as size
 use Rattle.cut_rules.proofs.PlanCases.{within}
 use Rattle.cut_rules.proofs.Sufficing.{suffice-no}
 use Rattle.endurance_rules.specs.Claims.{handedOut, Endures, EnduresNot, Greatest, Below, AssuredWithin, StandsIs, NoFec}
-use Rattle.endurance_rules.specs.Claims.{NoNewRefusals, OneEndured, examples, Worked}
+use Rattle.endurance_rules.specs.Claims.{FirstOnes, NoneRefused, NoNewRefusals, OneEndured, examples, Worked}
 use Rattle.endurance_rules.specs.Endure.{stands, standsOf, endureCall, enduredNumber}
 use Rattle.endurance_rules.specs.declared.Endured.{Endured}
 use Rattle.endurance_rules.specs.declared.Endured.the-variants.{Losses, Refused}
@@ -66,6 +66,14 @@ endures-not g l taken fec =
       short = suffice-no (handedOut g l) (size.f g l) (size.n l) _ 0 (cuts.chunks-some g l in-bounds fec)
           (omega (arith, more, cuts.handed-missing g l taken));
     }
+
+-- it is the first w + 1 fragments
+pub first-ones : FirstOnes
+first-ones = cuts.handed-at
+
+-- and none where the plan is refused
+pub none-refused : NoneRefused
+none-refused = cuts.handed-none
 
 -- without FEC it is fragment 0, and any loss is one too many
 pub no-fec : NoFec

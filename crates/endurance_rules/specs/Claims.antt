@@ -9,7 +9,7 @@ use Rattle.base_rules.specs.Answer.{refused}
 use Rattle.base_rules.specs.Bounds.{parity}
 use Rattle.cut_rules.specs.Claims.{Taken}
 use Rattle.cut_rules.specs.Edge.{Row, row, fec, newer, plain}
-use Rattle.cut_rules.specs.Missing.{losses, suffice, worst}
+use Rattle.cut_rules.specs.Missing.{losses, suffice, worst, firsts}
 use Rattle.cut_rules.specs.Plan.{planOf}
 use Rattle.cut_rules.specs.Sizes.{k, n, f, s, assured, receivedC}
 use Rattle.cut_rules.specs.declared.Settings.{Settings}
@@ -61,6 +61,16 @@ AssuredWithin = (g : Settings) (l : ℕ) → Taken g l → assured g l ≤ stand
 abbrev pub StandsIs : Type 0
 StandsIs = (n f : ℕ) → 0 < f → parity < n → (worst n f (stands n f) ≤ parity) × (parity < worst n f (stands n f + 1))
 
+-- ---- the set, with FEC and without
+
+-- "one set of w + 1 fragments": the first ones, 0 to w
+abbrev pub FirstOnes : Type 0
+FirstOnes = (g : Settings) (l : ℕ) → Taken g l → (i : ℕ) → handedOut g l i ≡ firsts (standsOf g l + 1) i
+
+-- where the plan is refused there is no set
+abbrev pub NoneRefused : Type 0
+NoneRefused = (g : Settings) (l : ℕ) → (Taken g l → ⊥) → (i : ℕ) → handedOut g l i ≡ false
+
 -- ---- without FEC
 
 -- "Without FEC w is 0": the set is fragment 0, and with it lost not all f are there, which without parity it takes
@@ -95,7 +105,7 @@ examples =
     ∷ row (standsOf (newer 5) 414 ∷ f (newer 5) 414 ∷ []) (4 ∷ 27 ∷ [])
     -- by document 000's rule m 5 stands one more than it is set for: of 32 fragments any six take at most 48 bytes of a chunk of 255
     ∷ row (standsOf (fec 5) 414 ∷ f (fec 5) 414 ∷ []) (6 ∷ 32 ∷ [])
-    -- FEC with m 0 is an FEC plan: 8 fragments of 1,265 bytes, one takes 32 of a chunk of 253
+    -- FEC with m 0 is an FEC plan: of 8 fragments of 1,265 bytes one takes at most 32 of a chunk of 253, and two can take 64
     ∷ row (standsOf (fec 0) 8192 ∷ f (fec 0) 8192 ∷ []) (1 ∷ 8 ∷ [])
     -- all in one fragment, with FEC and without
     ∷ row (standsOf (fec 0) 12 ∷ f (fec 0) 12 ∷ []) (0 ∷ 1 ∷ [])

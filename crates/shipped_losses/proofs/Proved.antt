@@ -4,10 +4,10 @@ use mathlib.Core.Bool.{Bool, true, false, cond}
 use mathlib.Core.List.{map}
 use Prim.Native.Nat.{ℕ, _+_, _≤_, _<_}
 use native.Mathlib.Omega.{arith}
-use borrow.Author.Tests.{le-ltb, eq-eqb, ltb-true}
+use borrow.Author.Tests.{eq-eqb, ltb-true}
 use lib.ListN.{length}
 use Rattle.base_rules.proofs.Logic.{either, clash}
-use Rattle.cut_rules.specs.Missing.{losses}
+use Rattle.cut_rules.specs.Missing.{losses, firsts}
 use Rattle.cut_rules.specs.Sizes as size
 use Rattle.cut_rules.proofs.PlanCases.{within}
 use Rattle.endurance_rules.specs.Claims.{handedOut}
@@ -48,10 +48,10 @@ endure-tells c cut told given asked =
           ∙ losses-same (inSet told) (handedOut g l) (size.f g l) (cuts.some g l (within g l fine)) (set-is c cut told given asked)
           ∙ cuts.handed-lost g l fine
           ∙ ap (λ (w : ℕ). w + 1) (sym most);
-      of-the-cut = λ i past inside.
+      first-ones = λ i inside.
           set-at c cut told given asked i inside
           ∙ cuts.handed-at g l fine i
-          ∙ le-ltb i (standsOf g l + 1) (omega (arith, past, all, endurance.below g l fine));
+          ∙ ap (λ (w : ℕ). firsts (w + 1) i) (sym most);
     }
 
 -- where as many have not come as are told, it is enough

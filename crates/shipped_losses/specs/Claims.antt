@@ -8,7 +8,7 @@ use lib.Dec.{eqb}
 use lib.ListN.{length, getD}
 use Rattle.base_rules.specs.Bounds.{most-f}
 use Rattle.base_rules.specs.Bytes.{numberAt}
-use Rattle.cut_rules.specs.Missing.{losses}
+use Rattle.cut_rules.specs.Missing.{losses, firsts}
 use Rattle.cut_rules.specs.Sizes.{assured}
 use Rattle.card_rules.specs.Endurance.{endureFor, endure-widths}
 use Rattle.card_rules.specs.Sending.{settingsOf}
@@ -35,15 +35,15 @@ stood told = numberAt 2 told 0
 abbrev pub inSet : List ℕ → ℕ → Bool
 inSet told i = eqb (getD told (4 + i) 0) 1
 
--- the call gives 0 and tells as f what bailhammer_fragments told; w is below it, and no less than the plan assures; the set has w + 1 fragments,
--- and none from f on
+-- the call gives 0 and tells as f what bailhammer_fragments told; w is below it, and no less than the plan assures; the set has w + 1 fragments:
+-- card.h, "the first ones, 0 to w, which is below f"
 pub record Tells (c : Sending) (told : List ℕ) (given : ℕ) : Type 0 where
   pub done : given ≡ 0
   pub fragments : numberAt 2 told 2 ≡ count c
   pub below : stood told < count c
   pub assures : assured (settings c) (length (c .packet)) ≤ stood told
   pub one-more : losses (inSet told) (count c) ≡ stood told + 1
-  pub of-the-cut : (i : ℕ) → count c ≤ i → i < most-f → inSet told i ≡ false
+  pub first-ones : (i : ℕ) → i < most-f → inSet told i ≡ firsts (stood told + 1) i
 
 -- so it is of every packet that was written
 abbrev pub EndureTells : Type 0
