@@ -3,6 +3,7 @@
  *
  *     bailhammer_af_check             bailhammer_check
  *     bailhammer_tag_find             bailhammer_find
+ *     bailhammer_tag_nth              bailhammer_nth
  *     bailhammer_tag_walk_open        bailhammer_walk_open
  *     bailhammer_tag_walk_step        bailhammer_walk_step
  *     bailhammer_sender_plan          bailhammer_plan

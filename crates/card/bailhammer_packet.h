@@ -39,10 +39,10 @@ static inline const char *bailhammer_meaning(size_t number)
     case BAILHAMMER_AF_TYPE: return "AF_TYPE: the AF packet's type is not 'T'";
     case BAILHAMMER_AF_CRC: return "AF_CRC: the AF packet's CRC field is wrong";
     case BAILHAMMER_OVERRUN: return "OVERRUN: an item passes the end of its packet";
-    case BAILHAMMER_TWICE: return "TWICE: a name other than \"*dmy\" stands twice on one level of a packet";
+    case BAILHAMMER_TWICE: return "TWICE: a name other than \"*dmy\" stands twice on one level of a packet, and repeats are forbidden";
     case BAILHAMMER_DEPTH: return "DEPTH: an item stands at depth 5";
     case BAILHAMMER_PTR: return "PTR: \"*ptr\" has not 64 bits";
-    case BAILHAMMER_ABSENT: return "ABSENT: the name is in neither packet";
+    case BAILHAMMER_ABSENT: return "ABSENT: the name is in neither packet, or the packet has no occurrence of that number";
     case BAILHAMMER_WHOLE: return "WHOLE: a container has not whole bytes";
     case BAILHAMMER_SETTINGS: return "SETTINGS: settings that cannot be: m over 5, m above 0 without FEC, or mtu over 16,384 or not above h";
     case BAILHAMMER_TOOMANY: return "TOOMANY: the packet would take over 256 fragments";
@@ -117,22 +117,47 @@ struct bailhammer_found {
     size_t value_len;     /* the bytes that hold the bits */
 };
 
-/* Finds an item in a packet, else in the standing packet, which may be null with no bytes.
+/* The item that the bytes of a finding tell, in a packet or in the standing packet beside it. */
+static inline struct bailhammer_found bailhammer_found_in(const uint8_t *packet, const uint8_t *standing, const uint8_t *told)
+{
+    struct bailhammer_found found;
+    found.standing = told[0] != 0;
+    found.bits = (uint32_t)bailhammer_told(told + 1, 4);
+    found.value = (found.standing ? standing : packet) + bailhammer_told(told + 5, 8);
+    found.value_len = bailhammer_told(told + 13, 4);
+    return found;
+}
+
+/* Finds the first item of a name in a packet, else in the standing packet, which may be null with no bytes. In either two items may have one name
+ * where repeats is yes.
  *
  *     struct bailhammer_found found;
- *     if (bailhammer_tag_find(af.payload, af.payload_len, NULL, 0, bailhammer_name("demo"), &found) == BAILHAMMER_DONE)
+ *     if (bailhammer_tag_find(af.payload, af.payload_len, NULL, 0, bailhammer_name("demo"), false, &found) == BAILHAMMER_DONE)
  *         use(found.value, found.value_len);
  */
 static inline size_t bailhammer_tag_find(const uint8_t *packet, size_t packet_len, const uint8_t *standing, size_t standing_len, uint32_t name,
-                                         struct bailhammer_found *found)
+                                         bool repeats, struct bailhammer_found *found)
 {
     uint8_t told[BAILHAMMER_TOLD_FIND] = {0};
     const uint8_t *beside = standing ? standing : packet;
-    size_t number = bailhammer_find(packet, packet_len, beside, standing ? standing_len : 0, name, told, sizeof told);
-    found->standing = told[0] != 0;
-    found->bits = (uint32_t)bailhammer_told(told + 1, 4);
-    found->value = (found->standing ? beside : packet) + bailhammer_told(told + 5, 8);
-    found->value_len = bailhammer_told(told + 13, 4);
+    size_t number = bailhammer_find(packet, packet_len, beside, standing ? standing_len : 0, name, repeats, told, sizeof told);
+    *found = bailhammer_found_in(packet, beside, told);
+    return number;
+}
+
+/* Finds an item by its name and its occurrence, counted from 0 on, in the packet alone. Each call checks the whole packet: for all of its items, a
+ * walk.
+ *
+ *     struct bailhammer_found found;
+ *     for (size_t i = 0; bailhammer_tag_nth(af.payload, af.payload_len, bailhammer_name("demo"), i, true, &found) == BAILHAMMER_DONE; i++)
+ *         use(found.value, found.value_len);
+ */
+static inline size_t bailhammer_tag_nth(const uint8_t *packet, size_t packet_len, uint32_t name, size_t occurrence, bool repeats,
+                                        struct bailhammer_found *found)
+{
+    uint8_t told[BAILHAMMER_TOLD_FIND] = {0};
+    size_t number = bailhammer_nth(packet, packet_len, name, occurrence, repeats, told, sizeof told);
+    *found = bailhammer_found_in(packet, packet, told);
     return number;
 }
 
@@ -157,20 +182,21 @@ struct bailhammer_step {
     size_t padding;       /* at the end, the bytes of padding behind the last item */
 };
 
-/* Opens a walk. names is "fio_" with 4, say, or "" with 0. Where it refuses, the walk is one through no bytes.
+/* Opens a walk. names is "fio_" with 4, say, or "" with 0; two items of a level may have one name where repeats is yes. Where it refuses, the walk
+ * is one through no bytes.
  *
  *     struct bailhammer_walk walk;
- *     number = bailhammer_tag_walk_open(&walk, af.payload, af.payload_len, "fio_", 4);
+ *     number = bailhammer_tag_walk_open(&walk, af.payload, af.payload_len, "fio_", 4, false);
  */
 static inline size_t bailhammer_tag_walk_open(struct bailhammer_walk *walk, const uint8_t *packet, size_t packet_len, const void *names,
-                                              size_t names_len)
+                                              size_t names_len, bool repeats)
 {
     for (size_t i = 0; i < sizeof walk->walker; i++)
         walk->walker[i] = 0;
     walk->packet = packet;
     walk->names = (const uint8_t *)names;
     walk->names_len = names_len;
-    size_t number = bailhammer_walk_open(packet, packet_len, walk->names, names_len, walk->walker, sizeof walk->walker);
+    size_t number = bailhammer_walk_open(packet, packet_len, walk->names, names_len, repeats, walk->walker, sizeof walk->walker);
     walk->packet_len = number == BAILHAMMER_DONE ? packet_len : 0;
     return number;
 }

@@ -23,7 +23,7 @@
 extern "C" {
 #endif
 
-#define BAILHAMMER_VERSION 2       /* one more where a call, a number or a size is another than before */
+#define BAILHAMMER_VERSION 3       /* one more where a call, a number or a size is another than before */
 #define BAILHAMMER_RECORD_LAYOUT 1 /* one more where a receiver's record or lent bytes that were kept mean something else than before */
 
 /* Bytes that the calls ask for. */
@@ -35,7 +35,7 @@ extern "C" {
 
 /* Bytes that each call tells, and the least of its `told`. */
 #define BAILHAMMER_TOLD_CHECK 8
-#define BAILHAMMER_TOLD_FIND 17
+#define BAILHAMMER_TOLD_FIND 17 /* bailhammer_nth tells as many */
 #define BAILHAMMER_TOLD_STEP 22 /* bailhammer_walk_step */
 #define BAILHAMMER_TOLD_PLAN 20
 #define BAILHAMMER_TOLD_ENDURE 260
@@ -88,10 +88,10 @@ enum bailhammer_number {
     BAILHAMMER_AF_TYPE = 24,     /* the AF packet's type is not 'T' */
     BAILHAMMER_AF_CRC = 25,      /* the AF packet's CRC field is wrong */
     BAILHAMMER_OVERRUN = 30,     /* an item passes the end of its packet */
-    BAILHAMMER_TWICE = 31,       /* a name other than "*dmy" stands twice on one level of a packet */
+    BAILHAMMER_TWICE = 31,       /* a name other than "*dmy" stands twice on one level of a packet, and repeats are forbidden */
     BAILHAMMER_DEPTH = 32,       /* an item stands at depth 5 */
     BAILHAMMER_PTR = 33,         /* "*ptr" has not 64 bits */
-    BAILHAMMER_ABSENT = 34,      /* the name is in neither packet */
+    BAILHAMMER_ABSENT = 34,      /* the name is in neither packet, or the packet has no occurrence of that number */
     BAILHAMMER_WHOLE = 35,       /* a container has not whole bytes */
     BAILHAMMER_SETTINGS = 40,    /* settings that cannot be: m over 5, m above 0 without FEC, or mtu over 16,384 or not above h */
     BAILHAMMER_TOOMANY = 41,     /* the packet would take over 256 fragments */
@@ -159,7 +159,11 @@ size_t bailhammer_check(const uint8_t *packet, size_t packet_len, uint8_t *told,
 /* The TAG layer. In its calls a packet is a TAG packet: items one behind the other, and at most 7 bytes of padding. The payload of an AF packet
  * is one, the AF packet itself is not: hand in packet + BAILHAMMER_AF_HEADER and l - BAILHAMMER_AF_FRAME. A container is an item whose value is
  * a TAG packet again; an item's depth is how many containers it stands in, 4 at most. A standing packet is a second TAG packet, for items that
- * are sent rarely. A name is four bytes as a number, the first one highest; names are four bytes each, one behind the other. */
+ * are sent rarely. A name is four bytes as a number, the first one highest; names are four bytes each, one behind the other.
+ *
+ * repeats says whether a name may stand more than once on one level of a packet; filler, "*dmy", always may. Where it is no, repeats are
+ * forbidden, and any other name that stands twice gives 31. Where it is yes, 31 is given at no depth of a walk and of neither packet of a
+ * finding, and all else is checked the same. A second "*ptr" that has not 64 bits gives 31 where repeats is no, and 33 where it is yes. */
 
 /* Writes an item at the front of out: 8 bytes and the value's, which are as many as its bits take; unused bits are written as zeros. Gives
  * 0; else the first of 43, 33 and 1 that is due.
@@ -170,24 +174,34 @@ size_t bailhammer_check(const uint8_t *packet, size_t packet_len, uint8_t *told,
  */
 size_t bailhammer_item(uint32_t name, uint32_t bits, const uint8_t *value, size_t value_len, uint8_t *out, size_t out_len);
 
-/* Finds an item by its name in a packet, else in the standing packet beside it, which may be empty. Tells 17 bytes: 0 where it is in the
+/* Finds the first item of a name in a packet, else in the standing packet beside it, which may be empty. Tells 17 bytes: 0 where it is in the
  * packet, 1 where in the standing packet (1), its bits (4), where its value begins there (8), the value's bytes (4). Gives 0; else 30, 31
  * or 33 of the packet, then of the standing packet; 34; or 1.
  *
- *     uint8_t told[BAILHAMMER_TOLD_FIND];      // with no standing packet:
- *     number = bailhammer_find(payload, payload_len, payload, 0, BAILHAMMER_NAME('d', 'e', 'm', 'o'), told, sizeof told);
+ *     uint8_t told[BAILHAMMER_TOLD_FIND];      // with no standing packet, and repeats forbidden:
+ *     number = bailhammer_find(payload, payload_len, payload, 0, BAILHAMMER_NAME('d', 'e', 'm', 'o'), 0, told, sizeof told);
  */
-size_t bailhammer_find(const uint8_t *packet, size_t packet_len, const uint8_t *standing, size_t standing_len, uint32_t name,
+size_t bailhammer_find(const uint8_t *packet, size_t packet_len, const uint8_t *standing, size_t standing_len, uint32_t name, size_t repeats,
                        uint8_t *told, size_t told_len);
+
+/* Finds occurrence `number` of a name, counted from 0 on, in the packet alone: no standing packet is looked at. Tells the 17 bytes that
+ * bailhammer_find tells, and the first of them is 0. Where repeats is no, "*dmy" alone can have occurrences beyond 0. Gives 0; else 30, 31 or 33
+ * of the packet; 34 where it has no such occurrence; or 1. Each call checks the whole packet: for all of its items, bailhammer_walk_open.
+ *
+ *     uint8_t told[BAILHAMMER_TOLD_FIND];      // all items of the name, in their order:
+ *     for (size_t i = 0; bailhammer_nth(payload, payload_len, BAILHAMMER_NAME('d', 'e', 'm', 'o'), i, 1, told, sizeof told) == 0; i++)
+ *         show(told);
+ */
+size_t bailhammer_nth(const uint8_t *packet, size_t packet_len, uint32_t name, size_t number, size_t repeats, uint8_t *told, size_t told_len);
 
 /* Opens a walk through a packet and the containers in it that have one of the names: all of it is checked. walker has 56 bytes, where the
  * walk stands. Gives 0; else the first of 43; 30, 31, 33, 35 and 32 of the leftmost item at fault; and 1 that is due.
  *
  *     const uint8_t names[4] = {'f', 'i', 'o', '_'};
  *     uint8_t walker[BAILHAMMER_WALKER], told[BAILHAMMER_TOLD_STEP];
- *     number = bailhammer_walk_open(payload, payload_len, names, sizeof names, walker, sizeof walker);
+ *     number = bailhammer_walk_open(payload, payload_len, names, sizeof names, 0, walker, sizeof walker);
  */
-size_t bailhammer_walk_open(const uint8_t *packet, size_t packet_len, const uint8_t *names, size_t names_len, uint8_t *walker,
+size_t bailhammer_walk_open(const uint8_t *packet, size_t packet_len, const uint8_t *names, size_t names_len, size_t repeats, uint8_t *walker,
                             size_t walker_len);
 
 /* Hands out the next item of a walk over the same packet and names. Tells 22 bytes: 1 (1), the item's depth (1), its name (4), its bits

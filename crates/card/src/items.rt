@@ -1,6 +1,7 @@
 // The items of a packet for C: finding one by its name, and a walk, which C holds as bytes.
 use crate::telling::tell;
 use item::Item;
+use item::Repeats;
 use tag::Located;
 use walk::Handed;
 use walk::LEVELS;
@@ -10,9 +11,10 @@ ghost use mathlib.Core.List.{_∷_};
 ghost use lib.ListN.{length};
 ghost use Rattle.base_rules.specs.Bytes.{numberAt};
 ghost use Rattle.item_rules.specs.Item.{valuesOf};
-ghost use Rattle.tag_rules.specs.Calls.{locatedNumber, locateCall};
+ghost use Rattle.tag_rules.specs.Calls.{locatedNumber, locateCall, locateNthCall};
 ghost use Rattle.card_rules.specs.Told.{CardWritten, CardTold};
-ghost use Rattle.card_rules.specs.Items.{found-widths, walker-bytes, walkerBytes, walkerFrom, walkOpenCall, step-widths, steppedNumber, CardStepped};
+ghost use Rattle.card_rules.specs.Items.{repeatsOf, found-widths, walker-bytes, walkerBytes, walkerFrom, walkOpenCall};
+ghost use Rattle.card_rules.specs.Items.{step-widths, steppedNumber, CardStepped};
 
 // The bytes of a walk: eight for its position, for its depth, and for the end at each depth.
 const WALKER: usize = 8 * (LEVELS + 2);
@@ -26,6 +28,17 @@ const FOUND_WIDTHS: [usize; 5] = [1, 0, 4, 8, 4];
 const TOLD_STEP: usize = 22;
 
 const STEP_WIDTHS: [usize; 6] = [1, 1, 4, 4, 8, 4];
+
+// Whether names may repeat.
+fn repeats_of(repeats: usize) -> Repeats
+    ensures { λ r. ⌜ r ≡ repeatsOf repeats ⌝ }
+{
+    if repeats == 0 {
+        Repeats::Forbidden
+    } else {
+        Repeats::Allowed
+    }
+}
 
 // What is told of an item found: the packet that it is in, and its values.
 fn found_values(which: usize, i: Item) -> [usize; 5]
@@ -52,12 +65,30 @@ pub extern "C" fn bailhammer_find(
     packet: &[u8],
     standing: &[u8],
     name: u32,
+    repeats: usize,
     told: &mut [u8],
 ) -> usize
-    ensures { λ r. ⌜ CardTold found-widths (locateCall (now (packet .entry)) (now (standing .entry)) name) (now (told .entry))
+    ensures { λ r. ⌜ CardTold found-widths (locateCall (repeatsOf repeats) (now (packet .entry)) (now (standing .entry)) name)
+        (now (told .entry)) (now (told .exit)) r ⌝ }
+{
+    let l = tag::locate(packet, standing, repeats_of(repeats), name);
+    tell_found(l, told)
+}
+
+// Finds the occurrence of a name and number, counted from 0, in a packet alone, tells where it is, and gives 0; else the number of the
+// refusal.
+#[no_mangle]
+pub extern "C" fn bailhammer_nth(
+    packet: &[u8],
+    name: u32,
+    number: usize,
+    repeats: usize,
+    told: &mut [u8],
+) -> usize
+    ensures { λ r. ⌜ CardTold found-widths (locateNthCall (repeatsOf repeats) (now (packet .entry)) name number) (now (told .entry))
         (now (told .exit)) r ⌝ }
 {
-    let l = tag::locate(packet, standing, name);
+    let l = occurrence::locate_nth(packet, repeats_of(repeats), name, number);
     tell_found(l, told)
 }
 
@@ -103,10 +134,16 @@ fn walker_from(s: &[u8]) -> Walker
 
 // Opens a walk through a packet and the containers in it that have one of the names, and gives 0; else the number of the refusal.
 #[no_mangle]
-pub extern "C" fn bailhammer_walk_open(packet: &[u8], names: &[u8], walker: &mut [u8]) -> usize
-    ensures { λ r. ⌜ CardWritten (walkOpenCall (now (packet .entry)) (now (names .entry)) (now (walker .entry))) (now (walker .exit)) r ⌝ }
+pub extern "C" fn bailhammer_walk_open(
+    packet: &[u8],
+    names: &[u8],
+    repeats: usize,
+    walker: &mut [u8],
+) -> usize
+    ensures { λ r. ⌜ CardWritten (walkOpenCall (repeatsOf repeats) (now (packet .entry)) (now (names .entry)) (now (walker .entry)))
+        (now (walker .exit)) r ⌝ }
 {
-    let w = walk::open_walk(packet, names);
+    let w = walk::open_walk(packet, names, repeats_of(repeats));
     let n = w.refusal;
     if n != 0 {
         return n as usize;

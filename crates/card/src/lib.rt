@@ -14,6 +14,7 @@ pub use blocks::bailhammer_fill;
 use cut::Address;
 pub use headers::bailhammer_parse;
 pub use items::bailhammer_find;
+pub use items::bailhammer_nth;
 pub use items::bailhammer_walk_open;
 pub use items::bailhammer_walk_step;
 pub use losses::bailhammer_endure;

@@ -14,17 +14,17 @@ use Rattle.item_rules.specs.declared.Found.the-variants as found
 use Rattle.item_rules.specs.declared.Item.{Item}
 use Rattle.item_rules.specs.declared.Step.the-variants as step
 use Rattle.item_rules.specs.Item.{bytesFor, itemAt, stepIn}
-use Rattle.item_rules.specs.Run.{firstOf}
-use Rattle.item_rules.proofs.Finds.{found-stands}
+use Rattle.item_rules.specs.Run.{firstOf, nthOf}
+use Rattle.item_rules.proofs.Finds.{found-stands, nth-stands}
 use Rattle.item_rules.proofs.Runs.{item-begins}
 use Rattle.item_rules.proofs.Steps.{item-fits, item-at, end-few}
 use Rattle.tag_rules.specs.declared.Located.the-variants as located
-use Rattle.tag_rules.specs.Find.{wholeRun, checkOf, inPacket, inStanding, locateOf}
+use Rattle.tag_rules.specs.Find.{wholeRun, checkOf, inPacket, inStanding, locateOf, locateNthOf}
 use Rattle.walk_rules.specs.declared.Walked.{Walked}
 use Rattle.walk_rules.specs.Names.{deepest, namesOf}
 use Rattle.walk_rules.specs.Step.{endOf, stepFrom}
 use Rattle.walk_rules.proofs.StepLaws.{by-steps, by-walker, end-within}
-use Rattle.card_rules.specs.Claims.{ItemWhole, LocatedWhole, FoundWhole, HandedWhole, StepWhole}
+use Rattle.card_rules.specs.Claims.{ItemWhole, LocatedWhole, FoundWhole, NthWhole, HandedWhole, StepWhole}
 
 -- ---- an item that stands in a packet
 
@@ -64,9 +64,23 @@ located-whole false b′ f g n m p q = tt
 -- no figure of an item found, in the packet or the standing packet, is cut off where it is told
 pub found-whole : FoundWhole
 unfolding locateOf
-found-whole packet standing name bytes bytes′ long long′ =
-    located-whole (eqb (checkOf packet) 0) (eqb (checkOf standing) 0) (firstOf name (wholeRun packet)) (firstOf name (wholeRun standing))
-    (checkOf packet) (checkOf standing) (found-there packet name bytes long) (found-there standing name bytes′ long′)
+found-whole r packet standing name bytes bytes′ long long′ =
+    located-whole (eqb (checkOf r packet) 0) (eqb (checkOf r standing) 0) (firstOf name (wholeRun packet)) (firstOf name (wholeRun standing))
+    (checkOf r packet) (checkOf r standing) (found-there packet name bytes long) (found-there standing name bytes′ long′)
+
+-- by what the check and the search for an occurrence say
+nth-located-whole : (b : Bool) (f : Found) (n : ℕ) → ((i : Item) → f ≡ found.At i → ItemWhole i)
+    → LocatedWhole (cond b (inPacket f (located.Refused 34)) (located.Refused n))
+nth-located-whole true (found.At i) n p = p i refl
+nth-located-whole true found.Nothing n p = tt
+nth-located-whole false f n p = tt
+
+-- nor is any of an occurrence
+pub nth-whole : NthWhole
+unfolding locateNthOf
+nth-whole r packet name number bytes long =
+    nth-located-whole (eqb (checkOf r packet) 0) (nthOf name number (wholeRun packet)) (checkOf r packet)
+    (λ i q. let v = nth-stands packet name (length packet) number 0 i q in stands-whole packet bytes (v .at) (length packet) long i (v .here))
 
 -- ---- one that a step hands out
 

@@ -3,7 +3,7 @@ use Rattle.card_rules.specs.Claims.{PlanWhole, LengthWhole, SplitWhole, 
 use Rattle.card_rules.specs.Claims.{ZerosFresh, ClearedZeros, OneReceipt, RefusedUnchanged, NoSilence, ReceiptWhole}
 use Rattle.card_rules.specs.Claims.{HeaderWhole, PayloadBegins, RefusedAlike}
 use Rattle.card_rules.specs.Claims.{OneFilling}
-use Rattle.card_rules.specs.Claims.{OpensTyped, StepsTyped, ReadBack, StepNumbers, FoundWhole, StepWhole}
+use Rattle.card_rules.specs.Claims.{OpensTyped, StepsTyped, ReadBack, StepNumbers, FoundWhole, NthWhole, StepWhole}
 use Rattle.card_rules.proofs.SendProved as sender
 use Rattle.card_rules.proofs.EndureLaws as endurance
 use Rattle.card_rules.proofs.ReceiveProved as receiver
@@ -68,6 +68,9 @@ step-numbers = walk.step-numbers
 
 pub found-whole : FoundWhole
 found-whole = item.found-whole
+
+pub nth-whole : NthWhole
+nth-whole = item.nth-whole
 
 pub step-whole : StepWhole
 step-whole = item.step-whole

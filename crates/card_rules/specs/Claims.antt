@@ -21,10 +21,11 @@ use Rattle.places_rules.specs.declared.Displaced.{Displaced}
 use Rattle.receiver_rules.specs.Promise.{numberOf, Reception, roomFault, payloadOf, State, Step}
 use Rattle.receiver_rules.specs.declared.Received.the-variants.{Delivered}
 use Rattle.item_rules.specs.declared.Item.{Item}
+use Rattle.item_rules.specs.declared.Repeats.{Repeats}
 use Rattle.item_rules.specs.Item.{head}
 use Rattle.tag_rules.specs.declared.Located.{Located}
 use Rattle.tag_rules.specs.declared.Located.the-variants as located
-use Rattle.tag_rules.specs.Find.{locateOf}
+use Rattle.tag_rules.specs.Find.{locateOf, locateNthOf}
 use Rattle.walk_rules.specs.declared.Handed.{Handed}
 use Rattle.walk_rules.specs.declared.Handed.the-variants as handed
 use Rattle.walk_rules.specs.declared.Walker.{Walker}
@@ -170,7 +171,7 @@ pub record TypedWalk (w : Walker) : Type 0 where
 
 -- such a walk is opened,
 abbrev pub OpensTyped : Type 0
-OpensTyped = (packet names : List ℕ) → length packet < 2 ^ 64 → opens packet names .refusal ≡ 0 → TypedWalk (opens packet names)
+OpensTyped = (r : Repeats) (packet names : List ℕ) → length packet < 2 ^ 64 → opens r packet names .refusal ≡ 0 → TypedWalk (opens r packet names)
 
 -- and a step leaves one, so that what is said of such a walk holds between any two calls:
 abbrev pub StepsTyped : Type 0
@@ -209,8 +210,12 @@ LocatedWhole (located.Refused n) = Unit {0}
 -- whatever the two packets are
 abbrev pub FoundWhole : Type 0
 FoundWhole =
-    (packet standing : List ℕ) (name : ℕ) → Bytes packet → Bytes standing → length packet < 2 ^ 64 → length standing < 2 ^ 64
-    → LocatedWhole (locateOf packet standing name)
+    (r : Repeats) (packet standing : List ℕ) (name : ℕ) → Bytes packet → Bytes standing → length packet < 2 ^ 64 → length standing < 2 ^ 64
+    → LocatedWhole (locateOf r packet standing name)
+
+-- document 02, Item 1: and so it is of an occurrence
+abbrev pub NthWhole : Type 0
+NthWhole = (r : Repeats) (packet : List ℕ) (name number : ℕ) → Bytes packet → length packet < 2 ^ 64 → LocatedWhole (locateNthOf r packet name number)
 
 -- of an item that a step hands out, with its depth; the padding is less than an item's head
 abbrev pub HandedWhole : Handed → Type 0

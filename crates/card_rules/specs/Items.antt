@@ -8,6 +8,8 @@ use lib.ListN.{length}
 use Rattle.base_rules.specs.Answer.{Answer, granted, refused, Outcome, settled}
 use Rattle.base_rules.specs.Bytes.{numberAt}
 use Rattle.base_rules.specs.Tests.{first}
+use Rattle.item_rules.specs.declared.Repeats.{Repeats}
+use Rattle.item_rules.specs.declared.Repeats.the-variants.{Forbidden, Allowed}
 use Rattle.item_rules.specs.Item.{valuesOf}
 use Rattle.walk_rules.specs.declared.Handed.{Handed}
 use Rattle.walk_rules.specs.declared.Handed.the-variants as handed
@@ -17,7 +19,11 @@ use Rattle.walk_rules.specs.Names.{deepest}
 use Rattle.walk_rules.specs.Step.{opens, walkStep}
 use Rattle.card_rules.specs.Told.{refusalIn, inWidths, tooShort, toldOf}
 
--- the widths of what finding tells: which packet 1 byte; the name, which was given, none; the bits 4, the value's place 8 and its bytes 4
+-- document 02, Item 1: names may repeat where `repeats` is not 0
+unfoldable pub repeatsOf : ℕ → Repeats
+repeatsOf repeats = cond (eqb repeats 0) Forbidden Allowed
+
+-- the widths of what finding tells, by name or by name and number: which packet 1 byte; the name, which was given, none; the bits 4, the value's place 8 and its bytes 4
 abbrev pub found-widths : List ℕ
 found-widths = 1 ∷ 0 ∷ 4 ∷ 8 ∷ 4 ∷ []
 
@@ -47,13 +53,13 @@ walkerFrom s = record {
 -- ---- opening one
 
 -- the walk's refusal, and then 1 ROOM where there are not the bytes of a walk
-unfoldable pub walkOpenFault : List ℕ → List ℕ → List ℕ → ℕ
-walkOpenFault packet names walker =
-    first ((not (eqb (opens packet names .refusal) 0), opens packet names .refusal) ∷ (not (eqb (length walker) walker-bytes), 1) ∷ [])
+unfoldable pub walkOpenFault : Repeats → List ℕ → List ℕ → List ℕ → ℕ
+walkOpenFault r packet names walker =
+    first ((not (eqb (opens r packet names .refusal) 0), opens r packet names .refusal) ∷ (not (eqb (length walker) walker-bytes), 1) ∷ [])
 
 -- what is opened stands in the walk's bytes, which a refusal leaves
-unfoldable pub walkOpenCall : List ℕ → List ℕ → List ℕ → Outcome
-walkOpenCall packet names walker = settled (walkOpenFault packet names walker) [] (walkerBytes (opens packet names)) walker
+unfoldable pub walkOpenCall : Repeats → List ℕ → List ℕ → List ℕ → Outcome
+walkOpenCall r packet names walker = settled (walkOpenFault r packet names walker) [] (walkerBytes (opens r packet names)) walker
 
 -- ---- a step
 

@@ -1,7 +1,9 @@
-// Questions on TAG items: one that is written, those of a packet, one by its name, and the nested walk.
+// Questions on TAG items: one that is written, those of a packet, and the nested walk.
 ghost use Prim.Native.Nat.{_≤_};
 ghost use lib.ListN.{length};
 ghost use Rattle.text_rules.specs.Wrote.{Wrote};
+use crate::finding;
+use crate::finding::Word;
 use crate::replies;
 use crate::words;
 use crate::words::Name;
@@ -14,13 +16,10 @@ pub(crate) fn answer(line: &[u8], out: &mut [u8]) -> usize
     if words::asks(line, b"item", 4) {
         return answer_item(line, out);
     }
-    if words::asks(line, b"items", 1) {
+    if words::asks_or_more(line, b"items", 1) {
         return answer_items(line, out);
     }
-    if words::asks(line, b"find", 3) {
-        return answer_find(line, out);
-    }
-    if words::asks(line, b"walk", 2) {
+    if words::asks_or_more(line, b"walk", 2) {
         return answer_walk(line, out);
     }
     0
@@ -53,7 +52,7 @@ fn answer_item(line: &[u8], out: &mut [u8]) -> usize
     )
 }
 
-// `items PACKET` is answered `items NAME:BITS:VALUE .. end PADDING`, or `refused N`.
+// `items PACKET [once|repeat]` is answered `items NAME:BITS:VALUE .. end PADDING`, or `refused N`.
 fn answer_items(line: &[u8], out: &mut [u8]) -> usize
     ensures { λ r. ⌜ Wrote (now (out .entry)) 0 r (now (out .exit)) ⌝ }
 {
@@ -61,28 +60,13 @@ fn answer_items(line: &[u8], out: &mut [u8]) -> usize
     let Number::Of(n) = words::bytes_of(words::nth(line, 1), &mut packet) else {
         return 0;
     };
-    write_items(out, &packet[..n])
+    let Word::Of(repeats) = finding::word_at(line, 2) else {
+        return 0;
+    };
+    write_items(out, &packet[..n], repeats)
 }
 
-// `find NAME PACKET STANDING` is answered `found BITS VALUE`, or `refused N`.
-fn answer_find(line: &[u8], out: &mut [u8]) -> usize
-    ensures { λ r. ⌜ Wrote (now (out .entry)) 0 r (now (out .exit)) ⌝ }
-{
-    let Name::Of(name) = words::name_at(line, 1) else {
-        return 0;
-    };
-    let mut packet = [0u8; words::BYTES];
-    let Number::Of(n) = words::bytes_of(words::nth(line, 2), &mut packet) else {
-        return 0;
-    };
-    let mut standing = [0u8; words::BYTES];
-    let Number::Of(m) = words::bytes_of(words::nth(line, 3), &mut standing) else {
-        return 0;
-    };
-    write_found(out, &packet[..n], &standing[..m], name)
-}
-
-// `walk NAMES PACKET` is answered `walk DEPTH:NAME:BITS .. end PADDING`, or `refused N`.
+// `walk NAMES PACKET [once|repeat]` is answered `walk DEPTH:NAME:BITS .. end PADDING`, or `refused N`.
 fn answer_walk(line: &[u8], out: &mut [u8]) -> usize
     ensures { λ r. ⌜ Wrote (now (out .entry)) 0 r (now (out .exit)) ⌝ }
 {
@@ -94,7 +78,10 @@ fn answer_walk(line: &[u8], out: &mut [u8]) -> usize
     let Number::Of(n) = words::bytes_of(words::nth(line, 2), &mut packet) else {
         return 0;
     };
-    write_walk(out, &packet[..n], &names[..m])
+    let Word::Of(repeats) = finding::word_at(line, 3) else {
+        return 0;
+    };
+    write_walk(out, &packet[..n], &names[..m], repeats)
 }
 
 // The item of a value in the buffer that is lent for it.
@@ -113,10 +100,10 @@ fn make_and_write(
 }
 
 // The items of a packet, or the refusal.
-fn write_items(out: &mut [u8], packet: &[u8]) -> usize
+fn write_items(out: &mut [u8], packet: &[u8], repeats: item::Repeats) -> usize
     ensures { λ r. ⌜ Wrote (now (out .entry)) 0 r (now (out .exit)) ⌝ }
 {
-    let first = reader::first(packet);
+    let first = reader::first(packet, repeats);
     let item::Step::Refused(by) = first else {
         return write_steps(out, packet);
     };
@@ -124,10 +111,15 @@ fn write_items(out: &mut [u8], packet: &[u8]) -> usize
 }
 
 // The items of a walk, or the refusal.
-fn write_walk(out: &mut [u8], packet: &[u8], names: &[u8]) -> usize
+fn write_walk(
+    out: &mut [u8],
+    packet: &[u8],
+    names: &[u8],
+    repeats: item::Repeats,
+) -> usize
     ensures { λ r. ⌜ Wrote (now (out .entry)) 0 r (now (out .exit)) ⌝ }
 {
-    let opened = walk::open_walk(packet, names);
+    let opened = walk::open_walk(packet, names, repeats);
     let by = opened.refusal;
     if by != 0 {
         return replies::refused(out, by);
@@ -185,20 +177,6 @@ fn write_visits(out: &mut [u8], packet: &[u8], names: &[u8], opened: walk::Walke
         left -= 1;
     }
     to
-}
-
-// What a search finds, or the refusal.
-fn write_found<'a>(out: &mut [u8], packet: &'a [u8], standing: &'a [u8], name: u32) -> usize
-    ensures { λ r. ⌜ Wrote (now (out .entry)) 0 r (now (out .exit)) ⌝ }
-{
-    let sought = tag::search(packet, standing, name);
-    match sought {
-        tag::Sought::Found(bits) => {
-            let at = replies::number(out, b"found ", bits.0 as usize);
-            replies::value(out, at, b" ", tag::find(packet, standing, name))
-        }
-        tag::Sought::Refused(by) => replies::refused(out, by),
-    }
 }
 
 // An item behind a blank, with its value.

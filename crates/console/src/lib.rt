@@ -3,6 +3,7 @@
 // call ends, and that nothing behind the answer changes, is proved.
 mod chunks;
 mod fields;
+mod finding;
 mod items;
 mod losses;
 mod packets;
@@ -82,6 +83,10 @@ fn ask_stateless(line: &[u8], out: &mut [u8]) -> usize
     let item = items::answer(line, out);
     if item != 0 {
         return item;
+    }
+    let found = finding::answer(line, out);
+    if found != 0 {
+        return found;
     }
     sending::answer(line, out)
 }

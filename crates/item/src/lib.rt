@@ -3,6 +3,7 @@ pub use item_rules::Bits;
 pub use item_rules::Bytes;
 pub use item_rules::Found;
 pub use item_rules::Item;
+pub use item_rules::Repeats;
 pub use item_rules::Step;
 ghost use mathlib.Core.Path.{_≡_};
 ghost use mathlib.Core.Bool.{false, _&&_};
@@ -10,7 +11,7 @@ ghost use Prim.Native.Nat.{_%_, _<_};
 ghost use lib.ListN.{replicate};
 ghost use Rattle.base_rules.specs.Answer.{granted};
 ghost use Rattle.item_rules.specs.Item.{bytesFor, stepIn, numberOf, stepCall};
-ghost use Rattle.item_rules.specs.Run.{runOf, firstOf, firstValues, foundNumber, badPtr, faultOf, isBefore, slots};
+ghost use Rattle.item_rules.specs.Run.{runOf, firstOf, firstValues, foundNumber, badPtr, faultOf, forbids, isBefore, slots};
 
 // The bytes before a value.
 pub const HEAD: usize = 8;
@@ -120,6 +121,16 @@ pub fn fault_of(s: &[u8], from: usize, end: usize, i: Item, mark: bool) -> u8
         return 31;
     }
     if bad_ptr(i.name, i.bits) { 33 } else { 0 }
+}
+
+// Whether the mark of a name counts: where names may repeat it does not, and so nothing is searched.
+pub fn marked(repeats: Repeats, mark: bool) -> bool
+    ensures { λ r. ⌜ r ≡ (forbids repeats && mark) ⌝ }
+{
+    match repeats {
+        Repeats::Forbidden => mark,
+        Repeats::Allowed => false,
+    }
 }
 
 // The slot of a name.

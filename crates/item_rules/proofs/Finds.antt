@@ -1,43 +1,36 @@
 -- What a search finds stands in the packet. Assumes nothing.
-use Prim.Native.Nat.{ℕ, zero, suc, _-_}
-use mathlib.Core.List.{List}
-use mathlib.Core.Path.{_≡_, refl}
+use Prim.Native.Nat.{ℕ, zero, suc}
+use mathlib.Core.List.{List, _∷_, map}
+use mathlib.Core.Path.{_≡_, sym, _∙_}
 use mathlib.Core.Bool.{Bool, true, false, cond}
 use lib.Dec.{eqb}
+use lib.ListN.{getD}
 use Rattle.item_rules.specs.declared.Item.{Item}
-use Rattle.item_rules.specs.declared.Step.{Step}
-use Rattle.item_rules.specs.declared.Step.the-variants as step
-use Rattle.item_rules.specs.declared.Found.{Found}
 use Rattle.item_rules.specs.declared.Found.the-variants as found
-use Rattle.item_rules.specs.Item.{stepIn}
-use Rattle.item_rules.specs.Run.{item, padding, refused, onStep, nextOf, runIn, runOf, firstOf}
+use Rattle.item_rules.specs.Run.{Run, runOf, firstOf, namedIn, nthOf}
 use Rattle.item_rules.proofs.Steps.{zero-one}
+use Rattle.item_rules.proofs.Runs.{Stands, every-run}
+use Rattle.item_rules.proofs.Occurrences.{first-is-nth}
 
--- an item of the packet that ends before `end`
-pub record Stands (s : List ℕ) (end : ℕ) (i : Item) : Type 0 where
-  pub at : ℕ
-  pub here : stepIn s at end ≡ step.Item i
+module _ (s : List ℕ) (name end : ℕ) where
+  -- every occurrence in a run is an item of the packet
+  abbrev Stand : Run → Type 0
+  Stand r = (k : ℕ) (i : Item) → nthOf name k r ≡ found.At i → Stands s end i
 
-module _ (s : List ℕ) (name end : ℕ) (i : Item) where
-  -- found first of a run, or in the rest
-  first-by : (b : Bool) (j : Item) (rest : Found) (at : ℕ) → stepIn s at end ≡ step.Item j → (rest ≡ found.At i → Stands s end i)
-      → cond b (found.At j) rest ≡ found.At i → Stands s end i
-  first-by true j rest at e later q = record { at = at; here = cc }
-  first-by false j rest at e later q = later q
+  -- an item has the name looked for, and is the first occurrence, or not
+  item-by : (b : Bool) (j : Item) (l : List Item) → Stands s end j → ((k : ℕ) (i : Item) → getD (map found.At l) k found.Nothing ≡ found.At i → Stands s end i)
+      → (k : ℕ) (i : Item) → getD (map found.At (cond b (j ∷ l) l)) k found.Nothing ≡ found.At i → Stands s end i
+  item-by true j l here behind zero i q = record { at = here .at; here = cc (here .here) }
+  item-by true j l here behind (suc k) i q = behind k i q
+  item-by false j l here behind k i q = behind k i q
 
-  step-by : (f at : ℕ) → ((b : ℕ) → firstOf name (runIn f s b end) ≡ found.At i → Stands s end i) → (t : Step) → stepIn s at end ≡ t
-      → firstOf name (onStep t (λ j. item j (runIn f s (nextOf j) end)) padding refused) ≡ found.At i → Stands s end i
-  unfolding firstOf
-  step-by f at later (step.Item j) e q = first-by (eqb (j .name) name) j (firstOf name (runIn f s (nextOf j) end)) at e (later (nextOf j)) q
-  step-by f at later (step.End p) e q = absurd (zero-one (cc))
-  step-by f at later (step.Refused n) e q = absurd (zero-one (cc))
+  -- the occurrence of a number that a search finds is an item of that packet
+  pub nth-stands : (k at : ℕ) (i : Item) → nthOf name k (runOf s at end) ≡ found.At i → Stands s end i
+  unfolding nthOf namedIn
+  nth-stands k at =
+      every-run s end Stand (λ j r here behind. item-by (eqb (j .name) name) j (namedIn name r) here behind) (λ p few k i q. absurd (zero-one (cc)))
+      (λ k i q. absurd (zero-one (cc))) at k
 
-  stands-in : (f at : ℕ) → firstOf name (runIn f s at end) ≡ found.At i → Stands s end i
-  unfolding runIn firstOf
-  stands-in zero at q = absurd (zero-one (cc))
-  stands-in (suc f) at q = step-by f at (stands-in f) (stepIn s at end) refl q
-
-  -- the item that the search for a name finds is an item of that packet
-  pub found-stands : (at : ℕ) → firstOf name (runOf s at end) ≡ found.At i → Stands s end i
-  unfolding runOf
-  found-stands at q = stands-in (end - at) at q
+  -- so is the first
+  pub found-stands : (i : Item) (at : ℕ) → firstOf name (runOf s at end) ≡ found.At i → Stands s end i
+  found-stands i at q = nth-stands 0 at i (sym (first-is-nth name (runOf s at end)) ∙ q)

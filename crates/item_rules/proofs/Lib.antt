@@ -3,6 +3,8 @@ pub mod Steps
 pub mod Runs
 pub mod Faults
 pub mod Seen
+pub mod Occurrences
 pub mod Finds
+pub mod Repeated
 pub mod Numbers
 pub mod Proved

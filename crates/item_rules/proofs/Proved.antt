@@ -6,7 +6,8 @@ use Rattle.item_rules.specs.declared.Step.the-variants as step
 use Rattle.item_rules.specs.declared.Found.the-variants as found
 use Rattle.item_rules.specs.Item.{valuesOf, numberOf}
 use Rattle.item_rules.specs.Run.{foundNumber}
-use Rattle.item_rules.specs.Claims.{OneStep, OneFound}
+use Rattle.item_rules.specs.Claims.{OneStep, OneFound, FirstIsNth}
+use Rattle.item_rules.proofs.Occurrences as occurrences
 
 -- an item is what it tells
 abbrev made : ℕ → ℕ → ℕ → ℕ → Item
@@ -39,3 +40,7 @@ one-found (found.At i) (found.At j) e = ap found.At (one-item i j (cc))
 one-found (found.At i) found.Nothing e = cc
 one-found found.Nothing (found.At j) e = cc
 one-found found.Nothing found.Nothing e = refl
+
+-- the first of a name is its occurrence 0
+pub first-is-nth : FirstIsNth
+first-is-nth = occurrences.first-is-nth

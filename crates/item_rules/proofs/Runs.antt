@@ -1,7 +1,7 @@
 -- What the run of a packet is, by what stands at its start.
 use Prim.Native.Nat.{ℕ, zero, suc, _+_, _-_, _≤_, _<_}
 use mathlib.Core.List.{List}
-use mathlib.Core.Path.{_≡_, refl, sym, ap, _∙_}
+use mathlib.Core.Path.{_≡_, refl, sym, ap, subst, _∙_}
 use native.Mathlib.Omega.{arith}
 use native.Mathlib.Nat.{le-refl}
 use borrow.Author.Tests.{eq-eqb, ne-eqb}
@@ -11,8 +11,8 @@ use Rattle.item_rules.specs.declared.Step.{Step}
 use Rattle.item_rules.specs.declared.Step.the-variants as step
 use Rattle.item_rules.specs.declared.Found.the-variants as found
 use Rattle.item_rules.specs.Item.{head, stepIn, itemAt}
-use Rattle.item_rules.specs.Run.{item, padding, refused, onStep, nextOf, runIn, runOf, firstOf}
-use Rattle.item_rules.proofs.Steps.{item-fits, item-at, step-none}
+use Rattle.item_rules.specs.Run.{Run, item, padding, refused, onStep, nextOf, runIn, runOf, firstOf}
+use Rattle.item_rules.proofs.Steps.{item-fits, item-at, end-few, step-none, refused-is}
 
 -- an item's value begins behind its head, and what is left after it is less
 pub item-begins : (s : List ℕ) (at end : ℕ) (i : Item) → stepIn s at end ≡ step.Item i → i .from ≡ at + head
@@ -59,6 +59,30 @@ run-end s at end p e = opens s at end ∙ simp e
 pub run-refused : (s : List ℕ) (at end n : ℕ) → stepIn s at end ≡ step.Refused n → runOf s at end ≡ refused n
 unfolding runIn
 run-refused s at end n e = opens s at end ∙ simp e
+
+-- an item of the packet that ends before `end`
+pub record Stands (s : List ℕ) (end : ℕ) (i : Item) : Type 0 where
+  pub at : ℕ
+  pub here : stepIn s at end ≡ step.Item i
+
+-- what holds of padding of 7 or fewer bytes and of 30, and of an item of the packet with what is behind it where it holds of that,
+module _ (s : List ℕ) (end : ℕ) (P : Run → Type 0) (more : (i : Item) (r : Run) → Stands s end i → P r → P (item i r))
+    (ends : (p : ℕ) → p < head → P (padding p)) (overrun : P (refused 30)) where
+  in-steps : (f at : ℕ) → P (runIn f s at end)
+  unfolding runIn
+  in-steps zero at = ends 0 (omega arith)
+  in-steps (suc f) at = go (in-steps f) (stepIn s at end) refl
+    where
+      go : ((b : ℕ) → P (runIn f s b end)) → (t : Step) → stepIn s at end ≡ t
+          → P (onStep t (λ i. item i (runIn f s (nextOf i) end)) padding refused)
+      go behind (step.Item i) e = more i _ (record { at = at; here = e }) (behind (nextOf i))
+      go behind (step.End p) e = ends (p .0) (end-few s at end p e)
+      go behind (step.Refused n) e = subst (λ (m : ℕ). P (refused m)) (sym (refused-is s at end n e)) overrun
+
+  -- holds of every run of the packet
+  pub every-run : (at : ℕ) → P (runOf s at end)
+  unfolding runOf
+  every-run at = in-steps (end - at) at
 
 -- the search for a name, by what stands at the start
 module _ (s : List ℕ) (name at end : ℕ) where

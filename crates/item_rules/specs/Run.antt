@@ -1,8 +1,9 @@
 -- A packet is a run of items (document 01, "TAG layer"): what is found in it, and when an item is at fault.
-use mathlib.Core.Bool.{Bool, false, cond, not, _&&_, _||_}
-use mathlib.Core.List.{List, [], _∷_}
+use mathlib.Core.Bool.{Bool, true, false, cond, not, _&&_, _||_}
+use mathlib.Core.List.{List, [], _∷_, map}
 use Prim.Native.Nat.{ℕ, zero, suc, _+_, _-_}
 use lib.Dec.{ltb, eqb}
+use lib.ListN.{getD}
 use Rattle.base_rules.specs.Answer.{Answer, granted}
 use Rattle.base_rules.specs.Tests.{first, among}
 use Rattle.item_rules.specs.declared.Item.{Item}
@@ -10,6 +11,8 @@ use Rattle.item_rules.specs.declared.Step.{Step}
 use Rattle.item_rules.specs.declared.Step.the-variants as step
 use Rattle.item_rules.specs.declared.Found.{Found}
 use Rattle.item_rules.specs.declared.Found.the-variants as found
+use Rattle.item_rules.specs.declared.Repeats.{Repeats}
+use Rattle.item_rules.specs.declared.Repeats.the-variants.{Forbidden, Allowed}
 use Rattle.item_rules.specs.Item.{stepIn, valuesOf}
 
 -- items, one after another, and how they end: with so many bytes of padding, or at an item that is refused
@@ -55,6 +58,20 @@ firstValues name (item i r) = cond (eqb (i .name) name) (valuesOf i) (firstValue
 firstValues name (padding n) = []
 firstValues name (refused n) = []
 
+-- document 02, Item 1: the items of that name, in their order
+unfoldable pub namedIn : ℕ → Run → List Item
+namedIn name (item i r) = cond (eqb (i .name) name) (i ∷ namedIn name r) (namedIn name r)
+namedIn name (padding n) = []
+namedIn name (refused n) = []
+
+-- document 02, Item 1, "the occurrence of a given number, counted from 0": that one of them, or nothing
+unfoldable pub nthOf : ℕ → ℕ → Run → Found
+nthOf name number r = getD (map found.At (namedIn name r)) number found.Nothing
+
+-- what it tells; no values where there is no occurrence of that number
+unfoldable pub nthValues : ℕ → ℕ → Run → List ℕ
+nthValues name number r = getD (map valuesOf (namedIn name r)) number []
+
 -- document 01's number and values for each case: a search of one packet refuses nothing, since 34 ABSENT is said of two
 unfoldable pub foundNumber : Found → Answer
 foundNumber (found.At i) = granted (valuesOf i)
@@ -84,11 +101,16 @@ faultOf before i = first ((not (eqb (i .name) dmy) && before, 31) ∷ (badPtr (i
 abbrev pub orElse : ℕ → ℕ → ℕ
 orElse m n = cond (eqb m 0) n m
 
+-- document 02, Item 1: "31 only when repeats are forbidden": then it counts that a name has stood before
+unfoldable pub forbids : Repeats → Bool
+forbids Forbidden = true
+forbids Allowed = false
+
 -- document 01: the number of the leftmost item at fault, after items of the names seen; 0 where none is
-unfoldable pub faultsOf : List ℕ → Run → ℕ
-faultsOf seen (item i r) = orElse (faultOf (among (i .name) seen) i) (faultsOf (i .name ∷ seen) r)
-faultsOf seen (padding n) = 0
-faultsOf seen (refused n) = n
+unfoldable pub faultsOf : Repeats → List ℕ → Run → ℕ
+faultsOf w seen (item i r) = orElse (faultOf (forbids w && among (i .name) seen) i) (faultsOf w (i .name ∷ seen) r)
+faultsOf w seen (padding n) = 0
+faultsOf w seen (refused n) = n
 
 -- whether what was found stands before `at`
 abbrev pub isBefore : Found → ℕ → Bool

@@ -21,6 +21,12 @@ pub enum Step {
     Refused(u8),
 }
 
+// Whether names may repeat in a packet, as the caller says: one word for a call.
+pub enum Repeats {
+    Forbidden,
+    Allowed,
+}
+
 // What a search by name finds.
 pub enum Found {
     At(Item),

@@ -4,12 +4,14 @@ use af::Figures;
 use af::MOST_PAYLOAD;
 use base::MOST_L;
 use item::HEAD;
+use item::Repeats;
 pub use lister_rules::Listed;
 use walk::Handed;
 use walk::Visit;
 use walk::Walker;
 ghost use mathlib.Core.Path.{_≡_};
 ghost use mathlib.Core.List.{_++_};
+ghost use Rattle.item_rules.specs.declared.Repeats.the-variants.{Forbidden};
 ghost use Rattle.text_rules.specs.Text.{laid, behind, decimalOf};
 ghost use Rattle.walk_rules.specs.Walk.{refusal, walkOf};
 ghost use Rattle.walk_rules.specs.Step.{opens};
@@ -71,9 +73,9 @@ fn item_line(out: &mut [u8], at: usize, visit: Visit) -> usize
 
 // The lines on the items of a walk that is not refused, and the one on the padding behind them.
 fn item_lines(payload: &[u8], opened: Walker, out: &mut [u8], at: usize) -> usize
-    requires { ⌜ (opened ≡ opens (now payload) containers) × (refusal (walkOf (now payload) containers) ≡ 0) ⌝ }
-    ensures { λ r. ⌜ (r ≡ behind (now (out .entry)) at (linesOf (walkOf (now (payload .entry)) containers)))
-        × (now (out .exit) ≡ laid (now (out .entry)) at (linesOf (walkOf (now (payload .entry)) containers))) ⌝ }
+    requires { ⌜ (opened ≡ opens Forbidden (now payload) containers) × (refusal (walkOf Forbidden (now payload) containers) ≡ 0) ⌝ }
+    ensures { λ r. ⌜ (r ≡ behind (now (out .entry)) at (linesOf (walkOf Forbidden (now (payload .entry)) containers)))
+        × (now (out .exit) ≡ laid (now (out .entry)) at (linesOf (walkOf Forbidden (now (payload .entry)) containers))) ⌝ }
 {
     let mut w = opened;
     let mut to = at;
@@ -98,11 +100,11 @@ fn item_lines(payload: &[u8], opened: Walker, out: &mut [u8], at: usize) -> usiz
 // The listing of a packet's payload behind what the packet says of itself.
 fn list_payload(payload: &[u8], figures: Figures, out: &mut [u8]) -> usize
     ensures { λ r. ⌜ (r ≡ behind (now (out .entry)) 0
-        (payloadLines (headLine (figures .seq) (figures .minor) (figures .len)) (walkOf (now (payload .entry)) containers)))
+        (payloadLines (headLine (figures .seq) (figures .minor) (figures .len)) (walkOf Forbidden (now (payload .entry)) containers)))
         × (now (out .exit) ≡ laid (now (out .entry)) 0
-        (payloadLines (headLine (figures .seq) (figures .minor) (figures .len)) (walkOf (now (payload .entry)) containers))) ⌝ }
+        (payloadLines (headLine (figures .seq) (figures .minor) (figures .len)) (walkOf Forbidden (now (payload .entry)) containers))) ⌝ }
 {
-    let opened = walk::open_walk(payload, &CONTAINERS);
+    let opened = walk::open_walk(payload, &CONTAINERS, Repeats::Forbidden);
     let n = opened.refusal;
     if n != 0 {
         return refused_line(out, n);

@@ -3,7 +3,7 @@
 use Prim.Native.Nat.{ℕ, zero, suc, _+_, _-_, _*_, _≤_, _<_}
 use mathlib.Core.List.{List, [], _∷_}
 use mathlib.Core.Path.{_≡_, refl}
-use mathlib.Core.Bool.{Bool, true, false, cond}
+use mathlib.Core.Bool.{Bool, true, false, cond, _&&_}
 use native.Mathlib.Nat.{mod-lt}
 use native.Mathlib.Omega.{arith}
 use borrow.Author.Tests.{ltb-false, eqb-true, eqb-false}
@@ -19,10 +19,11 @@ use Rattle.af_rules.specs.Packet.{most-payload, seqOf, arOf, minorOf, lenOf, pa
 use Rattle.af_rules.specs.Calls.{afFault}
 use Rattle.af_rules.proofs.Checks.{passing}
 use Rattle.item_rules.specs.declared.Item.{Item}
+use Rattle.item_rules.specs.declared.Repeats.the-variants.{Forbidden}
 use Rattle.item_rules.specs.declared.Step.{Step}
 use Rattle.item_rules.specs.declared.Step.the-variants as step
 use Rattle.item_rules.specs.Item.{bytesFor, itemAt, stepIn}
-use Rattle.item_rules.specs.Run.{Run, item, nextOf, runOf, faultOf}
+use Rattle.item_rules.specs.Run.{Run, item, nextOf, runOf, faultOf, forbids}
 use Rattle.item_rules.proofs.Steps.{item-fits, item-at, end-few, refused-is}
 use Rattle.item_rules.proofs.Runs.{item-begins, falls, run-item, run-end, run-refused}
 use Rattle.walk_rules.specs.Names.{deepest, namesOf, namesFault}
@@ -108,22 +109,22 @@ within-fits false t n h = (omega arith, omega arith)
 module _ (inner : Item → Tour) (fits : (i : Item) → i .len .0 ≤ most-payload → Fits (inner i) (i .len .0)) (s cs : List ℕ) (d : ℕ) where
   -- an item, its contents and the items behind it
   item-fits-in : (seen : List ℕ) (i : Item) (r : Run) (k : ℕ) → i .bits .0 ≤ i .len .0 * 8 → i .len .0 ≤ most-payload
-      → Fits (tourBy inner cs d (i .name ∷ seen) r) k → Fits (tourBy inner cs d seen (item i r)) (8 + i .len .0 + k)
+      → Fits (tourBy Forbidden inner cs d (i .name ∷ seen) r) k → Fits (tourBy Forbidden inner cs d seen (item i r)) (8 + i .len .0 + k)
   unfolding tourBy visits
   item-fits-in seen i r k bits short rest =
-      let fault : ℕ = walkFault cs d (among (i .name) seen) i in
+      let fault : ℕ = walkFault cs d (forbids Forbidden && among (i .name) seen) i in
       let contents = within-fits (among (i .name) cs) (inner i) (i .len .0) (fits i short) in
       let both = then-fits _ _ (i .len .0) k contents rest in
-      unless-fits fault _ _ (fault-few cs d (among (i .name) seen) i)
-      (λ z. ((omega (arith, depth-few cs d (among (i .name) seen) i z), omega (arith, bits), both .0), omega (arith, both .1)))
+      unless-fits fault _ _ (fault-few cs d (forbids Forbidden && among (i .name) seen) i)
+      (λ z. ((omega (arith, depth-few cs d (forbids Forbidden && among (i .name) seen) i z), omega (arith, bits), both .0), omega (arith, both .1)))
 
   bits-few : (at end : ℕ) (i : Item) → stepIn s at end ≡ step.Item i → i .bits .0 ≤ i .len .0 * 8
   unfolding itemAt bytesFor
   bits-few at end i e = rw (item-at s at end i e) (omega (arith, up (itemAt s at .bits .0) 8 (omega arith)))
 
   step-fits : (at end : ℕ) (seen : List ℕ) → end - at ≤ most-payload
-      → ((b : ℕ) (names : List ℕ) → end - b < end - at → Fits (tourBy inner cs d names (runOf s b end)) (end - b))
-      → (x : Step) → stepIn s at end ≡ x → Fits (tourBy inner cs d seen (runOf s at end)) (end - at)
+      → ((b : ℕ) (names : List ℕ) → end - b < end - at → Fits (tourBy Forbidden inner cs d names (runOf s b end)) (end - b))
+      → (x : Step) → stepIn s at end ≡ x → Fits (tourBy Forbidden inner cs d seen (runOf s at end)) (end - at)
   unfolding tourBy visits
   step-fits at end seen short rest (step.Item i) e =
       let room = item-fits s at end i e in
@@ -135,13 +136,13 @@ module _ (inner : Item → Tour) (fits : (i : Item) → i .len .0 ≤ most-paylo
 
   -- the items of a run fit its bytes; `most` counts the turns
   run-fits : (most at end : ℕ) (seen : List ℕ) → end - at ≤ most → end - at ≤ most-payload
-      → Fits (tourBy inner cs d seen (runOf s at end)) (end - at)
+      → Fits (tourBy Forbidden inner cs d seen (runOf s at end)) (end - at)
   run-fits zero at end seen few short = step-fits at end seen short (λ b names h. absurd (omega arith)) (stepIn s at end) refl
   run-fits (suc most) at end seen few short =
       step-fits at end seen short (λ b names h. run-fits most b end names (omega arith) (omega arith)) (stepIn s at end) refl
 
 tour-fits : (levels : ℕ) (s cs : List ℕ) (d at end : ℕ) → end - at ≤ most-payload
-    → Fits (tourAt levels s cs d [] (runOf s at end)) (end - at)
+    → Fits (tourAt Forbidden levels s cs d [] (runOf s at end)) (end - at)
 unfolding tourAt visits
 tour-fits zero s cs d at end short = run-fits (λ i. ends 0) (λ i h. (omega arith, omega arith)) s cs d (end - at) at end [] (omega arith) short
 tour-fits (suc levels) s cs d at end short =
@@ -151,7 +152,7 @@ tour-fits (suc levels) s cs d at end short =
     s cs d (end - at) at end [] (omega arith) short
 
 -- the items of a walk of at most 8,180 bytes are at most an eighth of them
-walk-fits : (s l : List ℕ) → length s ≤ most-payload → Fits (walkOf s l) (length s)
+walk-fits : (s l : List ℕ) → length s ≤ most-payload → Fits (walkOf Forbidden s l) (length s)
 unfolding walkOf namesFault
 walk-fits s l short =
     unless-fits (namesFault l) _ (length s) (first-few _ (omega arith, tt))
@@ -162,11 +163,11 @@ walk-fits s l short =
 -- ---- the listing
 
 payload-few : (front : List ℕ) (s : List ℕ) → length front ≤ 19 → length s ≤ most-payload
-    → length (payloadLines front (walkOf s containers)) ≤ most-listing
+    → length (payloadLines front (walkOf Forbidden s containers)) ≤ most-listing
 unfolding payloadLines
 payload-few front s few short =
     let walk = walk-fits s containers short in
-    let t : Tour = walkOf s containers in
+    let t : Tour = walkOf Forbidden s containers in
     either (eqb (refusal t) 0)
     (λ e. simp (e, length-append) (omega (arith, lines-few t (walk .0), walk .1)))
     (λ e. simp e (omega (arith, refused-line-few (refusal t) (refusal-few t (walk .0)))))

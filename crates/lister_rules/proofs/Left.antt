@@ -11,6 +11,7 @@ use Rattle.item_rules.specs.declared.Bytes.{Bytes}
 use Rattle.item_rules.specs.declared.Item.{Item}
 use Rattle.text_rules.specs.Text.{decimalOf}
 use Rattle.text_rules.proofs.Laws.{Lays, lays-none, lays-more, lays-same}
+use Rattle.item_rules.specs.declared.Repeats.the-variants.{Forbidden}
 use Rattle.walk_rules.specs.declared.Handed.{Handed}
 use Rattle.walk_rules.specs.declared.Handed.the-variants as handed
 use Rattle.walk_rules.specs.declared.Visit.{Visit}
@@ -70,25 +71,25 @@ module _ (s l : List ℕ) where
 
   -- the items that a walker has yet to hand out; no walker of this walk has more than the whole walk
   pub left : Walker → ℕ
-  left w = items (handsOut (visits (walkOf s l)) s l w)
+  left w = items (handsOut (visits (walkOf Forbidden s l)) s l w)
 
-  left-is : (w : Walker) (t : Tour) → Hands w t → visits t ≤ visits (walkOf s l) → left w ≡ visits t
+  left-is : (w : Walker) (t : Tour) → Hands w t → visits t ≤ visits (walkOf Forbidden s l) → left w ≡ visits t
   unfolding left
-  left-is w t h few = ap items (h (visits (walkOf s l))) ∙ items-told t _ _ few
+  left-is w t h few = ap items (h (visits (walkOf Forbidden s l))) ∙ items-told t _ _ few
 
   -- after what is said of a walk, the tour that is left of it says the rest
   pub record Left (said : List ℕ) (w : Walker) : Type 0 where
     pub tour : Tour
     pub hands : Hands w tour
-    pub few : visits tour ≤ visits (walkOf s l)
-    pub text : said ++ linesOf tour ≡ linesOf (walkOf s l)
+    pub few : visits tour ≤ visits (walkOf Forbidden s l)
+    pub text : said ++ linesOf tour ≡ linesOf (walkOf Forbidden s l)
 
-  opens-left : (w : Walker) → w ≡ opens s l → refusal (walkOf s l) ≡ 0 → Left [] w
+  opens-left : (w : Walker) → w ≡ opens Forbidden s l → refusal (walkOf Forbidden s l) ≡ 0 → Left [] w
   unfolding due
   opens-left w o z =
       record {
-        tour = walkOf s l;
-        hands = λ n. ap (handsOut n s l) o ∙ in-order s l n ∙ simp (eq-eqb (refusal (walkOf s l)) 0 z);
+        tour = walkOf Forbidden s l;
+        hands = λ n. ap (handsOut n s l) o ∙ in-order Forbidden s l n ∙ simp (eq-eqb (refusal (walkOf Forbidden s l)) 0 z);
         few = le-refl _;
         text = refl;
       }
@@ -96,7 +97,7 @@ module _ (s l : List ℕ) where
   -- what a step tells by what it hands out: an item is the next to be said, and less is left; at the end the padding is; none is refused
   abbrev Tells : List ℕ → Walker → Walker → Handed → Type 0
   Tells said w next (handed.Item v) = Left (said ++ itemLine (v .depth) (v .item)) next × (left next < left w)
-  Tells said w next (handed.End p) = said ++ (pad ++ (decimalOf (p .0) ++ newline)) ≡ linesOf (walkOf s l)
+  Tells said w next (handed.End p) = said ++ (pad ++ (decimalOf (p .0) ++ newline)) ≡ linesOf (walkOf Forbidden s l)
   Tells said w next (handed.Refused n) = ⊥
 
   module _ (w : Walker) (x : Walked) (is : x ≡ walkStep s l w) where
@@ -113,7 +114,7 @@ module _ (s l : List ℕ) where
         let rest : handsOut n s l (walkStep s l w .next) ≡ take n (told (suc n) t) = cc in
         ap (λ (y : Walked). handsOut n s l (y .next)) is ∙ rest ∙ told-enough t n (suc n) (omega arith)
 
-    tells-by : (said : List ℕ) (t : Tour) → Hands w t → visits t ≤ visits (walkOf s l) → said ++ linesOf t ≡ linesOf (walkOf s l)
+    tells-by : (said : List ℕ) (t : Tour) → Hands w t → visits t ≤ visits (walkOf Forbidden s l) → said ++ linesOf t ≡ linesOf (walkOf Forbidden s l)
         → Tells said w (x .next) (x .handed)
     unfolding told linesOf visits
     tells-by said (visit d i t) h few text =
@@ -143,7 +144,7 @@ module _ (s l : List ℕ) where
     pub left-of : Left said w
 
   -- where a walk opens unrefused its listing begins, with nothing said yet
-  pub begins : (d : List ℕ) (at : ℕ) (w : Walker) → w ≡ opens s l → refusal (walkOf s l) ≡ 0 → Place d at w at d
+  pub begins : (d : List ℕ) (at : ℕ) (w : Walker) → w ≡ opens Forbidden s l → refusal (walkOf Forbidden s l) ≡ 0 → Place d at w at d
   begins d at w o z = record { said = []; lays = lays-none d at; left-of = opens-left w o z }
 
   module _ (d : List ℕ) (at : ℕ) (w : Walker) (to : ℕ) (e : List ℕ) (p : Place d at w to e) (x : Walked) (is : x ≡ walkStep s l w) where
@@ -156,7 +157,7 @@ module _ (s l : List ℕ) where
 
     -- behind the line on the padding all is said
     pub end : (b : Bytes) → x .handed ≡ handed.End b → (r : ℕ) (f : List ℕ) → Lays e to (pad ++ (decimalOf (b .0) ++ newline)) r f
-        → Lays d at (linesOf (walkOf s l)) r f
+        → Lays d at (linesOf (walkOf Forbidden s l)) r f
     end b q r f line = lays-same d at (tells w x is (p .said) (p .left-of) (handed.End b) q) (lays-more d at (p .said) _ (p .lays) line)
 
     -- from a place in the listing no step of the walk is refused

@@ -10,6 +10,7 @@ use Rattle.af_rules.specs.Packet.{most-payload, seqOf, minorOf, lenOf, payloadO
 use Rattle.af_rules.specs.Calls.{afFault}
 use Rattle.item_rules.specs.Item.{head}
 use Rattle.item_rules.specs.declared.Item.{Item}
+use Rattle.item_rules.specs.declared.Repeats.the-variants.{Forbidden}
 use Rattle.walk_rules.specs.Walk.{Tour, visit, ends, stops, refusal, walkOf}
 
 -- document 01: "fio_" is the only container
@@ -62,9 +63,9 @@ refusedLine n = refused ++ (decimalOf n ++ newline)
 unfoldable pub payloadLines : List ℕ → Tour → List ℕ
 payloadLines front t = cond (eqb (refusal t) 0) (front ++ linesOf t) (refusedLine (refusal t))
 
--- document 01: the listing of an AF packet
+-- document 01: the listing of an AF packet; document 02, Item 1: in it names may not repeat
 unfoldable pub listingOf : List ℕ → List ℕ
-listingOf s = cond (eqb (afFault s) 0) (payloadLines (headLine (seqOf s) (minorOf s) (lenOf s)) (walkOf (payloadOf s) containers))
+listingOf s = cond (eqb (afFault s) 0) (payloadLines (headLine (seqOf s) (minorOf s) (lenOf s)) (walkOf Forbidden (payloadOf s) containers))
     (refusedLine (afFault s))
 
 -- the letters of the longest line on an item: "4 2a646d79 65376" has a depth of 1 digit, bits of at most 5, and the newline

@@ -20,7 +20,7 @@ as-numbers zero r = refl
 as-numbers (suc n) r = ap (λ (t : List Step). stepOf r ∷ t) (as-numbers n (movedOf r))
 
 pub in-order : InOrder
-in-order p n = as-numbers n (openedOn p) ∙ numbers-in-order (now p) n
+in-order w p n = as-numbers n (openedOn w p) ∙ numbers-in-order w (now p) n
 
 -- a reader whose position does not move stays for ever
 stays : (r : Reader) → afterOf (now (r .packet)) (r .at) (r .refusal) ≡ r .at → (n : ℕ) → movedBy n r ≡ r

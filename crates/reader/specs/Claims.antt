@@ -5,6 +5,7 @@ use Prim.Native.Nat.{ℕ}
 use denote.Ref.{RefT, now}
 use lib.ListN.{take, replicate}
 use Rattle.item_rules.specs.declared.Bytes.{Bytes}
+use Rattle.item_rules.specs.declared.Repeats.{Repeats}
 use Rattle.item_rules.specs.declared.Step.the-variants as step
 use Rattle.tag_rules.specs.Reading.{checkedRun, itemsOf, lastOf}
 use Rattle.reader.specs.declared.Reader.{Reader}
@@ -13,7 +14,8 @@ use Rattle.reader.specs.Steps.{openedOn, stepOf, handedBy, movedBy}
 -- "hands out its items one after another. A step after the last item answers END with the count of padding bytes", for ever; a refused one
 -- answers its refusal
 abbrev pub InOrder : Type 0
-InOrder = (p : RefT (List ℕ)) (n : ℕ) → handedBy n (openedOn p) ≡ take n (itemsOf (checkedRun (now p)) ++ replicate n (lastOf (checkedRun (now p))))
+InOrder = (w : Repeats) (p : RefT (List ℕ)) (n : ℕ)
+    → handedBy n (openedOn w p) ≡ take n (itemsOf (checkedRun w (now p)) ++ replicate n (lastOf (checkedRun w (now p))))
 
 -- "and the reader stays there": no field of it changes
 abbrev pub StaysAtEnd : Type 0

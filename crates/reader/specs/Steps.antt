@@ -3,14 +3,15 @@ use mathlib.Core.List.{List, [], _∷_}
 use Prim.Native.Nat.{ℕ, zero, suc}
 use denote.Ref.{RefT, now}
 use Rattle.base_rules.specs.Answer.{Answer}
+use Rattle.item_rules.specs.declared.Repeats.{Repeats}
 use Rattle.item_rules.specs.declared.Step.{Step}
 use Rattle.tag_rules.specs.Find.{checkOf}
 use Rattle.tag_rules.specs.Calls.{readOf, readCall, afterOf}
 use Rattle.reader.specs.declared.Reader.{Reader}
 
 -- document 01: opening checks the whole packet; the reader begins at 0 and keeps the refusal, 0 for none
-abbrev pub openedOn : RefT (List ℕ) → Reader
-openedOn p = record { packet = p; at = 0; refusal = checkOf (now p) }
+abbrev pub openedOn : Repeats → RefT (List ℕ) → Reader
+openedOn w p = record { packet = p; at = 0; refusal = checkOf w (now p) }
 
 -- document 01: what it hands out where it stands
 abbrev pub stepOf : Reader → Step

@@ -1,5 +1,6 @@
 // A reader over one TAG packet, as a struct. The borrow checker covers no function over a struct that holds a slice, so each of these is thin: the
 // work is done by calls on the slice and the numbers, and `first`, `step_at` and `place_after` are for callers that hold no such struct.
+use item::Repeats;
 use item::Step;
 use tag::Opened;
 ghost use mathlib.Core.Path.{_≡_};
@@ -16,10 +17,10 @@ pub struct Reader<'a> {
 }
 
 // What a reader keeps of its opening.
-fn refusal_of(packet: &[u8]) -> u8
-    ensures { λ r. ⌜ r ≡ checkOf (now (packet .entry)) ⌝ }
+fn refusal_of(packet: &[u8], repeats: Repeats) -> u8
+    ensures { λ r. ⌜ r ≡ checkOf repeats (now (packet .entry)) ⌝ }
 {
-    let opened = tag::open_reader(packet);
+    let opened = tag::open_reader(packet, repeats);
     match opened {
         Opened::At(_) => 0,
         Opened::Refused(n) => n,
@@ -27,13 +28,13 @@ fn refusal_of(packet: &[u8]) -> u8
 }
 
 // Opens a reader: the whole packet is checked before the first item is handed out.
-pub fn open<'a>(packet: &'a [u8]) -> Reader<'a>
-    ensures { λ r. ⌜ r ≡ openedOn (packet .entry) ⌝ }
+pub fn open<'a>(packet: &'a [u8], repeats: Repeats) -> Reader<'a>
+    ensures { λ r. ⌜ r ≡ openedOn repeats (packet .entry) ⌝ }
 {
     Reader {
         packet,
         at: 0,
-        refusal: refusal_of(packet),
+        refusal: refusal_of(packet, repeats),
     }
 }
 
@@ -56,10 +57,11 @@ pub fn moved<'a>(r: Reader<'a>) -> Reader<'a>
 }
 
 // What a reader just opened on the packet hands out.
-pub fn first(packet: &[u8]) -> Step
-    ensures { λ s. ⌜ (s ≡ readOf (now (packet .entry)) 0 (checkOf (now (packet .entry)))) × (numberOf s ≡ firstCall (now (packet .entry))) ⌝ }
+pub fn first(packet: &[u8], repeats: Repeats) -> Step
+    ensures { λ s. ⌜ (s ≡ readOf (now (packet .entry)) 0 (checkOf repeats (now (packet .entry))))
+        × (numberOf s ≡ firstCall repeats (now (packet .entry))) ⌝ }
 {
-    step(open(packet))
+    step(open(packet, repeats))
 }
 
 // What a reader that stands at `at` hands out, for callers that hold no reader.

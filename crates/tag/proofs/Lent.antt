@@ -1,4 +1,4 @@
--- What a packet that is lent owns, for the walks of the functions that take one. Assumes nothing.
+-- What a packet that is lent owns, and the caller's word beside it, for the walks of the functions that take them. Assumes nothing.
 use mathlib.Core.List.{List, [], _∷_}
 use Prim.Native.Nat.{ℕ}
 use lib.ListN.{length}
@@ -17,11 +17,19 @@ use denote.Builtin.{u8}
 use denote.Memory.{shares}
 use denote.Ref.{RefT, now, ptr}
 use denote.Slice.{sliceVal, ShrSlice, shr-slice-copy}
+use denote.Enum.Laws as EL
 use denote.Steps.{nothing}
+use Rattle.item_rules.specs.declared.Repeats.{Repeats}
+use Rattle.item_rules.proofs.Repeats as R
+use Rattle.item_rules.proofs.Repeats.Laws as R′
 
 -- its machine value, and what it owns there
 abbrev pub lentVal : RefT (List ℕ) → Val
 lentVal s = sliceVal (s .ptr) (length (s .now))
+
+-- the machine value of the caller's word; what it owns there is had for nothing
+abbrev pub wordVal : Repeats → Val
+wordVal w = EL.val R.the-type R′.the-laws w
 
 -- what a lent packet owns at its machine value
 abbrev pub Own : Lft → RefT (List ℕ) → Fml
@@ -32,16 +40,19 @@ module _ {M : Type 1} (𝓤 : URA M) (H : Heap 𝓤) (A : Atoms 𝓤) (W : Given
   pub twice : ent 𝓤 (sem 𝓤 H A (Own κ s)) (sep 𝓤 (sem 𝓤 H A (Own κ s)) (sem 𝓤 H A (Own κ s)))
   twice = shr-slice-copy 𝓤 H A W (named 0) κ u8 .twice s (lentVal s ∷ [])
 
-  -- what a function has that is passed a packet
-  abbrev pub With : SProp 𝓤
-  With = ⋆ 𝓤 H A ((‵ (flft κ q) ⊛ ‵ ftrue) ∷ ‵ (owns (ShrSlice (named 0) κ u8 ∷ []) (s, tt) (lentVal s ∷ [], tt)) ∷ [])
+  -- what a function owns that is passed a packet and a word, and all that it has
+  abbrev pub Passed : Repeats → Fml
+  Passed w = owns (ShrSlice (named 0) κ u8 ∷ R.the-row ∷ []) (s, (w, tt)) (lentVal s ∷ [], (wordVal w ∷ [], tt))
+
+  abbrev pub With : Repeats → SProp 𝓤
+  With w = ⋆ 𝓤 H A ((‵ (flft κ q) ⊛ ‵ ftrue) ∷ ‵ (Passed w) ∷ [])
 
   -- so it calls another such function, which asks nothing else, and still has the packet
-  pub again : ent 𝓤 With (sep 𝓤 (sep 𝓤 With (emp 𝓤)) (sem 𝓤 H A (Own κ s)))
-  again =
-      qed W ((‵ (flft κ q) ⊛ ‵ ftrue) ∷ ‵ (owns (ShrSlice (named 0) κ u8 ∷ []) (s, tt) (lentVal s ∷ [], tt)) ∷ []) ∵
+  pub again : (w : Repeats) → ent 𝓤 (With w) (sep 𝓤 (sep 𝓤 (With w) (emp 𝓤)) (sem 𝓤 H A (Own κ s)))
+  again w =
+      qed W ((‵ (flft κ q) ⊛ ‵ ftrue) ∷ ‵ (Passed w) ∷ []) ∵
       move ! (1 ∷ []) $ fsplit ! $ use1 W (‵ (Own κ s) ⊛ ‵ (Own κ s)) twice $ split ! $
-      -- [the packet; the packet; nothing; the token]
+      -- [the packet; the packet; the word; the token]
       move ! (0 ∷ 2 ∷ []) $ fjoin ! $ move ! (2 ∷ 0 ∷ []) $ join ! $ nothing ! $ move ! (1 ∷ 0 ∷ []) $ join ! $ frame ! $ done !
 
   -- what is lent for a lifetime is lent for a shorter one

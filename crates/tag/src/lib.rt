@@ -1,6 +1,7 @@
 // A TAG packet: checked whole, read item by item, and searched by name beside a standing packet.
 use item::Found;
 use item::Item;
+use item::Repeats;
 use item::Step;
 pub use tag_rules::Located;
 pub use tag_rules::Opened;
@@ -12,11 +13,12 @@ ghost use Rattle.base_rules.specs.Answer.{granted};
 ghost use Rattle.item_rules.specs.Item.{numberOf};
 ghost use Rattle.tag_rules.specs.Find.{checkOf, locateOf, valueOf, valuePlace, PartShown};
 ghost use Rattle.tag_rules.specs.Calls.{openedNumber, openCall, readOf, readCall, afterOf, soughtNumber, searchCall, locatedNumber, locateCall};
+ghost use Rattle.tag_rules.specs.Calls.{searchAnswer};
 
 // The number of the leftmost item at fault of a whole packet, or 0. A name whose slot has no mark has not stood before, so that few names are
-// searched for.
-fn check(packet: &[u8]) -> u8
-    ensures { λ r. ⌜ r ≡ checkOf (now (packet .entry)) ⌝ }
+// searched for; where names may repeat none is.
+fn check(packet: &[u8], repeats: Repeats) -> u8
+    ensures { λ r. ⌜ r ≡ checkOf repeats (now (packet .entry)) ⌝ }
 {
     let end = packet.len();
     let mut marks = item::no_marks();
@@ -26,7 +28,8 @@ fn check(packet: &[u8]) -> u8
         match step {
             Step::Item(i) => {
                 let h = item::slot(i.name);
-                let n = item::fault_of(packet, 0, end, i, marks[h]);
+                let mark = item::marked(repeats, marks[h]);
+                let n = item::fault_of(packet, 0, end, i, mark);
                 if n != 0 {
                     return n;
                 }
@@ -44,10 +47,10 @@ fn check(packet: &[u8]) -> u8
 }
 
 // Opens a reader: the whole packet is checked before the first item is handed out.
-pub fn open_reader(packet: &[u8]) -> Opened
-    ensures { λ r. ⌜ openedNumber r ≡ openCall (now (packet .entry)) ⌝ }
+pub fn open_reader(packet: &[u8], repeats: Repeats) -> Opened
+    ensures { λ r. ⌜ openedNumber r ≡ openCall repeats (now (packet .entry)) ⌝ }
 {
-    let fault = check(packet);
+    let fault = check(packet, repeats);
     if fault != 0 {
         return Opened::Refused(fault);
     }
@@ -77,15 +80,15 @@ pub fn read_after(packet: &[u8], at: usize, refusal: u8) -> usize
 }
 
 // Where the name is: both packets are checked whole, the packet first, before either is searched.
-pub fn locate(packet: &[u8], standing: &[u8], name: u32) -> Located
-    ensures { λ r. ⌜ (r ≡ locateOf (now (packet .entry)) (now (standing .entry)) name)
-        × (locatedNumber r ≡ locateCall (now (packet .entry)) (now (standing .entry)) name) ⌝ }
+pub fn locate(packet: &[u8], standing: &[u8], repeats: Repeats, name: u32) -> Located
+    ensures { λ r. ⌜ (r ≡ locateOf repeats (now (packet .entry)) (now (standing .entry)) name)
+        × (locatedNumber r ≡ locateCall repeats (now (packet .entry)) (now (standing .entry)) name) ⌝ }
 {
-    let n = check(packet);
+    let n = check(packet, repeats);
     if n != 0 {
         return Located::Refused(n);
     }
-    let m = check(standing);
+    let m = check(standing, repeats);
     if m != 0 {
         return Located::Refused(m);
     }
@@ -126,11 +129,10 @@ fn found(i: Item) -> Sought
     Sought::Found(bits)
 }
 
-// Searches for a name in the packet, then in the standing packet, and answers its bits or the refusal.
-pub fn search(packet: &[u8], standing: &[u8], name: u32) -> Sought
-    ensures { λ r. ⌜ soughtNumber r ≡ searchCall (now (packet .entry)) (now (standing .entry)) name ⌝ }
+// What a search tells of where a name is: the bits of the item there, or the refusal.
+pub fn sought(l: Located) -> Sought
+    ensures { λ r. ⌜ soughtNumber r ≡ searchAnswer l ⌝ }
 {
-    let l = locate(packet, standing, name);
     match l {
         Located::Packet(i) => found(i),
         Located::Standing(i) => found(i),
@@ -138,11 +140,19 @@ pub fn search(packet: &[u8], standing: &[u8], name: u32) -> Sought
     }
 }
 
-// What `find` shows, of two packets that are lent for one lifetime.
-fn shown<'a>(packet: &'a [u8], standing: &'a [u8], name: u32) -> &'a [u8]
-    ensures { λ r. ⌜ PartShown (packet .entry) (standing .entry) name r ⌝ }
+// Searches for a name in the packet, then in the standing packet, and answers its bits or the refusal.
+pub fn search(packet: &[u8], standing: &[u8], repeats: Repeats, name: u32) -> Sought
+    ensures { λ r. ⌜ soughtNumber r ≡ searchCall repeats (now (packet .entry)) (now (standing .entry)) name ⌝ }
 {
-    let l = locate(packet, standing, name);
+    let l = locate(packet, standing, repeats, name);
+    sought(l)
+}
+
+// What `find` shows, of two packets that are lent for one lifetime.
+fn shown<'a>(packet: &'a [u8], standing: &'a [u8], repeats: Repeats, name: u32) -> &'a [u8]
+    ensures { λ r. ⌜ PartShown repeats (packet .entry) (standing .entry) name r ⌝ }
+{
+    let l = locate(packet, standing, repeats, name);
     match l {
         Located::Packet(i) => value(packet, i),
         Located::Standing(i) => value(standing, i),
@@ -152,8 +162,13 @@ fn shown<'a>(packet: &'a [u8], standing: &'a [u8], name: u32) -> &'a [u8]
 
 // The value of the item that `search` finds, as a part of the packet or of the standing packet, each lent for a lifetime of its own; empty where the
 // search is refused. The borrow checker does not cover a part of either, so this is thin, and the work is done at the one lifetime of the part.
-pub fn find<'p: 'r, 's: 'r, 'r>(packet: &'p [u8], standing: &'s [u8], name: u32) -> &'r [u8]
-    ensures { λ r. ⌜ PartShown (packet .entry) (standing .entry) name r ⌝ }
+pub fn find<'p: 'r, 's: 'r, 'r>(
+    packet: &'p [u8],
+    standing: &'s [u8],
+    repeats: Repeats,
+    name: u32,
+) -> &'r [u8]
+    ensures { λ r. ⌜ PartShown repeats (packet .entry) (standing .entry) name r ⌝ }
 {
-    shown(packet, standing, name)
+    shown(packet, standing, repeats, name)
 }

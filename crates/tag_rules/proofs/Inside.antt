@@ -12,13 +12,13 @@ use Rattle.item_rules.specs.declared.Step.the-variants as step
 use Rattle.item_rules.specs.declared.Found.{Found}
 use Rattle.item_rules.specs.declared.Found.the-variants as found
 use Rattle.item_rules.specs.Item.{stepIn, itemAt, bytesFor}
-use Rattle.item_rules.specs.Run.{nextOf, firstOf}
+use Rattle.item_rules.specs.Run.{nextOf, firstOf, nthOf}
 use Rattle.item_rules.proofs.Steps.{item-fits, item-at, zero-one}
 use Rattle.item_rules.proofs.Runs.{item-begins}
-use Rattle.item_rules.proofs.Finds.{found-stands}
+use Rattle.item_rules.proofs.Finds.{found-stands, nth-stands}
 use Rattle.tag_rules.specs.declared.Located.the-variants as located
-use Rattle.tag_rules.specs.Find.{wholeRun, checkOf, inPacket, inStanding, locateOf, valueOf}
-use Rattle.tag_rules.specs.Claims.{Shown, FoundShown}
+use Rattle.tag_rules.specs.Find.{wholeRun, checkOf, inPacket, inStanding, locateOf, locateNthOf, valueOf}
+use Rattle.tag_rules.specs.Claims.{Shown, FoundShown, NthShown}
 
 -- an item that stands in a packet
 pub shown : (s : List ℕ) (at : ℕ) (i : Item) → stepIn s at (length s) ≡ step.Item i → Shown s i
@@ -52,9 +52,30 @@ standing-by false b′ f g n m i q = absurd (zero-one (cc))
 -- an item that is found lies in the packet that it was found in, and its value is shown whole
 pub found-in : FoundShown
 unfolding locateOf
-found-in s t name i =
+found-in w s t name i =
     let f : Found = firstOf name (wholeRun s) in
     let g : Found = firstOf name (wholeRun t) in
-    let in-packet = packet-by (eqb (checkOf s) 0) (eqb (checkOf t) 0) f g (checkOf s) (checkOf t) i in
-    let in-standing = standing-by (eqb (checkOf s) 0) (eqb (checkOf t) 0) f g (checkOf s) (checkOf t) i in
+    let in-packet = packet-by (eqb (checkOf w s) 0) (eqb (checkOf w t) 0) f g (checkOf w s) (checkOf w t) i in
+    let in-standing = standing-by (eqb (checkOf w s) 0) (eqb (checkOf w t) 0) f g (checkOf w s) (checkOf w t) i in
     ((λ q. found-shown s name i (in-packet q)), (λ q. found-shown t name i (in-standing q)))
+
+-- ---- an occurrence
+
+-- by what the check and the search say
+nth-by : (b : Bool) (f : Found) (n : ℕ) (i : Item) → cond b (inPacket f (located.Refused 34)) (located.Refused n) ≡ located.Packet i → f ≡ found.At i
+nth-by true (found.At j) n i q = cc
+nth-by true found.Nothing n i q = absurd (zero-one (cc))
+nth-by false f n i q = absurd (zero-one (cc))
+
+no-standing : (b : Bool) (f : Found) (n : ℕ) (i : Item) → cond b (inPacket f (located.Refused 34)) (located.Refused n) ≡ located.Standing i → ⊥
+no-standing true (found.At j) n i q = zero-one (cc)
+no-standing true found.Nothing n i q = zero-one (cc)
+no-standing false f n i q = zero-one (cc)
+
+-- an occurrence lies in the packet, and its value is shown whole
+pub nth-in : NthShown
+unfolding locateNthOf
+nth-in w s name number i =
+    let f : Found = nthOf name number (wholeRun s) in
+    let there : f ≡ found.At i → Shown s i = λ q. let v = nth-stands s name (length s) number 0 i q in shown s (v .at) i (v .here) in
+    ((λ q. there (nth-by (eqb (checkOf w s) 0) f (checkOf w s) i q)), no-standing (eqb (checkOf w s) 0) f (checkOf w s) i)

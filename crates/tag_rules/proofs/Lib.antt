@@ -7,4 +7,5 @@ pub mod HandedOut
 pub mod Endings
 pub mod Inside
 pub mod Numbers
+pub mod Repeated
 pub mod Proved

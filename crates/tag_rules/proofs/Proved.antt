@@ -21,10 +21,12 @@ use Rattle.tag_rules.specs.Find.{checkOf}
 use Rattle.tag_rules.specs.Calls.{openedNumber, openCall, soughtNumber, locatedNumber, readOf}
 use Rattle.tag_rules.specs.Reading.{startOf, refusalOf, checkedRun, itemsOf, lastOf}
 use Rattle.tag_rules.specs.Claims.{OneOpened, OneSought, OneLocated, Opens, InOrder, Ends, StaysAtEnd, StaysRefused, ReadShown, FoundShown}
+use Rattle.tag_rules.specs.Claims.{NoTwice, AcceptedStill, FoundStill, NthBeyond, NthRefused, FindsFirst, StandingAside, NthShown}
 use Rattle.tag_rules.proofs.Reading.{handed-stands, after-is, refused-reads, refused-after}
 use Rattle.tag_rules.proofs.HandedOut.{stays, repeats, hands-run}
 use Rattle.tag_rules.proofs.Endings as endings
 use Rattle.tag_rules.proofs.Inside as inside
+use Rattle.tag_rules.proofs.Repeated as repeated
 
 pub one-opened : OneOpened
 unfolding openedNumber
@@ -68,14 +70,14 @@ opens-by (suc n) (opened.Refused m) e = (refl, cc)
 -- whatever answer fits, a reader begins at 0 and keeps the number that the check says
 pub opens : Opens
 unfolding openCall
-opens s o e = opens-by (checkOf s) o e
+opens w s o e = opens-by (checkOf w s) o e
 
 pub in-order : InOrder
 unfolding checkedRun itemsOf lastOf
-in-order s n =
-    either (eqb (checkOf s) 0) (λ q. rw (q, eqb-true (checkOf s) 0 q) (hands-run s n 0))
-    (λ q. rw q (repeats s 0 (checkOf s) (refused-after s 0 (checkOf s) (eqb-false (checkOf s) 0 q)) n n (le-refl n)
-    ∙ ap (λ (u : Step). take n (replicate n u)) (refused-reads s 0 (checkOf s) (eqb-false (checkOf s) 0 q))))
+in-order w s n =
+    either (eqb (checkOf w s) 0) (λ q. rw (q, eqb-true (checkOf w s) 0 q) (hands-run s n 0))
+    (λ q. rw q (repeats s 0 (checkOf w s) (refused-after s 0 (checkOf w s) (eqb-false (checkOf w s) 0 q)) n n (le-refl n)
+    ∙ ap (λ (u : Step). take n (replicate n u)) (refused-reads s 0 (checkOf w s) (eqb-false (checkOf w s) 0 q))))
 
 pub ends : Ends
 ends = endings.ends
@@ -93,3 +95,31 @@ read-shown s at refusal i e = inside.shown s at i (handed-stands s at refusal i 
 
 pub found-shown : FoundShown
 found-shown = inside.found-in
+
+-- where names may repeat, no packet is refused with 31,
+pub no-twice : NoTwice
+no-twice = repeated.no-twice
+
+-- and nothing else changes
+pub accepted-still : AcceptedStill
+accepted-still = repeated.accepted-still
+
+pub found-still : FoundStill
+found-still = repeated.found-still
+
+-- an occurrence is one of the packet's items of the name, in their order, or 34
+pub nth-beyond : NthBeyond
+nth-beyond = repeated.nth-beyond
+
+pub nth-refused : NthRefused
+nth-refused = repeated.nth-refused
+
+-- finding shows occurrence 0 of a name that the packet holds
+pub finds-first : FindsFirst
+finds-first = repeated.finds-first
+
+pub standing-aside : StandingAside
+standing-aside = repeated.standing-aside
+
+pub nth-shown : NthShown
+nth-shown = inside.nth-in

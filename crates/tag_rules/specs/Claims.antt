@@ -1,18 +1,21 @@
 -- What document 01 says of a reader and of a search, as claims: each is proved in proofs/Proved.antt.
+use mathlib.Core.Bool.{true, false}
 use mathlib.Core.Path.{_≡_}
 use mathlib.Core.List.{List, _++_}
 use Prim.Native.Nat.{ℕ, _≤_, _<_}
-use lib.ListN.{length, take, replicate}
+use lib.ListN.{length, getD, take, replicate}
 use Rattle.item_rules.specs.declared.Bytes.{Bytes}
 use Rattle.item_rules.specs.declared.Item.{Item}
+use Rattle.item_rules.specs.declared.Repeats.{Repeats}
+use Rattle.item_rules.specs.declared.Repeats.the-variants.{Forbidden, Allowed}
 use Rattle.item_rules.specs.declared.Step.the-variants as step
 use Rattle.item_rules.specs.Item.{head, bytesFor}
-use Rattle.item_rules.specs.Run.{Run, nextOf}
+use Rattle.item_rules.specs.Run.{Run, nextOf, hasName, namedIn}
 use Rattle.tag_rules.specs.declared.Located.{Located}
 use Rattle.tag_rules.specs.declared.Located.the-variants as located
 use Rattle.tag_rules.specs.declared.Opened.{Opened}
 use Rattle.tag_rules.specs.declared.Sought.{Sought}
-use Rattle.tag_rules.specs.Find.{wholeRun, checkOf, locateOf, valueOf}
+use Rattle.tag_rules.specs.Find.{wholeRun, checkOf, locateOf, locateNthOf, valueOf}
 use Rattle.tag_rules.specs.Calls.{openedNumber, openCall, readOf, soughtNumber, locatedNumber}
 use Rattle.tag_rules.specs.Reading.{startOf, refusalOf, handed, standsAfter, checkedRun, itemsOf, lastOf}
 
@@ -30,12 +33,13 @@ OneLocated = (a b : Located) → locatedNumber a ≡ locatedNumber b → a ≡ b
 
 -- "Opening a reader checks the whole packet": whatever answer fits, the reader stands at 0 and keeps what the check says
 abbrev pub Opens : Type 0
-Opens = (s : List ℕ) (o : Opened) → openedNumber o ≡ openCall s → (startOf o ≡ 0) × (refusalOf o ≡ checkOf s)
+Opens = (w : Repeats) (s : List ℕ) (o : Opened) → openedNumber o ≡ openCall w s → (startOf o ≡ 0) × (refusalOf o ≡ checkOf w s)
 
 -- "hands out its items one after another. A step after the last item answers END with the count of padding bytes", for ever; a refused one
 -- answers its refusal
 abbrev pub InOrder : Type 0
-InOrder = (s : List ℕ) (n : ℕ) → handed n s 0 (checkOf s) ≡ take n (itemsOf (checkedRun s) ++ replicate n (lastOf (checkedRun s)))
+InOrder =
+    (w : Repeats) (s : List ℕ) (n : ℕ) → handed n s 0 (checkOf w s) ≡ take n (itemsOf (checkedRun w s) ++ replicate n (lastOf (checkedRun w s)))
 
 -- a packet that is not refused ends with END, and 7 or fewer bytes are its padding
 pub record Padded (r : Run) : Type 0 where
@@ -45,7 +49,7 @@ pub record Padded (r : Run) : Type 0 where
 
 -- every packet that is not refused does
 abbrev pub Ends : Type 0
-Ends = (s : List ℕ) → checkOf s ≡ 0 → Padded (wholeRun s)
+Ends = (w : Repeats) (s : List ℕ) → checkOf w s ≡ 0 → Padded (wholeRun s)
 
 -- "and the reader stays there": so it does at the end,
 abbrev pub StaysAtEnd : Type 0
@@ -67,5 +71,50 @@ ReadShown = (s : List ℕ) (at refusal : ℕ) (i : Item) → readOf s at refusal
 
 -- and of one that a search finds, in the packet or in the standing packet
 abbrev pub FoundShown : Type 0
-FoundShown = (s t : List ℕ) (name : ℕ) (i : Item)
-    → (locateOf s t name ≡ located.Packet i → Shown s i) × (locateOf s t name ≡ located.Standing i → Shown t i)
+FoundShown = (w : Repeats) (s t : List ℕ) (name : ℕ) (i : Item)
+    → (locateOf w s t name ≡ located.Packet i → Shown s i) × (locateOf w s t name ≡ located.Standing i → Shown t i)
+
+-- ---- document 02, Item 1: where names may repeat
+
+-- "31 only when repeats are forbidden": where they may, no packet is refused with 31
+abbrev pub NoTwice : Type 0
+NoTwice = (s : List ℕ) → checkOf Allowed s ≡ 31 → ⊥
+
+-- only 31 goes: a packet that is not refused with it has the same number with either word, and gives the same to read
+abbrev pub AcceptedStill : Type 0
+AcceptedStill = (s : List ℕ) → (checkOf Forbidden s ≡ 31 → ⊥)
+    → (checkOf Allowed s ≡ checkOf Forbidden s) × (checkedRun Allowed s ≡ checkedRun Forbidden s)
+
+-- and so a name is found in the same place, or refused with the same number, where neither packet is
+abbrev pub FoundStill : Type 0
+FoundStill = (s t : List ℕ) (name : ℕ) → (checkOf Forbidden s ≡ 31 → ⊥) → (checkOf Forbidden t ≡ 31 → ⊥)
+    → locateOf Allowed s t name ≡ locateOf Forbidden s t name
+
+-- an occurrence is one of the packet's items of that name, in their order, counted from 0; beyond the last there is none, 34 ABSENT
+pub record Occurs (w : Repeats) (s : List ℕ) (name number : ℕ) : Type 0 where
+  pub below : number < length (namedIn name (wholeRun s)) → (i : Item)
+      → locateNthOf w s name number ≡ located.Packet (getD (namedIn name (wholeRun s)) number i)
+  pub beyond : length (namedIn name (wholeRun s)) ≤ number → locateNthOf w s name number ≡ located.Refused 34
+
+-- so it is of every packet that is not refused,
+abbrev pub NthBeyond : Type 0
+NthBeyond = (w : Repeats) (s : List ℕ) (name number : ℕ) → checkOf w s ≡ 0 → Occurs w s name number
+
+-- and of one that is refused no occurrence is shown
+abbrev pub NthRefused : Type 0
+NthRefused = (w : Repeats) (s : List ℕ) (name number : ℕ) → (checkOf w s ≡ 0 → ⊥) → locateNthOf w s name number ≡ located.Refused (checkOf w s)
+
+-- "finding by name shows the first": where the packet holds the name, that is its occurrence 0
+abbrev pub FindsFirst : Type 0
+FindsFirst = (w : Repeats) (s t : List ℕ) (name : ℕ) → checkOf w t ≡ 0 → hasName name (wholeRun s) ≡ true
+    → locateOf w s t name ≡ locateNthOf w s name 0
+
+-- "without the standing packet": a name that the packet does not hold has no occurrence, whatever a standing packet holds
+abbrev pub StandingAside : Type 0
+StandingAside = (w : Repeats) (s : List ℕ) (name number : ℕ) → checkOf w s ≡ 0 → hasName name (wholeRun s) ≡ false
+    → locateNthOf w s name number ≡ located.Refused 34
+
+-- an occurrence lies in the packet, and its value is shown whole; it is never one of a standing packet
+abbrev pub NthShown : Type 0
+NthShown = (w : Repeats) (s : List ℕ) (name number : ℕ) (i : Item)
+    → (locateNthOf w s name number ≡ located.Packet i → Shown s i) × (locateNthOf w s name number ≡ located.Standing i → ⊥)

@@ -9,7 +9,8 @@ use denote.Ref.{RefT, ptr, now}
 use Rattle.item_rules.specs.declared.Item.{Item}
 use Rattle.item_rules.specs.declared.Found.{Found}
 use Rattle.item_rules.specs.declared.Found.the-variants as found
-use Rattle.item_rules.specs.Run.{Run, runOf, firstOf, faultsOf}
+use Rattle.item_rules.specs.declared.Repeats.{Repeats}
+use Rattle.item_rules.specs.Run.{Run, runOf, firstOf, nthOf, faultsOf}
 use Rattle.tag_rules.specs.declared.Located.{Located}
 use Rattle.tag_rules.specs.declared.Located.the-variants as located
 
@@ -17,9 +18,9 @@ use Rattle.tag_rules.specs.declared.Located.the-variants as located
 abbrev pub wholeRun : List ℕ → Run
 wholeRun s = runOf s 0 (length s)
 
--- document 01: the number of the leftmost item at fault of a whole packet, 0 where none is
-unfoldable pub checkOf : List ℕ → ℕ
-checkOf s = faultsOf [] (wholeRun s)
+-- document 01: the number of the leftmost item at fault of a whole packet, 0 where none is; document 02, Item 1: by the caller's word
+unfoldable pub checkOf : Repeats → List ℕ → ℕ
+checkOf w s = faultsOf w [] (wholeRun s)
 
 -- in the packet, or as the rest says
 abbrev pub inPacket : Found → Located → Located
@@ -32,11 +33,16 @@ inStanding (found.At i) = located.Standing i
 inStanding found.Nothing = located.Refused 34
 
 -- document 01: both are checked whole before either is searched, the packet s first; then the first that holds the name, the packet first
-unfoldable pub locateOf : List ℕ → List ℕ → ℕ → Located
-locateOf s t name =
-    cond (eqb (checkOf s) 0)
-    (cond (eqb (checkOf t) 0) (inPacket (firstOf name (wholeRun s)) (inStanding (firstOf name (wholeRun t)))) (located.Refused (checkOf t)))
-    (located.Refused (checkOf s))
+unfoldable pub locateOf : Repeats → List ℕ → List ℕ → ℕ → Located
+locateOf w s t name =
+    cond (eqb (checkOf w s) 0)
+    (cond (eqb (checkOf w t) 0) (inPacket (firstOf name (wholeRun s)) (inStanding (firstOf name (wholeRun t)))) (located.Refused (checkOf w t)))
+    (located.Refused (checkOf w s))
+
+-- document 02, Item 1, "over the packet alone, without the standing packet": it is checked whole; then the occurrence of that number, or 34 ABSENT
+unfoldable pub locateNthOf : Repeats → List ℕ → ℕ → ℕ → Located
+locateNthOf w s name number =
+    cond (eqb (checkOf w s) 0) (inPacket (nthOf name number (wholeRun s)) (located.Refused 34)) (located.Refused (checkOf w s))
 
 -- document 01: the value of an item is a part of the packet that it stands in
 unfoldable pub valueOf : List ℕ → Item → List ℕ
@@ -62,7 +68,14 @@ placeBy p t (located.Packet i) = beginsIn p i
 placeBy p t (located.Standing i) = beginsIn t i
 placeBy p t (located.Refused n) = ptr p
 
--- document 01: the part r that a search by name shows, its bytes and its place
-abbrev pub PartShown : RefT (List ℕ) → RefT (List ℕ) → ℕ → RefT (List ℕ) → Type 0
-PartShown p t name r =
-    (now r ≡ shownBy (now p) (now t) (locateOf (now p) (now t) name)) × (ptr r ≡ placeBy p t (locateOf (now p) (now t) name))
+-- document 01: the part r that is shown, its bytes and its place
+abbrev pub PartAt : RefT (List ℕ) → RefT (List ℕ) → Located → RefT (List ℕ) → Type 0
+PartAt p t l r = (now r ≡ shownBy (now p) (now t) l) × (ptr r ≡ placeBy p t l)
+
+-- document 01: the one that a search by name shows
+abbrev pub PartShown : Repeats → RefT (List ℕ) → RefT (List ℕ) → ℕ → RefT (List ℕ) → Type 0
+PartShown w p t name r = PartAt p t (locateOf w (now p) (now t) name) r
+
+-- document 02, Item 1: the one that a search for an occurrence shows; no standing packet is lent, so the packet stands in its place
+abbrev pub NthPartShown : Repeats → RefT (List ℕ) → ℕ → ℕ → RefT (List ℕ) → Type 0
+NthPartShown w p name number r = PartAt p p (locateNthOf w (now p) name number) r

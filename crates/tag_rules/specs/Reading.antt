@@ -3,6 +3,7 @@ use mathlib.Core.Bool.{cond}
 use mathlib.Core.List.{List, [], _∷_}
 use Prim.Native.Nat.{ℕ, zero, suc}
 use lib.Dec.{eqb}
+use Rattle.item_rules.specs.declared.Repeats.{Repeats}
 use Rattle.item_rules.specs.declared.Step.{Step}
 use Rattle.item_rules.specs.declared.Step.the-variants as step
 use Rattle.item_rules.specs.Run.{Run, item, padding, refused}
@@ -32,8 +33,8 @@ standsAfter zero s at refusal = at
 standsAfter (suc n) s at refusal = standsAfter n s (afterOf s at refusal) refusal
 
 -- document 01: what a packet gives to read: its run, or, where it is refused, the refusal alone
-unfoldable pub checkedRun : List ℕ → Run
-checkedRun s = cond (eqb (checkOf s) 0) (wholeRun s) (refused (checkOf s))
+unfoldable pub checkedRun : Repeats → List ℕ → Run
+checkedRun w s = cond (eqb (checkOf w s) 0) (wholeRun s) (refused (checkOf w s))
 
 -- the items of a run, in order,
 unfoldable pub itemsOf : Run → List Step

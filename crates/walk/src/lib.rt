@@ -4,6 +4,7 @@ mod names;
 mod steps;
 mod whole;
 
+use item::Repeats;
 use walk_rules::DEEPEST;
 pub use walk_rules::Handed;
 pub use walk_rules::LEVELS;
@@ -14,10 +15,10 @@ ghost use mathlib.Core.Path.{_≡_};
 ghost use Rattle.walk_rules.specs.Step.{opens, walkStep, handedNumber, walkCall};
 
 // Opens a walk: the list of names, four bytes each, and the whole packet with all that its containers hold are checked first.
-pub fn open_walk(packet: &[u8], names: &[u8]) -> Walker
-    ensures { λ r. ⌜ r ≡ opens (now (packet .entry)) (now (names .entry)) ⌝ }
+pub fn open_walk(packet: &[u8], names: &[u8], repeats: Repeats) -> Walker
+    ensures { λ r. ⌜ r ≡ opens repeats (now (packet .entry)) (now (names .entry)) ⌝ }
 {
-    let refusal = whole::check(packet, names);
+    let refusal = whole::check(packet, names, repeats);
     let n = packet.len();
     Walker {
         refusal,

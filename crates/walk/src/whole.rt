@@ -3,6 +3,7 @@ use crate::DEEPEST;
 use crate::names::fault;
 use crate::names::is_container;
 use item::Item;
+use item::Repeats;
 use item::Step;
 ghost use mathlib.Core.Path.{_≡_};
 ghost use mathlib.Core.Bool.{_&&_};
@@ -14,9 +15,16 @@ ghost use Rattle.walk_rules.specs.Walk.{tourAt, refusal, walkOf};
 ghost use Rattle.walk_rules.specs.inner.Whole.{itemRefusal};
 
 // The number with which the walk of the packet from `from` to `end` is refused, or 0. The marks tell which names have not stood before.
-fn walk_packet(s: &[u8], names: &[u8], from: usize, end: usize, depth: usize) -> u8
+fn walk_packet(
+    s: &[u8],
+    names: &[u8],
+    repeats: Repeats,
+    from: usize,
+    end: usize,
+    depth: usize,
+) -> u8
     requires { ⌜ depth ≤ deepest + 1 ⌝ }
-    ensures { λ r. ⌜ r ≡ refusal (tourAt (deepest + 1 - depth) (now (s .entry)) (namesOf (now (names .entry))) depth []
+    ensures { λ r. ⌜ r ≡ refusal (tourAt repeats (deepest + 1 - depth) (now (s .entry)) (namesOf (now (names .entry))) depth []
         (runOf (now (s .entry)) from end)) ⌝ }
 {
     let mut marks = item::no_marks();
@@ -26,7 +34,8 @@ fn walk_packet(s: &[u8], names: &[u8], from: usize, end: usize, depth: usize) ->
         match step {
             Step::Item(i) => {
                 let h = item::slot(i.name);
-                let n = walk_item(s, names, from, end, depth, i, marks[h]);
+                let mark = item::marked(repeats, marks[h]);
+                let n = walk_item(s, names, repeats, from, end, depth, i, mark);
                 if n != 0 {
                     return n;
                 }
@@ -47,6 +56,7 @@ fn walk_packet(s: &[u8], names: &[u8], from: usize, end: usize, depth: usize) ->
 fn walk_item(
     s: &[u8],
     names: &[u8],
+    repeats: Repeats,
     from: usize,
     end: usize,
     depth: usize,
@@ -54,7 +64,7 @@ fn walk_item(
     mark: bool,
 ) -> u8
     requires { ⌜ (depth ≤ deepest + 1) × (nextOf i ≤ end) ⌝ }
-    ensures { λ r. ⌜ r ≡ itemRefusal (deepest + 1 - depth) (now (s .entry)) (namesOf (now (names .entry))) depth
+    ensures { λ r. ⌜ r ≡ itemRefusal repeats (deepest + 1 - depth) (now (s .entry)) (namesOf (now (names .entry))) depth
         (mark && isBefore (firstOf (i .name) (runOf (now (s .entry)) from end)) (i .from)) i ⌝ }
 {
     let n = item::fault_of(s, from, end, i, mark);
@@ -71,28 +81,28 @@ fn walk_item(
         return 32;
     }
     if inside {
-        walk_value(s, names, depth, i)
+        walk_value(s, names, repeats, depth, i)
     } else {
         0
     }
 }
 
 // The same for a container's value.
-fn walk_value(s: &[u8], names: &[u8], depth: usize, i: Item) -> u8
+fn walk_value(s: &[u8], names: &[u8], repeats: Repeats, depth: usize, i: Item) -> u8
     requires { ⌜ (depth ≤ deepest) × (nextOf i < 2 ^ 64) ⌝ }
-    ensures { λ r. ⌜ r ≡ refusal (tourAt (deepest - depth) (now (s .entry)) (namesOf (now (names .entry))) (depth + 1) []
+    ensures { λ r. ⌜ r ≡ refusal (tourAt repeats (deepest - depth) (now (s .entry)) (namesOf (now (names .entry))) (depth + 1) []
         (runOf (now (s .entry)) (i .from) (nextOf i))) ⌝ }
 {
-    walk_packet(s, names, i.from, i.from + i.len.0, depth + 1)
+    walk_packet(s, names, repeats, i.from, i.from + i.len.0, depth + 1)
 }
 
 // The number with which the walk of a whole packet is refused, or 0.
-pub fn check(packet: &[u8], names: &[u8]) -> u8
-    ensures { λ r. ⌜ r ≡ refusal (walkOf (now (packet .entry)) (now (names .entry))) ⌝ }
+pub fn check(packet: &[u8], names: &[u8], repeats: Repeats) -> u8
+    ensures { λ r. ⌜ r ≡ refusal (walkOf repeats (now (packet .entry)) (now (names .entry))) ⌝ }
 {
     let n = fault(names);
     if n != 0 {
         return n;
     }
-    walk_packet(packet, names, 0, packet.len(), 0)
+    walk_packet(packet, names, repeats, 0, packet.len(), 0)
 }

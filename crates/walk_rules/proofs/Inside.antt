@@ -2,7 +2,7 @@
 use Prim.Native.Nat.{ℕ, zero, suc, _+_, _≤_, min}
 use mathlib.Core.List.{List, [], _∷_}
 use mathlib.Core.Path.{_≡_, refl, subst}
-use mathlib.Core.Bool.{Bool, true, false, cond}
+use mathlib.Core.Bool.{Bool, true, false, cond, _&&_}
 use native.Mathlib.Omega.{arith}
 use native.Mathlib.Nat.{le-refl}
 use lib.Dec.{eqb}
@@ -10,10 +10,11 @@ use lib.ListN.{length}
 use borrow.Author.Tests.{eqb-true}
 use Rattle.base_rules.specs.Tests.{among}
 use Rattle.item_rules.specs.declared.Item.{Item}
+use Rattle.item_rules.specs.declared.Repeats.{Repeats}
 use Rattle.item_rules.specs.declared.Step.{Step}
 use Rattle.item_rules.specs.declared.Step.the-variants as step
 use Rattle.item_rules.specs.Item.{stepIn}
-use Rattle.item_rules.specs.Run.{Run, item, padding, refused, nextOf, onStep, runIn, runOf}
+use Rattle.item_rules.specs.Run.{Run, item, padding, refused, nextOf, onStep, runIn, runOf, forbids}
 use Rattle.item_rules.proofs.Steps.{item-fits, item-at}
 use Rattle.item_rules.proofs.Runs.{item-begins}
 use Rattle.walk_rules.specs.declared.Handed.{Handed}
@@ -74,33 +75,33 @@ module _ (s : List ℕ) where
   visits-then (ends p) u v w = w
   visits-then (stops n) u v w = visits-unless n u (λ z. w)
 
-  module _ (inner : Item → Tour) (cs : List ℕ) (d : ℕ) (deeper : (i : Item) → nextOf i ≤ length s → Visits (Within s) (inner i)) where
+  module _ (word : Repeats) (inner : Item → Tour) (cs : List ℕ) (d : ℕ) (deeper : (i : Item) → nextOf i ≤ length s → Visits (Within s) (inner i)) where
     contents : (b : Bool) (i : Item) → nextOf i ≤ length s → Visits (Within s) (cond b (inner i) (ends 0))
     contents true i h = deeper i h
     contents false i h = end
 
-    visits-by : (seen : List ℕ) (r : Run) → Items r → Visits (Within s) (tourBy inner cs d seen r)
+    visits-by : (seen : List ℕ) (r : Run) → Items r → Visits (Within s) (tourBy word inner cs d seen r)
     unfolding tourBy
     visits-by seen (item i r) (more-items p v) =
-        visits-unless (walkFault cs d (among (i .name) seen) i) _ (λ z.
-        let shallow = not-too-deep cs d (among (i .name) seen) i z in
+        visits-unless (walkFault cs d (forbids word && among (i .name) seen) i) _ (λ z.
+        let shallow = not-too-deep cs d (forbids word && among (i .name) seen) i z in
         more (record { at = p .at; spelt = p .spelt; inside = p .inside; shallow = shallow })
         (visits-then _ _ (contents (among (i .name) cs) i (p .inside)) (visits-by (i .name ∷ seen) r v)))
     visits-by seen (padding p) v = end
     visits-by seen (refused n) v = stop
 
-  visits-at : (k : ℕ) (cs : List ℕ) (d : ℕ) (seen : List ℕ) (r : Run) → Items r → Visits (Within s) (tourAt k s cs d seen r)
+  visits-at : (word : Repeats) (k : ℕ) (cs : List ℕ) (d : ℕ) (seen : List ℕ) (r : Run) → Items r → Visits (Within s) (tourAt word k s cs d seen r)
   unfolding tourAt
-  visits-at zero cs d seen r v = visits-by (λ i. ends 0) cs d (λ i h. end) seen r v
-  visits-at (suc k) cs d seen r v =
-      visits-by (λ i. tourAt k s cs (d + 1) [] (runOf s (i .from) (nextOf i))) cs d
-      (λ i h. visits-at k cs (d + 1) [] (runOf s (i .from) (nextOf i)) (run-items (i .from) (nextOf i) h)) seen r v
+  visits-at word zero cs d seen r v = visits-by word (λ i. ends 0) cs d (λ i h. end) seen r v
+  visits-at word (suc k) cs d seen r v =
+      visits-by word (λ i. tourAt word k s cs (d + 1) [] (runOf s (i .from) (nextOf i))) cs d
+      (λ i h. visits-at word k cs (d + 1) [] (runOf s (i .from) (nextOf i)) (run-items (i .from) (nextOf i) h)) seen r v
 
 -- each item that a walk comes to lies in the packet, at no depth below the deepest
 pub walk-inside : WalkInside
 unfolding walkOf
-walk-inside s l =
-    visits-unless s (namesFault l) _ (λ z. visits-at s (deepest + 1) (namesOf l) 0 [] _ (run-items s 0 (length s) (le-refl (length s))))
+walk-inside word s l =
+    visits-unless s (namesFault l) _ (λ z. visits-at s word (deepest + 1) (namesOf l) 0 [] _ (run-items s 0 (length s) (le-refl (length s))))
 
 -- ---- a step
 

@@ -12,4 +12,5 @@ pub mod Inside
 pub mod NoContainers
 pub mod Values
 pub mod ValueWalks
+pub mod Repeated
 pub mod Proved

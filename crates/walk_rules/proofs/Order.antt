@@ -12,6 +12,7 @@ use Rattle.base_rules.specs.Tests.{among}
 use Rattle.base_rules.proofs.Logic.{either}
 use Rattle.item_rules.specs.declared.Bytes.{Bytes}
 use Rattle.item_rules.specs.declared.Item.{Item}
+use Rattle.item_rules.specs.declared.Repeats.{Repeats}
 use Rattle.item_rules.specs.declared.Step.{Step}
 use Rattle.item_rules.specs.declared.Step.the-variants as step
 use Rattle.item_rules.specs.Item.{stepIn}
@@ -173,32 +174,32 @@ hands-refusal s l (suc n) w h =
     ∙ ap (λ (y : List Handed). handed.Refused (w .refusal) ∷ y) (hands-refusal s l n w h)
 
 -- where a whole walk is not refused, its list of names is not
-list-clear : (s l : List ℕ) → refusal (walkOf s l) ≡ 0 → namesFault l ≡ 0
-list-clear s l z =
+list-clear : (word : Repeats) (s l : List ℕ) → refusal (walkOf word s l) ≡ 0 → namesFault l ≡ 0
+list-clear word s l z =
     either (eqb (namesFault l) 0) (eqb-true (namesFault l) 0)
-    (λ q. let h = eqb-false (namesFault l) 0 q in absurd (h (list-refused s l (namesFault l) refl h ∙ z)))
+    (λ q. let h = eqb-false (namesFault l) 0 q in absurd (h (list-refused word s l (namesFault l) refl h ∙ z)))
 
 -- the whole walk, where it is not refused, is what is left where it opens
-opens-whole : (s l : List ℕ) → refusal (walkOf s l) ≡ 0 → walkOf s l ≡ leftOf s (namesOf l) (opens s l)
+opens-whole : (word : Repeats) (s l : List ℕ) → refusal (walkOf word s l) ≡ 0 → walkOf word s l ≡ leftOf s (namesOf l) (opens word s l)
 unfolding walkOf opens restOf endOf
-opens-whole s l z =
-    let t = tourAt (deepest + 1) s (namesOf l) 0 [] (runOf s 0 (length s)) in
+opens-whole word s l z =
+    let t = tourAt word (deepest + 1) s (namesOf l) 0 [] (runOf s 0 (length s)) in
     let x = not-tested (namesFault l) t z in
     let m : min (length s) (length s) ≡ length s = omega arith in
-    x .0 ∙ plain s (namesOf l) deepest 0 [] (runOf s 0 (length s)) refl (x .1) ∙ sym (ap (λ (n : ℕ). plainAt deepest s (namesOf l) 0 (runOf s 0 n)) m)
+    x .0 ∙ plain word s (namesOf l) deepest 0 [] (runOf s 0 (length s)) refl (x .1) ∙ sym (ap (λ (n : ℕ). plainAt deepest s (namesOf l) 0 (runOf s 0 n)) m)
 
-opens-stands : (s l : List ℕ) → refusal (walkOf s l) ≡ 0 → Stands s (namesOf l) (opens s l)
+opens-stands : (word : Repeats) (s l : List ℕ) → refusal (walkOf word s l) ≡ 0 → Stands s (namesOf l) (opens word s l)
 unfolding opens
-opens-stands s l z = record { sized = refl; deep = omega arith; open-still = z; sound = sym (ap refusal (opens-whole s l z)) ∙ z }
+opens-stands word s l z = record { sized = refl; deep = omega arith; open-still = z; sound = sym (ap refusal (opens-whole word s l z)) ∙ z }
 
 -- from its opening on, n steps hand out what is due of the whole walk: its items and its end, or its refusal
-pub ordered : (s l : List ℕ) (n : ℕ) → handsOut n s l (opens s l) ≡ due n (walkOf s l)
+pub ordered : (word : Repeats) (s l : List ℕ) (n : ℕ) → handsOut n s l (opens word s l) ≡ due n (walkOf word s l)
 unfolding due opens
-ordered s l n =
-    either (eqb (refusal (walkOf s l)) 0)
+ordered word s l n =
+    either (eqb (refusal (walkOf word s l)) 0)
     (λ q.
-    let z = eqb-true (refusal (walkOf s l)) 0 q in
-    hands-left s l (list-clear s l z) n n (opens s l) (le-refl n) (opens-stands s l z)
-    ∙ ap (λ (t : Tour). take n (told n t)) (sym (opens-whole s l z))
+    let z = eqb-true (refusal (walkOf word s l)) 0 q in
+    hands-left s l (list-clear word s l z) n n (opens word s l) (le-refl n) (opens-stands word s l z)
+    ∙ ap (λ (t : Tour). take n (told n t)) (sym (opens-whole word s l z))
     ∙ sym (simp q))
-    (λ q. hands-refusal s l n (opens s l) (eqb-false (refusal (walkOf s l)) 0 q) ∙ sym (simp q))
+    (λ q. hands-refusal s l n (opens word s l) (eqb-false (refusal (walkOf word s l)) 0 q) ∙ sym (simp q))

@@ -9,7 +9,8 @@ use borrow.Author.Tests.{eq-eqb, eqb-true, eqb-false, ltb-false}
 use Rattle.base_rules.specs.Tests.{among}
 use Rattle.base_rules.proofs.Firsts.{clear, clear-rest}
 use Rattle.item_rules.specs.declared.Item.{Item}
-use Rattle.item_rules.specs.Run.{Run, item, padding, refused, nextOf, runOf, orElse, faultOf}
+use Rattle.item_rules.specs.declared.Repeats.{Repeats}
+use Rattle.item_rules.specs.Run.{Run, item, padding, refused, nextOf, runOf, orElse, faultOf, forbids}
 use Rattle.walk_rules.specs.Names.{deepest}
 use Rattle.walk_rules.specs.Walk.{Tour, visit, ends, stops, unless, andThen, walkFault, tourBy, tourAt, refusal}
 use Rattle.walk_rules.proofs.Refusals.{then-refusal, unless-refusal}
@@ -79,22 +80,22 @@ not-too-deep cs d b i q =
     ltb-false deepest d (clear (ltb deepest d) 32 [] (eqb-false 32 0 refl)
     (clear-rest (among (i .name) cs && not (eqb (i .bits .0 % 8) 0)) 35 _ (eqb-false 35 0 refl) r))
 
-module _ (s cs : List ℕ) where
+module _ (word : Repeats) (s cs : List ℕ) where
   -- where a run is walked with no refusal, its items have no fault, and their contents and what is behind them none
-  parts : (inner : Item → Tour) (d : ℕ) (seen : List ℕ) (i : Item) (r : Run) → refusal (tourBy inner cs d seen (item i r)) ≡ 0
-      → (walkFault cs d (among (i .name) seen) i ≡ 0) × (refusal (cond (among (i .name) cs) (inner i) (ends 0)) ≡ 0)
-      × (refusal (tourBy inner cs d (i .name ∷ seen) r) ≡ 0)
+  parts : (inner : Item → Tour) (d : ℕ) (seen : List ℕ) (i : Item) (r : Run) → refusal (tourBy word inner cs d seen (item i r)) ≡ 0
+      → (walkFault cs d (forbids word && among (i .name) seen) i ≡ 0) × (refusal (cond (among (i .name) cs) (inner i) (ends 0)) ≡ 0)
+      × (refusal (tourBy word inner cs d (i .name ∷ seen) r) ≡ 0)
   unfolding tourBy refusal
   parts inner d seen i r q =
-      let w = walkFault cs d (among (i .name) seen) i in
+      let w = walkFault cs d (forbids word && among (i .name) seen) i in
       let c = cond (among (i .name) cs) (inner i) (ends 0) in
-      let u = tourBy inner cs d (i .name ∷ seen) r in
+      let u = tourBy word inner cs d (i .name ∷ seen) r in
       let h = sym (unless-refusal w _) ∙ q in
       let k = sym (then-refusal c _) ∙ or-right w _ h in
       (or-left w _ h, or-left (refusal c) (refusal u) k, or-right (refusal c) (refusal u) k)
 
   plain-by : (inner inner′ : Item → Tour) (d : ℕ) → ((i : Item) → refusal (inner i) ≡ 0 → (u : Tour) → andThen (inner i) u ≡ andThen (inner′ i) u)
-      → (seen : List ℕ) (r : Run) → refusal (tourBy inner cs d seen r) ≡ 0 → tourBy inner cs d seen r ≡ plainBy inner′ cs d r
+      → (seen : List ℕ) (r : Run) → refusal (tourBy word inner cs d seen r) ≡ 0 → tourBy word inner cs d seen r ≡ plainBy inner′ cs d r
   unfolding tourBy plainBy
   plain-by inner inner′ d h seen (item i r) q =
       let p = parts inner d seen i r q in
@@ -112,10 +113,10 @@ module _ (s cs : List ℕ) where
   beyond d h k = omega arith
 
   -- below the deepest level nothing stands but padding
-  deep-ends : (inner : Item → Tour) (d : ℕ) (seen : List ℕ) (r : Run) → deepest < d → refusal (tourBy inner cs d seen r) ≡ 0 → (u : Tour)
-      → andThen (tourBy inner cs d seen r) u ≡ u
+  deep-ends : (inner : Item → Tour) (d : ℕ) (seen : List ℕ) (r : Run) → deepest < d → refusal (tourBy word inner cs d seen r) ≡ 0 → (u : Tour)
+      → andThen (tourBy word inner cs d seen r) u ≡ u
   unfolding tourBy refusal andThen
-  deep-ends inner d seen (item i r) h q u = absurd (beyond d h (not-too-deep cs d (among (i .name) seen) i (parts inner d seen i r q .0)))
+  deep-ends inner d seen (item i r) h q u = absurd (beyond d h (not-too-deep cs d (forbids word && among (i .name) seen) i (parts inner d seen i r q .0)))
   deep-ends inner d seen (padding p) h q u = refl
   deep-ends inner d seen (refused n) h q u = simp q
 
@@ -123,12 +124,12 @@ module _ (s cs : List ℕ) where
   next-level d k h = omega arith
 
   -- a walk that is not refused is the one with no fault looked for
-  pub plain : (k d : ℕ) (seen : List ℕ) (r : Run) → d + k ≡ deepest → refusal (tourAt (suc k) s cs d seen r) ≡ 0
-      → tourAt (suc k) s cs d seen r ≡ plainAt k s cs d r
+  pub plain : (k d : ℕ) (seen : List ℕ) (r : Run) → d + k ≡ deepest → refusal (tourAt word (suc k) s cs d seen r) ≡ 0
+      → tourAt word (suc k) s cs d seen r ≡ plainAt k s cs d r
   unfolding tourAt plainAt andThen
   plain zero d seen r h q =
-      plain-by (λ i. tourAt 0 s cs (d + 1) [] (runOf s (i .from) (nextOf i))) (λ i. ends 0) d
+      plain-by (λ i. tourAt word 0 s cs (d + 1) [] (runOf s (i .from) (nextOf i))) (λ i. ends 0) d
       (λ i e u. deep-ends (λ i. ends 0) (d + 1) [] (runOf s (i .from) (nextOf i)) (omega arith) e u) seen r q
   plain (suc k) d seen r h q =
-      plain-by (λ i. tourAt (suc k) s cs (d + 1) [] (runOf s (i .from) (nextOf i))) (λ i. plainAt k s cs (d + 1) (runOf s (i .from) (nextOf i))) d
+      plain-by (λ i. tourAt word (suc k) s cs (d + 1) [] (runOf s (i .from) (nextOf i))) (λ i. plainAt k s cs (d + 1) (runOf s (i .from) (nextOf i))) d
       (λ i e u. ap (λ (t : Tour). andThen t u) (plain k (d + 1) [] (runOf s (i .from) (nextOf i)) (next-level d k h) e)) seen r q

@@ -1,11 +1,12 @@
 -- The claims of specs/Claims.antt, each by citation.
-use Rattle.walk_rules.specs.Claims.{InOrder, OneHanded, WalkInside, StepInside, NoNames, ValueAsPacket, ValueWalked}
+use Rattle.walk_rules.specs.Claims.{InOrder, OneHanded, WalkInside, StepInside, NoNames, ValueAsPacket, ValueWalked, NoTwice, AcceptedStill}
 use Rattle.walk_rules.proofs.Order.{ordered}
 use Rattle.walk_rules.proofs.HandedNumbers.{number-tells}
 use Rattle.walk_rules.proofs.Inside as inside
 use Rattle.walk_rules.proofs.NoContainers as without
 use Rattle.walk_rules.proofs.Values as values
 use Rattle.walk_rules.proofs.ValueWalks as walks
+use Rattle.walk_rules.proofs.Repeated as repeated
 
 -- the step walk hands out what the recursive walk does: its items in order and its end, or its refusal
 pub in-order : InOrder
@@ -33,3 +34,11 @@ value-as-packet = values.value-as-packet
 -- and so it is of all that the containers among them hold
 pub value-walked : ValueWalked
 value-walked = walks.value-walked
+
+-- where names may repeat, no walk is refused with 31,
+pub no-twice : NoTwice
+no-twice = repeated.no-twice
+
+-- and nothing else changes
+pub accepted-still : AcceptedStill
+accepted-still = repeated.accepted-still

@@ -4,17 +4,19 @@ use mathlib.Core.List.{List, [], _∷_}
 use mathlib.Core.Path.{_≡_, refl, sym, ap, _∙_}
 use mathlib.Core.Bool.{Bool, true, false, cond, not, _&&_}
 use native.Mathlib.Omega.{arith}
-use lib.ListN.{length, set}
+use lib.ListN.{length, getD, set}
 use lib.Dec.{eqb, ltb}
 use borrow.Author.Tests.{eq-eqb, ne-eqb, lt-ltb, le-ltb, eqb-true}
 use Rattle.base_rules.specs.Tests.{first, among}
 use Rattle.base_rules.proofs.Firsts.{due, skip, none-due}
 use Rattle.item_rules.specs.declared.Item.{Item}
+use Rattle.item_rules.specs.declared.Repeats.{Repeats}
 use Rattle.item_rules.specs.declared.Bytes.{Bytes}
 use Rattle.item_rules.specs.declared.Step.the-variants as step
 use Rattle.item_rules.specs.Item.{stepIn}
-use Rattle.item_rules.specs.Run.{Run, item, padding, refused, nextOf, runOf, faultOf, orElse, slots}
+use Rattle.item_rules.specs.Run.{Run, item, padding, refused, nextOf, runOf, firstOf, faultOf, orElse, forbids, isBefore, slots}
 use Rattle.item_rules.proofs.Runs.{run-end, run-refused}
+use Rattle.item_rules.proofs.Repeated.{counts}
 use Rattle.item_rules.proofs.Seen.{Seen, ByItem, again, turn, stops}
 use Rattle.walk_rules.specs.Names.{deepest, namesOf, namesFault}
 use Rattle.walk_rules.specs.Walk.{Tour, visit, ends, stops as halts, unless, andThen, walkFault, tourBy, tourAt, refusal, walkOf}
@@ -61,26 +63,30 @@ or-none n b = go (eqb n 0) b refl
     go false y q = refl
 
 -- an item, its contents, and the items behind it
-by-item : (inner : Item → Tour) (cs : List ℕ) (d : ℕ) (seen : List ℕ) (i : Item) (r : Run)
-    → refusal (tourBy inner cs d seen (item i r))
-    ≡ orElse (orElse (walkFault cs d (among (i .name) seen) i) (cond (among (i .name) cs) (refusal (inner i)) 0))
-    (refusal (tourBy inner cs d (i .name ∷ seen) r))
+pub by-item : (word : Repeats) (inner : Item → Tour) (cs : List ℕ) (d : ℕ) (seen : List ℕ) (i : Item) (r : Run)
+    → refusal (tourBy word inner cs d seen (item i r))
+    ≡ orElse (orElse (walkFault cs d (forbids word && among (i .name) seen) i) (cond (among (i .name) cs) (refusal (inner i)) 0))
+    (refusal (tourBy word inner cs d (i .name ∷ seen) r))
 unfolding tourBy refusal
-by-item inner cs d seen i r =
-    let w = walkFault cs d (among (i .name) seen) i in
+by-item word inner cs d seen i r =
+    let w = walkFault cs d (forbids word && among (i .name) seen) i in
     let c = cond (among (i .name) cs) (inner i) (ends 0) in
-    let u = tourBy inner cs d (i .name ∷ seen) r in
+    let u = tourBy word inner cs d (i .name ∷ seen) r in
     unless-refusal w _
     ∙ ap (orElse w) (then-refusal c _ ∙ ap (λ (n : ℕ). orElse n (refusal u)) (within-refusal (among (i .name) cs) (inner i)))
     ∙ or-assoc w (cond (among (i .name) cs) (refusal (inner i)) 0) (refusal u)
 
-walk-by-item : (k : ℕ) (s cs : List ℕ) (d : ℕ) → ByItem (λ seen r. refusal (tourAt k s cs d seen r)) (itemRefusal k s cs d)
+-- an item's part, by whether its name has stood before
+abbrev refusalBy : Repeats → ℕ → List ℕ → List ℕ → ℕ → Bool → Item → ℕ
+refusalBy word k s cs d before i = itemRefusal word k s cs d (forbids word && before) i
+
+walk-by-item : (word : Repeats) (k : ℕ) (s cs : List ℕ) (d : ℕ) → ByItem (λ seen r. refusal (tourAt word k s cs d seen r)) (refusalBy word k s cs d)
 unfolding tourAt itemRefusal refusal
-walk-by-item zero s cs d seen i r =
-    by-item (λ i. ends 0) cs d seen i r
-    ∙ ap (λ (n : ℕ). orElse n (refusal (tourBy (λ i. ends 0) cs d (i .name ∷ seen) r)))
-    (or-none (walkFault cs d (among (i .name) seen) i) (among (i .name) cs))
-walk-by-item (suc k) s cs d seen i r = by-item (λ i. tourAt k s cs (d + 1) [] (runOf s (i .from) (nextOf i))) cs d seen i r
+walk-by-item word zero s cs d seen i r =
+    by-item word (λ i. ends 0) cs d seen i r
+    ∙ ap (λ (n : ℕ). orElse n (refusal (tourBy word (λ i. ends 0) cs d (i .name ∷ seen) r)))
+    (or-none (walkFault cs d (forbids word && among (i .name) seen) i) (among (i .name) cs))
+walk-by-item word (suc k) s cs d seen i r = by-item word (λ i. tourAt word k s cs (d + 1) [] (runOf s (i .from) (nextOf i))) cs d seen i r
 
 -- an item's own fault, by the tests, where 31 and 33 are not due
 module _ (cs : List ℕ) (d : ℕ) (b : Bool) (i : Item) (n : ℕ) (q : n ≡ faultOf b i) where
@@ -117,14 +123,14 @@ pub no-container : (cs : List ℕ) (i : Item) → among (i .name) cs ≡ false �
 no-container cs i a = simp a
 
 -- an item's part: its own fault, else that of its contents
-module _ (s cs : List ℕ) (d : ℕ) (b : Bool) (i : Item) where
-  decides : (k : ℕ) → (walkFault cs d b i ≡ 0 → ⊥) → itemRefusal k s cs d b i ≡ walkFault cs d b i
+module _ (word : Repeats) (s cs : List ℕ) (d : ℕ) (b : Bool) (i : Item) where
+  decides : (k : ℕ) → (walkFault cs d b i ≡ 0 → ⊥) → itemRefusal word k s cs d b i ≡ walkFault cs d b i
   unfolding itemRefusal
   decides zero h = refl
   decides (suc k) h = simp (ne-eqb (walkFault cs d b i) 0 h)
 
   -- an item with a fault of its own has its number, whatever its contents are
-  pub own : (k n : ℕ) → n ≡ walkFault cs d b i → (n ≡ 0 → ⊥) → n ≡ itemRefusal k s cs d b i
+  pub own : (k n : ℕ) → n ≡ walkFault cs d b i → (n ≡ 0 → ⊥) → n ≡ itemRefusal word k s cs d b i
   own k n q h = q ∙ sym (decides k (λ z. h (q ∙ z)))
 
   level : d ≤ deepest → deepest + 1 - d ≡ suc (deepest - d)
@@ -132,68 +138,72 @@ module _ (s cs : List ℕ) (d : ℕ) (b : Bool) (i : Item) where
 
   -- a container with no fault of its own has the number of the walk of its value, one deeper
   pub contents : (m : ℕ) → 0 ≡ walkFault cs d b i → among (i .name) cs ≡ true → d ≤ deepest
-      → m ≡ refusal (tourAt (deepest - d) s cs (d + 1) [] (runOf s (i .from) (nextOf i))) → m ≡ itemRefusal (deepest + 1 - d) s cs d b i
+      → m ≡ refusal (tourAt word (deepest - d) s cs (d + 1) [] (runOf s (i .from) (nextOf i))) → m ≡ itemRefusal word (deepest + 1 - d) s cs d b i
   unfolding itemRefusal
   contents m z a l r = rw (level l) (r ∙ sym (simp (eq-eqb (walkFault cs d b i) 0 (sym z), a)))
 
   -- an item that is no container and has no fault of its own has no number
-  pub no-contents : 0 ≡ walkFault cs d b i → among (i .name) cs ≡ false → d ≤ deepest → 0 ≡ itemRefusal (deepest + 1 - d) s cs d b i
+  pub no-contents : 0 ≡ walkFault cs d b i → among (i .name) cs ≡ false → d ≤ deepest → 0 ≡ itemRefusal word (deepest + 1 - d) s cs d b i
   unfolding itemRefusal
   no-contents z a l = rw (level l) (sym (simp (eq-eqb (walkFault cs d b i) 0 (sym z), a)))
 
 -- a container's value is a packet one deeper
-pub one-deeper : (s cs : List ℕ) (d n from end : ℕ) → n ≡ refusal (tourAt (deepest + 1 - (d + 1)) s cs (d + 1) [] (runOf s from end))
-    → n ≡ refusal (tourAt (deepest - d) s cs (d + 1) [] (runOf s from end))
-one-deeper s cs d n from end q =
+pub one-deeper : (word : Repeats) (s cs : List ℕ) (d n from end : ℕ) → n ≡ refusal (tourAt word (deepest + 1 - (d + 1)) s cs (d + 1) [] (runOf s from end))
+    → n ≡ refusal (tourAt word (deepest - d) s cs (d + 1) [] (runOf s from end))
+one-deeper word s cs d n from end q =
     let z : deepest + 1 - (d + 1) ≡ deepest - d = omega arith in
-    q ∙ ap (λ (k : ℕ). refusal (tourAt k s cs (d + 1) [] (runOf s from end))) z
+    q ∙ ap (λ (k : ℕ). refusal (tourAt word k s cs (d + 1) [] (runOf s from end))) z
 
 -- the whole walk: the list's fault, else what refuses the outer packet's walk
-module _ (s l : List ℕ) (n : ℕ) (q : n ≡ namesFault l) where
-  by-list : refusal (walkOf s l) ≡ orElse (namesFault l) (refusal (tourAt (deepest + 1) s (namesOf l) 0 [] (runOf s 0 (length s))))
+module _ (word : Repeats) (s l : List ℕ) (n : ℕ) (q : n ≡ namesFault l) where
+  by-list : refusal (walkOf word s l) ≡ orElse (namesFault l) (refusal (tourAt word (deepest + 1) s (namesOf l) 0 [] (runOf s 0 (length s))))
   unfolding walkOf
-  by-list = unless-refusal (namesFault l) (tourAt (deepest + 1) s (namesOf l) 0 [] (runOf s 0 (length s)))
+  by-list = unless-refusal (namesFault l) (tourAt word (deepest + 1) s (namesOf l) 0 [] (runOf s 0 (length s)))
 
   -- a list of names with a fault refuses the walk with its number, whatever the packet is
-  pub list-refused : (n ≡ 0 → ⊥) → n ≡ refusal (walkOf s l)
+  pub list-refused : (n ≡ 0 → ⊥) → n ≡ refusal (walkOf word s l)
   list-refused h = q ∙ sym (by-list ∙ simp (ne-eqb (namesFault l) 0 (λ z. h (q ∙ z))))
 
   -- with a list that has no fault, the number of the outer packet's walk is that of the whole
-  pub list-taken : (m : ℕ) → n ≡ 0 → m ≡ refusal (tourAt (deepest + 1) s (namesOf l) 0 [] (runOf s 0 (length s))) → m ≡ refusal (walkOf s l)
+  pub list-taken : (m : ℕ) → n ≡ 0 → m ≡ refusal (tourAt word (deepest + 1) s (namesOf l) 0 [] (runOf s 0 (length s))) → m ≡ refusal (walkOf word s l)
   list-taken m z h = h ∙ sym (by-list ∙ simp (eq-eqb (namesFault l) 0 (sym q ∙ z)))
 
 -- where a run ends
-tour-end : (k : ℕ) (s cs : List ℕ) (d : ℕ) (seen : List ℕ) (p : ℕ) → refusal (tourAt k s cs d seen (padding p)) ≡ 0
+tour-end : (word : Repeats) (k : ℕ) (s cs : List ℕ) (d : ℕ) (seen : List ℕ) (p : ℕ) → refusal (tourAt word k s cs d seen (padding p)) ≡ 0
 unfolding tourAt tourBy refusal
-tour-end zero s cs d seen p = refl
-tour-end (suc k) s cs d seen p = refl
+tour-end word zero s cs d seen p = refl
+tour-end word (suc k) s cs d seen p = refl
 
-tour-refused : (k : ℕ) (s cs : List ℕ) (d : ℕ) (seen : List ℕ) (n : ℕ) → refusal (tourAt k s cs d seen (refused n)) ≡ n
+tour-refused : (word : Repeats) (k : ℕ) (s cs : List ℕ) (d : ℕ) (seen : List ℕ) (n : ℕ) → refusal (tourAt word k s cs d seen (refused n)) ≡ n
 unfolding tourAt tourBy refusal
-tour-refused zero s cs d seen n = refl
-tour-refused (suc k) s cs d seen n = refl
+tour-refused word zero s cs d seen n = refl
+tour-refused word (suc k) s cs d seen n = refl
 
 -- what a turn of the walk's loop keeps
-abbrev pub WalkSeen : ℕ → List ℕ → List ℕ → ℕ → ℕ → ℕ → List Bool → ℕ → Type 0
-WalkSeen k s cs d from end marks at = Seen (λ seen r. refusal (tourAt k s cs d seen r)) s from end marks at
+abbrev pub WalkSeen : Repeats → ℕ → List ℕ → List ℕ → ℕ → ℕ → ℕ → List Bool → ℕ → Type 0
+WalkSeen word k s cs d from end marks at = Seen (λ seen r. refusal (tourAt word k s cs d seen r)) s from end marks at
 
-module _ (k : ℕ) (s cs : List ℕ) (d from end : ℕ) (marks : List Bool) (at : ℕ) (w : WalkSeen k s cs d from end marks at) where
+module _ (word : Repeats) (k : ℕ) (s cs : List ℕ) (d from end : ℕ) (marks : List Bool) (at : ℕ) (w : WalkSeen word k s cs d from end marks at) where
   -- where the loop comes to padding, the packet has no number due
-  pub walk-ends : (p : Bytes) → stepIn s at end ≡ step.End p → 0 ≡ refusal (tourAt k s cs d [] (runOf s from end))
-  walk-ends p e = sym (w .rest ∙ ap (λ (r : Run). refusal (tourAt k s cs d (w .names) r)) (run-end s at end p e)
-      ∙ tour-end k s cs d (w .names) (p .0))
+  pub walk-ends : (p : Bytes) → stepIn s at end ≡ step.End p → 0 ≡ refusal (tourAt word k s cs d [] (runOf s from end))
+  walk-ends p e = sym (w .rest ∙ ap (λ (r : Run). refusal (tourAt word k s cs d (w .names) r)) (run-end s at end p e)
+      ∙ tour-end word k s cs d (w .names) (p .0))
 
   -- where the loop comes to a refused item, that number is due for the packet
-  pub walk-refused : (n : ℕ) → stepIn s at end ≡ step.Refused n → n ≡ refusal (tourAt k s cs d [] (runOf s from end))
-  walk-refused n e = sym (w .rest ∙ ap (λ (r : Run). refusal (tourAt k s cs d (w .names) r)) (run-refused s at end n e)
-      ∙ tour-refused k s cs d (w .names) n)
+  pub walk-refused : (n : ℕ) → stepIn s at end ≡ step.Refused n → n ≡ refusal (tourAt word k s cs d [] (runOf s from end))
+  walk-refused n e = sym (w .rest ∙ ap (λ (r : Run). refusal (tourAt word k s cs d (w .names) r)) (run-refused s at end n e)
+      ∙ tour-refused word k s cs d (w .names) n)
 
-  module _ (i : Item) (e : stepIn s at end ≡ step.Item i) (h n : ℕ) (p : h ≡ i .name % slots)
-      (q : n ≡ itemRefusal k s cs d (again s from end marks h i) i) where
+  -- m is the mark of the item's slot h, as it counts by the caller's word
+  module _ (i : Item) (e : stepIn s at end ≡ step.Item i) (h n : ℕ) (m : Bool) (p : h ≡ i .name % slots) (o : m ≡ (forbids word && getD marks h false))
+      (q : n ≡ itemRefusal word k s cs d (m && isBefore (firstOf (i .name) (runOf s from end)) (i .from)) i) where
+    part : n ≡ refusalBy word k s cs d (again s from end marks h i) i
+    part = q ∙ ap (λ (b : Bool). itemRefusal word k s cs d b i) (counts word (getD marks h false) _ m o)
+
     -- after an item with no number due the loop goes on behind it, with the slot of its name marked
-    pub walk-turn : n ≡ 0 → WalkSeen k s cs d from end (set marks h true) (nextOf i)
-    walk-turn z = turn _ (itemRefusal k s cs d) (walk-by-item k s cs d) s from end marks at i w e h n p q z
+    pub walk-turn : n ≡ 0 → WalkSeen word k s cs d from end (set marks h true) (nextOf i)
+    walk-turn z = turn _ (refusalBy word k s cs d) (walk-by-item word k s cs d) s from end marks at i w e h n p part z
 
     -- where the loop comes to an item with a number due, that number is due for the packet
-    pub walk-stops : (n ≡ 0 → ⊥) → n ≡ refusal (tourAt k s cs d [] (runOf s from end))
-    walk-stops z = stops _ (itemRefusal k s cs d) (walk-by-item k s cs d) s from end marks at i w e h n p q z
+    pub walk-stops : (n ≡ 0 → ⊥) → n ≡ refusal (tourAt word k s cs d [] (runOf s from end))
+    walk-stops z = stops _ (refusalBy word k s cs d) (walk-by-item word k s cs d) s from end marks at i w e h n p part z

@@ -2,14 +2,15 @@
 use Prim.Native.Nat.{ℕ, zero, suc, _+_, _≤_}
 use mathlib.Core.List.{List, [], _∷_}
 use mathlib.Core.Path.{_≡_, refl, sym, ap, _∙_}
-use mathlib.Core.Bool.{Bool, true, false, cond}
+use mathlib.Core.Bool.{Bool, true, false, cond, _&&_}
 use native.Mathlib.Omega.{arith}
 use native.Mathlib.Nat.{le-refl}
 use lib.Dec.{eqb}
 use lib.ListN.{length, drop, length-take}
 use Rattle.base_rules.specs.Tests.{among}
 use Rattle.item_rules.specs.declared.Item.{Item}
-use Rattle.item_rules.specs.Run.{Run, item, padding, refused, nextOf, runOf, faultOf}
+use Rattle.item_rules.specs.declared.Repeats.{Repeats}
+use Rattle.item_rules.specs.Run.{Run, item, padding, refused, nextOf, runOf, faultOf, forbids}
 use Rattle.walk_rules.specs.Walk.{Tour, visit, ends, stops, unless, andThen, walkFault, tourBy, tourAt}
 use Rattle.walk_rules.specs.Claims.{movedItem, movedRun, movedTour, ValueWalked}
 use Rattle.walk_rules.proofs.Inside.{Items, more-items, no-items, bad-item, run-items}
@@ -37,7 +38,7 @@ unfolding walkFault faultOf
 fault-moved k cs d b i = refl
 
 -- the n bytes of s from k on, walked as v and where they stand in s
-module _ (s : List ℕ) (k n : ℕ) where
+module _ (word : Repeats) (s : List ℕ) (k n : ℕ) where
   abbrev v : List ℕ
   v = part s k n
 
@@ -48,16 +49,16 @@ module _ (s : List ℕ) (k n : ℕ) where
     contents true i h = same i h
     contents false i h = refl
 
-    moved-by : (seen : List ℕ) (r : Run) → Items v r → tourBy inner′ cs d seen (movedRun k r) ≡ movedTour k (tourBy inner cs d seen r)
+    moved-by : (seen : List ℕ) (r : Run) → Items v r → tourBy word inner′ cs d seen (movedRun k r) ≡ movedTour k (tourBy word inner cs d seen r)
     unfolding tourBy movedRun movedTour
     moved-by seen (item i r) (more-items p rest) =
-        let w : ℕ = walkFault cs d (among (i .name) seen) i in
+        let w : ℕ = walkFault cs d (forbids word && among (i .name) seen) i in
         let t : Tour = cond (among (i .name) cs) (inner i) (ends 0) in
-        let u : Tour = tourBy inner cs d (i .name ∷ seen) r in
-        let u′ : Tour = tourBy inner′ cs d (i .name ∷ seen) (movedRun k r) in
+        let u : Tour = tourBy word inner cs d (i .name ∷ seen) r in
+        let u′ : Tour = tourBy word inner′ cs d (i .name ∷ seen) (movedRun k r) in
         let behind : u′ ≡ movedTour k u = moved-by (i .name ∷ seen) r rest in
         ap (λ (m : ℕ). unless m (visit d (movedItem k i) (andThen (cond (among (i .name) cs) (inner′ (movedItem k i)) (ends 0)) u′)))
-        (fault-moved k cs d (among (i .name) seen) i)
+        (fault-moved k cs d (forbids word && among (i .name) seen) i)
         ∙ ap (λ (x : Tour). unless w (visit d (movedItem k i) (andThen x u′))) (contents (among (i .name) cs) i (p .inside))
         ∙ ap (λ (x : Tour). unless w (visit d (movedItem k i) (andThen (movedTour k t) x))) behind
         ∙ ap (λ (x : Tour). unless w (visit d (movedItem k i) x)) (sym (moved-then k t u))
@@ -72,20 +73,20 @@ module _ (s : List ℕ) (k n : ℕ) where
       ap (runOf s (k + i .from)) next ∙ run-moved s k n (i .from) (nextOf i) (omega (arith, length-take n (drop k s)))
 
   tour-moved : (levels : ℕ) (cs : List ℕ) (d : ℕ) (seen : List ℕ) (r : Run) → Items v r
-      → tourAt levels s cs d seen (movedRun k r) ≡ movedTour k (tourAt levels v cs d seen r)
+      → tourAt word levels s cs d seen (movedRun k r) ≡ movedTour k (tourAt word levels v cs d seen r)
   unfolding tourAt movedTour
   tour-moved zero cs d seen r all = moved-by (λ i. ends 0) (λ i. ends 0) cs d (λ i h. refl) seen r all
   tour-moved (suc levels) cs d seen r all =
-      moved-by (λ i. tourAt levels v cs (d + 1) [] (runOf v (i .from) (nextOf i)))
-      (λ i. tourAt levels s cs (d + 1) [] (runOf s (i .from) (nextOf i))) cs d
+      moved-by (λ i. tourAt word levels v cs (d + 1) [] (runOf v (i .from) (nextOf i)))
+      (λ i. tourAt word levels s cs (d + 1) [] (runOf s (i .from) (nextOf i))) cs d
       (λ i h.
-      ap (tourAt levels s cs (d + 1) []) (inner-run i h)
+      ap (tourAt word levels s cs (d + 1) []) (inner-run i h)
       ∙ tour-moved levels cs (d + 1) [] (runOf v (i .from) (nextOf i)) (run-items v (i .from) (nextOf i) h))
       seen r all
 
 -- the walk inside an item is that of its value by itself, with each place moved
 pub value-walked : ValueWalked
-value-walked s cs levels d i h =
+value-walked word s cs levels d i h =
     let w : List ℕ = part s (i .from) (i .len .0) in
-    ap (tourAt levels s cs d []) (value-as-packet s i h)
-    ∙ tour-moved s (i .from) (i .len .0) levels cs d [] (runOf w 0 (length w)) (run-items w 0 (length w) (le-refl (length w)))
+    ap (tourAt word levels s cs d []) (value-as-packet s i h)
+    ∙ tour-moved word s (i .from) (i .len .0) levels cs d [] (runOf w 0 (length w)) (run-items w 0 (length w) (le-refl (length w)))

@@ -7,6 +7,8 @@ use Prim.Native.Nat.{ℕ, zero, suc, _+_, _≤_}
 use lib.Dec.{eqb}
 use lib.ListN.{length, take, drop, replicate}
 use Rattle.item_rules.specs.declared.Item.{Item}
+use Rattle.item_rules.specs.declared.Repeats.{Repeats}
+use Rattle.item_rules.specs.declared.Repeats.the-variants.{Forbidden, Allowed}
 use Rattle.item_rules.specs.Item.{itemAt}
 use Rattle.item_rules.specs.Run.{Run, item, padding, refused, nextOf, runOf, faultsOf}
 use Rattle.walk_rules.specs.declared.Visit.{Visit}
@@ -34,7 +36,7 @@ due n t = cond (eqb (refusal t) 0) (take n (told n t)) (replicate n (handed.Refu
 
 -- document 01: from the call that opens it, the step walk hands out exactly the items of the recursive walk in order
 abbrev pub InOrder : Type 0
-InOrder = (s l : List ℕ) (n : ℕ) → handsOut n s l (opens s l) ≡ due n (walkOf s l)
+InOrder = (w : Repeats) (s l : List ℕ) (n : ℕ) → handsOut n s l (opens w s l) ≡ due n (walkOf w s l)
 
 -- no second answer fits: document 01's number and values tell what was handed out
 abbrev pub OneHanded : Type 0
@@ -57,7 +59,7 @@ pub data Visits (P : ℕ → Item → Type 0) : Tour → Type 0 where
 
 -- document 01, "a value is shown as a part of the caller's bytes": each item that a walk comes to, refused later or not, lies in the packet,
 abbrev pub WalkInside : Type 0
-WalkInside = (s l : List ℕ) → Visits (Within s) (walkOf s l)
+WalkInside = (w : Repeats) (s l : List ℕ) → Visits (Within s) (walkOf w s l)
 
 -- and each that a step hands out, whatever the walker is
 abbrev pub StepInside : Type 0
@@ -72,13 +74,13 @@ outerOf (padding p) = ends p
 outerOf (refused n) = stops n
 
 -- document 01, "A packet is a run of items": with no container names a walk is refused as a reader's check is, and is else the packet's run
-pub record Plain (s : List ℕ) : Type 0 where
-  pub number : refusal (walkOf s []) ≡ faultsOf [] (runOf s 0 (length s))
-  pub items : faultsOf [] (runOf s 0 (length s)) ≡ 0 → walkOf s [] ≡ outerOf (runOf s 0 (length s))
+pub record Plain (w : Repeats) (s : List ℕ) : Type 0 where
+  pub number : refusal (walkOf w s []) ≡ faultsOf w [] (runOf s 0 (length s))
+  pub items : faultsOf w [] (runOf s 0 (length s)) ≡ 0 → walkOf w s [] ≡ outerOf (runOf s 0 (length s))
 
 -- so it is of every packet
 abbrev pub NoNames : Type 0
-NoNames = (s : List ℕ) → Plain s
+NoNames = (w : Repeats) (s : List ℕ) → Plain w s
 
 -- ---- "a container's value is again a packet"
 
@@ -105,6 +107,16 @@ ValueAsPacket = (s : List ℕ) (i : Item) → nextOf i ≤ length s
 
 -- and so it is of all that the containers among them hold: the walk inside is the value's own
 abbrev pub ValueWalked : Type 0
-ValueWalked = (s cs : List ℕ) (levels d : ℕ) (i : Item) → nextOf i ≤ length s
+ValueWalked = (w : Repeats) (s cs : List ℕ) (levels d : ℕ) (i : Item) → nextOf i ≤ length s
     → (let v = take (i .len .0) (drop (i .from) s) in
-    tourAt levels s cs d [] (runOf s (i .from) (nextOf i)) ≡ movedTour (i .from) (tourAt levels v cs d [] (runOf v 0 (length v))))
+    tourAt w levels s cs d [] (runOf s (i .from) (nextOf i)) ≡ movedTour (i .from) (tourAt w levels v cs d [] (runOf v 0 (length v))))
+
+-- ---- document 02, Item 1: where names may repeat, on every level
+
+-- "31 only when repeats are forbidden": where they may, no walk is refused with 31
+abbrev pub NoTwice : Type 0
+NoTwice = (s l : List ℕ) → refusal (walkOf Allowed s l) ≡ 31 → ⊥
+
+-- only 31 goes: a walk that is not refused with it is the same with either word, its items and how it ends
+abbrev pub AcceptedStill : Type 0
+AcceptedStill = (s l : List ℕ) → (refusal (walkOf Forbidden s l) ≡ 31 → ⊥) → walkOf Allowed s l ≡ walkOf Forbidden s l

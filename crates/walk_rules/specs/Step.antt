@@ -7,6 +7,7 @@ use lib.ListN.{length, getD, set}
 use Rattle.base_rules.specs.Answer.{Answer, granted, refused, answered}
 use Rattle.base_rules.specs.Tests.{among}
 use Rattle.item_rules.specs.declared.Item.{Item}
+use Rattle.item_rules.specs.declared.Repeats.{Repeats}
 use Rattle.item_rules.specs.Item.{head, itemAt, stepIn, valuesOf, overrunIn}
 use Rattle.item_rules.specs.Run.{nextOf, onStep, orElse}
 use Rattle.walk_rules.specs.declared.Handed.{Handed}
@@ -23,8 +24,8 @@ handedNumber (handed.End p) = granted (p .0 ∷ [])
 handedNumber (handed.Refused n) = refused n
 
 -- document 01: opening a walk checks the whole packet; the walk begins at the outer packet's start, or is refused
-unfoldable pub opens : List ℕ → List ℕ → Walker
-opens s l = record { refusal = refusal (walkOf s l); at = 0; depth = 0; ends = length s ∷ 0 ∷ 0 ∷ 0 ∷ 0 ∷ [] }
+unfoldable pub opens : Repeats → List ℕ → List ℕ → Walker
+opens w s l = record { refusal = refusal (walkOf w s l); at = 0; depth = 0; ends = length s ∷ 0 ∷ 0 ∷ 0 ∷ 0 ∷ [] }
 
 -- where a walk goes on after an item at depth d: in a container's value, or behind the item
 unfoldable pub goesOn : List ℕ → ℕ → List ℕ → Item → Walker

@@ -6,7 +6,8 @@ use lib.Dec.{eqb, ltb}
 use lib.ListN.{length}
 use Rattle.base_rules.specs.Tests.{first, among}
 use Rattle.item_rules.specs.declared.Item.{Item}
-use Rattle.item_rules.specs.Run.{Run, item, padding, refused, nextOf, runOf, faultOf, orElse}
+use Rattle.item_rules.specs.declared.Repeats.{Repeats}
+use Rattle.item_rules.specs.Run.{Run, item, padding, refused, nextOf, runOf, faultOf, orElse, forbids}
 use Rattle.walk_rules.specs.Names.{deepest, namesOf, namesFault}
 
 -- the items in the order in which they are handed out, each with its depth, and how the walk ends: with the outer packet's padding, or refused
@@ -30,18 +31,18 @@ unfoldable pub walkFault : List ℕ → ℕ → Bool → Item → ℕ
 walkFault cs d before i =
     orElse (faultOf before i) (first ((among (i .name) cs && not (eqb (i .bits .0 % 8) 0), 35) ∷ (ltb deepest d, 32) ∷ []))
 
--- the walk of a run at depth d, after items of the names seen, where `inner` walks a container's value
-unfoldable pub tourBy : (Item → Tour) → List ℕ → ℕ → List ℕ → Run → Tour
-tourBy inner cs d seen (item i r) =
-    unless (walkFault cs d (among (i .name) seen) i)
-    (visit d i (andThen (cond (among (i .name) cs) (inner i) (ends 0)) (tourBy inner cs d (i .name ∷ seen) r)))
-tourBy inner cs d seen (padding p) = ends p
-tourBy inner cs d seen (refused n) = stops n
+-- the walk of a run at depth d, after items of the names seen, where `inner` walks a container's value; document 02, Item 1: by the caller's word
+unfoldable pub tourBy : Repeats → (Item → Tour) → List ℕ → ℕ → List ℕ → Run → Tour
+tourBy w inner cs d seen (item i r) =
+    unless (walkFault cs d (forbids w && among (i .name) seen) i)
+    (visit d i (andThen (cond (among (i .name) cs) (inner i) (ends 0)) (tourBy w inner cs d (i .name ∷ seen) r)))
+tourBy w inner cs d seen (padding p) = ends p
+tourBy w inner cs d seen (refused n) = stops n
 
 -- the walk of a run of s at depth d, with so many levels left below it
-unfoldable pub tourAt : ℕ → List ℕ → List ℕ → ℕ → List ℕ → Run → Tour
-tourAt zero s cs d seen r = tourBy (λ i. ends 0) cs d seen r
-tourAt (suc levels) s cs d seen r = tourBy (λ i. tourAt levels s cs (d + 1) [] (runOf s (i .from) (nextOf i))) cs d seen r
+unfoldable pub tourAt : Repeats → ℕ → List ℕ → List ℕ → ℕ → List ℕ → Run → Tour
+tourAt w zero s cs d seen r = tourBy w (λ i. ends 0) cs d seen r
+tourAt w (suc levels) s cs d seen r = tourBy w (λ i. tourAt w levels s cs (d + 1) [] (runOf s (i .from) (nextOf i))) cs d seen r
 
 -- the number with which a walk is refused, 0 where it is not
 unfoldable pub refusal : Tour → ℕ
@@ -50,5 +51,5 @@ refusal (ends p) = 0
 refusal (stops n) = n
 
 -- document 01: the walk of a whole packet checks the list of names first
-unfoldable pub walkOf : List ℕ → List ℕ → Tour
-walkOf s l = unless (namesFault l) (tourAt (deepest + 1) s (namesOf l) 0 [] (runOf s 0 (length s)))
+unfoldable pub walkOf : Repeats → List ℕ → List ℕ → Tour
+walkOf w s l = unless (namesFault l) (tourAt w (deepest + 1) s (namesOf l) 0 [] (runOf s 0 (length s)))

@@ -2,7 +2,7 @@
 use mathlib.Core.Path.{_≡_, refl, sym, ap, subst, _∙_}
 use mathlib.Core.Bool.{true, false}
 use mathlib.Core.List.{List, [], _∷_, _++_, append-assoc}
-use Prim.Native.Nat.{ℕ, _+_, _-_, _≤_}
+use Prim.Native.Nat.{ℕ, suc, _+_, _-_, _≤_}
 use native.Mathlib.Nat.{add-zero}
 use native.Mathlib.Omega.{arith}
 use lib.Dec.{eqb}
@@ -11,14 +11,15 @@ use borrow.Author.Tests.{lt-ltb, eq-eqb, eqb-true, eqb-false}
 use Rattle.base_rules.specs.Tests.{among}
 use Rattle.base_rules.proofs.Logic.{either, clash, or-left, or-right}
 use Rattle.item_rules.specs.Item.{head, bytesFor, stepIn}
-use Rattle.item_rules.specs.Run.{Run, item, padding, nextOf, runOf, firstOf, faultsOf, faultOf, dmy}
+use Rattle.item_rules.specs.Run.{Run, item, padding, nextOf, runOf, namedIn, nthOf, forbids, faultsOf, faultOf, dmy}
 use Rattle.item_rules.specs.declared.Item.{Item}
+use Rattle.item_rules.specs.declared.Repeats.the-variants.{Forbidden, Allowed}
 use Rattle.item_rules.specs.declared.Step.the-variants as step
 use Rattle.item_rules.specs.declared.Found.the-variants as found
 use Rattle.item_rules.proofs.Runs.{run-item, run-end}
 use Rattle.item_rules.proofs.Faults.{fault-dmy, fault-none}
 use Rattle.write_rules.specs.Write.{itemBytes}
-use Rattle.write_rules.specs.Packet.{Entry, packetOf, namesOf, Fits, AllFit, Apart}
+use Rattle.write_rules.specs.Packet.{Entry, packetOf, namesOf, writtenAs, Fits, AllFit, Apart}
 use Rattle.write_rules.proofs.Back.{length-item, reads-back}
 
 -- the item that is read where e was written at `at`,
@@ -80,14 +81,22 @@ no-fault seen at e es fit h =
     (λ t. sym (fault-none _ (itemOf at e) (h (e .name) (eqb-false _ _ t) (simp (eq-eqb (e .name) (e .name) refl))) (fit .ptr-right)))
 
 -- of items that fit none is at fault, where no name but "*dmy" comes twice or was seen before
-pub faults-none : (seen : List ℕ) (at : ℕ) (es : List Entry) (n : ℕ) → AllFit es → Apart es → Unseen seen es → faultsOf seen (entriesRun at es n) ≡ 0
-unfolding entriesRun faultsOf
+pub faults-none : (seen : List ℕ) (at : ℕ) (es : List Entry) (n : ℕ) → AllFit es → Apart es → Unseen seen es
+    → faultsOf Forbidden seen (entriesRun at es n) ≡ 0
+unfolding entriesRun faultsOf forbids
 faults-none seen at [] n fit apart h = refl
 faults-none seen at (e ∷ es) n fit apart h =
     simp (no-fault seen at e es (fit .0) h) (faults-none (e .name ∷ seen) (nextOf (itemOf at e)) es n (fit .1) (apart .1)
     (unseen-next seen e es apart h))
 
--- ---- the first of its name
+-- where names may repeat, whichever they are
+pub faults-repeated : (seen : List ℕ) (at : ℕ) (es : List Entry) (n : ℕ) → AllFit es → faultsOf Allowed seen (entriesRun at es n) ≡ 0
+unfolding entriesRun faultsOf forbids
+faults-repeated seen at [] n fit = refl
+faults-repeated seen at (e ∷ es) n fit =
+    simp (sym (fault-none false (itemOf at e) refl (fit .0 .ptr-right))) (faults-repeated (e .name ∷ seen) (nextOf (itemOf at e)) es n (fit .1))
+
+-- ---- the occurrences of a name
 
 -- a packet is the bytes of its first items and then the packet of the others
 pub packet-split : (before es : List Entry) (pad : List ℕ) → packetOf (before ++ es) pad ≡ packetOf before [] ++ packetOf es pad
@@ -102,16 +111,33 @@ pub fits-at : (before after : List Entry) (e : Entry) → AllFit (before ++ (e �
 fits-at [] after e fit = fit .0
 fits-at (b ∷ before) after e fit = fits-at before after e (fit .1)
 
--- the first item written under a name is found, right behind the bytes of those before it
-pub first-written : (at : ℕ) (before after : List Entry) (e : Entry) (n : ℕ) → AllFit (before ++ (e ∷ after))
-    → among (e .name) (namesOf before) ≡ false
-    → firstOf (e .name) (entriesRun at (before ++ (e ∷ after)) n) ≡ found.At (itemOf (at + length (packetOf before [])) e)
-unfolding entriesRun firstOf packetOf among namesOf
-first-written at [] after e n fit new =
+-- where no item of a name was written, none is of those before
+pub none-written : (name : ℕ) (es : List Entry) → among name (namesOf es) ≡ false → writtenAs name es ≡ []
+unfolding among namesOf writtenAs
+none-written name [] new = refl
+none-written name (e ∷ es) new =
+    simp (or-left (eqb (e .name) name) (among name (namesOf es)) new)
+    (none-written name es (or-right (eqb (e .name) name) (among name (namesOf es)) new))
+
+-- as many items of a name are read as were written
+pub as-many : (name at : ℕ) (es : List Entry) (n : ℕ) → length (namedIn name (entriesRun at es n)) ≡ length (writtenAs name es)
+unfolding entriesRun namedIn writtenAs
+as-many name at [] n = refl
+as-many name at (e ∷ es) n =
+    let on = as-many name (nextOf (itemOf at e)) es n in
+    either (eqb (e .name) name) (λ t. simp t (ap suc on)) (λ f. simp f on)
+
+-- an item is the occurrence with the number of those written under its name before it, right behind the bytes of all before it
+pub nth-written : (at : ℕ) (before after : List Entry) (e : Entry) (n : ℕ) → AllFit (before ++ (e ∷ after))
+    → nthOf (e .name) (length (writtenAs (e .name) before)) (entriesRun at (before ++ (e ∷ after)) n)
+    ≡ found.At (itemOf (at + length (packetOf before [])) e)
+unfolding entriesRun nthOf namedIn packetOf writtenAs
+nth-written at [] after e n fit =
     simp (eq-eqb (e .name) (e .name) refl, add-zero)
-first-written at (b ∷ before) after e n fit new =
+nth-written at (b ∷ before) after e n fit =
     let it : List ℕ = itemBytes (b .name) (b .bits) (b .value) in
-    let other : eqb (b .name) (e .name) ≡ false = or-left _ _ new in
     let long = length-item (b .name) (b .bits) (b .value) (fit .0 .whole) in
-    let on = first-written (nextOf (itemOf at b)) before after e n (fit .1) (or-right (eqb (b .name) (e .name)) _ new) in
-    simp other (on ∙ ap (λ (k : ℕ). found.At (itemOf k e)) (omega (arith, long, length-append it (packetOf before []))))
+    let next : nextOf (itemOf at b) + length (packetOf before []) ≡ at + length (it ++ packetOf before []) =
+    omega (arith, long, length-append it (packetOf before [])) in
+    let on = nth-written (nextOf (itemOf at b)) before after e n (fit .1) ∙ ap (λ (k : ℕ). found.At (itemOf k e)) next in
+    either (eqb (b .name) (e .name)) (λ t. simp t on) (λ f. simp f on)

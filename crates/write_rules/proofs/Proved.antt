@@ -7,39 +7,60 @@ use native.Mathlib.Nat.{zero-add, mod-one}
 use native.Mathlib.Omega.{arith}
 use lib.ListN.{length, take, drop}
 use Rattle.item_rules.specs.Item.{head, bytesFor}
-use Rattle.item_rules.specs.Run.{firstOf, faultsOf}
+use Rattle.item_rules.specs.Run.{Run, firstOf, namedIn, nthOf, faultsOf}
+use Rattle.item_rules.specs.declared.Repeats.{Repeats}
+use Rattle.item_rules.specs.declared.Repeats.the-variants.{Forbidden, Allowed}
 use Rattle.item_rules.specs.declared.Found.the-variants as found
+use Rattle.item_rules.proofs.Proved.{first-is-nth}
 use Rattle.base_rules.specs.Answer.{answered}
 use Rattle.base_rules.specs.Tests.{among}
 use Rattle.tag_rules.specs.Find.{wholeRun, checkOf, valueOf}
-use Rattle.tag_rules.specs.Calls.{openCall}
-use Rattle.tag_rules.proofs.Searches.{found-here}
+use Rattle.tag_rules.specs.Calls.{openCall, searchAnswer, searchNthCall}
+use Rattle.tag_rules.proofs.Searches.{found-here, nth-found}
+use Rattle.tag_rules.proofs.Proved.{nth-beyond}
 use Rattle.write_rules.specs.Write.{itemBytes, trimmedBy, trimmed, unusedOf}
-use Rattle.write_rules.specs.Packet.{Entry, packetOf, namesOf, AllFit, Apart}
-use Rattle.write_rules.specs.Claims.{ReadsBack, Opens, Finds, UnusedZero, TrimmedOnce, WholeKept}
+use Rattle.write_rules.specs.Packet.{Entry, packetOf, namesOf, writtenAs, AllFit, Apart}
+use Rattle.write_rules.specs.Claims.{ReadsBack, Opens, FoundAs, Finds, OpensRepeated, FindsRepeated, FindsNth, NoMore, UnusedZero, TrimmedOnce, WholeKept}
 use Rattle.write_rules.proofs.Back as back
-use Rattle.write_rules.proofs.Packets.{itemOf, run-written, faults-none, packet-split, fits-at, first-written}
+use Rattle.write_rules.proofs.Packets.{itemOf, run-written, faults-none, faults-repeated, packet-split, fits-at}
+use Rattle.write_rules.proofs.Packets.{none-written, as-many, nth-written}
 use Rattle.write_rules.proofs.Trimming.{last-down, stays, unused-none}
 
 pub reads-back : ReadsBack
 reads-back = back.reads-back
 
 -- no item is at fault,
-sound : (es : List Entry) (pad : List ℕ) → AllFit es → Apart es → length pad ≤ 7 → checkOf (packetOf es pad) ≡ 0
+sound : (es : List Entry) (pad : List ℕ) → AllFit es → Apart es → length pad ≤ 7 → checkOf Forbidden (packetOf es pad) ≡ 0
 unfolding among checkOf
-sound es pad fit apart few = ap (faultsOf []) (run-written [] es pad fit few) ∙ faults-none [] 0 es (length pad) fit apart (λ m d q. refl)
+sound es pad fit apart few = ap (faultsOf Forbidden []) (run-written [] es pad fit few) ∙ faults-none [] 0 es (length pad) fit apart (λ m d q. refl)
+
+-- nor is any where names may repeat
+sound-repeated : (es : List Entry) (pad : List ℕ) → AllFit es → length pad ≤ 7 → checkOf Allowed (packetOf es pad) ≡ 0
+unfolding checkOf
+sound-repeated es pad fit few = ap (faultsOf Allowed []) (run-written [] es pad fit few) ∙ faults-repeated [] 0 es (length pad) fit
 
 pub opens : Opens
 unfolding openCall answered
 opens es pad fit apart few = simp (sound es pad fit apart few)
 
--- and the first item under a name stands where it was written
+pub opens-repeated : OpensRepeated
+unfolding openCall answered
+opens-repeated es pad fit few = simp (sound-repeated es pad fit few)
+
+-- and each item stands where it was written
 module _ (before after : List Entry) (e : Entry) (pad : List ℕ) (fit : AllFit (before ++ (e ∷ after))) (few : length pad ≤ 7) where
+  nth : nthOf (e .name) (length (writtenAs (e .name) before)) (wholeRun (packetOf (before ++ (e ∷ after)) pad)) ≡ found.At
+      (itemOf (length (packetOf before [])) e)
+  nth =
+      ap (nthOf (e .name) (length (writtenAs (e .name) before))) (run-written [] (before ++ (e ∷ after)) pad fit few)
+      ∙ nth-written 0 before after e (length pad) fit ∙ ap (λ (k : ℕ). found.At (itemOf k e)) (zero-add (length (packetOf before [])))
+
+  -- the first under its name is occurrence 0
   first : among (e .name) (namesOf before) ≡ false → firstOf (e .name) (wholeRun (packetOf (before ++ (e ∷ after)) pad)) ≡ found.At
       (itemOf (length (packetOf before [])) e)
   first new =
-      ap (firstOf (e .name)) (run-written [] (before ++ (e ∷ after)) pad fit few) ∙ first-written 0 before after e (length pad) fit new
-      ∙ ap (λ (k : ℕ). found.At (itemOf k e)) (zero-add (length (packetOf before [])))
+      let r : Run = wholeRun (packetOf (before ++ (e ∷ after)) pad) in
+      first-is-nth (e .name) r ∙ ap (λ (l : List Entry). nthOf (e .name) (length l) r) (sym (none-written (e .name) before new)) ∙ nth
 
   value : valueOf (packetOf (before ++ (e ∷ after)) pad) (itemOf (length (packetOf before [])) e) ≡ trimmed (e .bits) (e .value)
   unfolding packetOf valueOf
@@ -51,12 +72,34 @@ module _ (before after : List Entry) (e : Entry) (pad : List ℕ) (fit : AllFit 
       (fits .bits-held) (fits .whole) (omega arith) in
       ap (λ (l : List ℕ). take (bytesFor (e .bits)) (drop (length pre + head) l)) (packet-split before (e ∷ after) pad) ∙ read .bytes
 
+  -- so it is found, with either word
+  found-first : (w : Repeats) (standing : List ℕ) → checkOf w (packetOf (before ++ (e ∷ after)) pad) ≡ 0 → checkOf w standing ≡ 0
+      → among (e .name) (namesOf before) ≡ false → FoundAs w (packetOf (before ++ (e ∷ after)) pad) standing e
+  found-first w standing whole still new =
+      let here =
+      found-here w (packetOf (before ++ (e ∷ after)) pad) standing (e .name) (itemOf (length (packetOf before [])) e) whole still (first new) in
+      record { bits = here .0; value = here .1 ∙ value }
+
 pub finds : Finds
-finds before after e pad standing fit apart few still new =
+finds before after e pad standing fit apart few = found-first before after e pad fit few Forbidden standing (sound (before ++ (e ∷ after)) pad fit apart few)
+
+pub finds-repeated : FindsRepeated
+finds-repeated before after e pad standing fit few =
+    found-first before after e pad fit few Allowed standing (sound-repeated (before ++ (e ∷ after)) pad fit few)
+
+pub finds-nth : FindsNth
+finds-nth before after e pad fit few =
     let here =
-    found-here (packetOf (before ++ (e ∷ after)) pad) standing (e .name) (itemOf (length (packetOf before [])) e)
-    (sound (before ++ (e ∷ after)) pad fit apart few) still (first before after e pad fit few new) in
+    nth-found Allowed (packetOf (before ++ (e ∷ after)) pad) (e .name) (length (writtenAs (e .name) before)) (itemOf (length (packetOf before [])) e)
+    (sound-repeated (before ++ (e ∷ after)) pad fit few) (nth before after e pad fit few) in
     record { bits = here .0; value = here .1 ∙ value before after e pad fit few }
+
+pub no-more : NoMore
+unfolding searchNthCall searchAnswer
+no-more es name number pad fit few beyond =
+    let count : length (namedIn name (wholeRun (packetOf es pad))) ≡ length (writtenAs name es) =
+    ap (λ (r : Run). length (namedIn name r)) (run-written [] es pad fit few) ∙ as-many name 0 es (length pad) in
+    ap searchAnswer (nth-beyond Allowed (packetOf es pad) name number (sound-repeated es pad fit few) .beyond (omega (arith, count)))
 
 pub unused-zero : UnusedZero
 unfolding trimmed

@@ -5,13 +5,15 @@ use mathlib.Core.List.{List, [], _∷_, _++_}
 use Prim.Native.Nat.{ℕ, _+_, _-_, _%_, _^_, _≤_, _<_}
 use lib.ListN.{length, getD, take, drop}
 use Rattle.item_rules.specs.Item.{head, bytesFor, stepIn}
+use Rattle.item_rules.specs.declared.Repeats.{Repeats}
+use Rattle.item_rules.specs.declared.Repeats.the-variants.{Forbidden, Allowed}
 use Rattle.item_rules.specs.declared.Step.the-variants as step
-use Rattle.base_rules.specs.Answer.{granted}
+use Rattle.base_rules.specs.Answer.{granted, refused}
 use Rattle.base_rules.specs.Tests.{among}
-use Rattle.tag_rules.specs.Find.{checkOf, locateOf, shownBy}
-use Rattle.tag_rules.specs.Calls.{openCall, searchCall}
+use Rattle.tag_rules.specs.Find.{checkOf, locateOf, locateNthOf, shownBy}
+use Rattle.tag_rules.specs.Calls.{openCall, searchCall, searchNthCall}
 use Rattle.write_rules.specs.Write.{unusedOf, trimmed, itemBytes}
-use Rattle.write_rules.specs.Packet.{Entry, packetOf, namesOf, AllFit, Apart}
+use Rattle.write_rules.specs.Packet.{Entry, packetOf, namesOf, writtenAs, AllFit, Apart}
 
 -- W1: what stands at `at` in s is an item of that name, those bits and that value
 pub record ReadAs (s : List ℕ) (at end name bits : ℕ) (value : List ℕ) : Type 0 where
@@ -27,18 +29,43 @@ ReadsBack = (pre rest : List ℕ) (end name bits : ℕ) (v : List ℕ) → name 
 
 -- W2: a packet of written items opens,
 abbrev pub Opens : Type 0
-Opens = (es : List Entry) (pad : List ℕ) → AllFit es → Apart es → length pad ≤ 7 → openCall (packetOf es pad) ≡ granted (0 ∷ [])
+Opens = (es : List Entry) (pad : List ℕ) → AllFit es → Apart es → length pad ≤ 7 → openCall Forbidden (packetOf es pad) ≡ granted (0 ∷ [])
 
 -- and the first item that was written under a name is found under it: the search answers its bits, and its value is shown
-pub record FoundAs (p standing : List ℕ) (e : Entry) : Type 0 where
-  pub bits : searchCall p standing (e .name) ≡ granted (e .bits ∷ [])
-  pub value : shownBy p standing (locateOf p standing (e .name)) ≡ trimmed (e .bits) (e .value)
+pub record FoundAs (w : Repeats) (p standing : List ℕ) (e : Entry) : Type 0 where
+  pub bits : searchCall w p standing (e .name) ≡ granted (e .bits ∷ [])
+  pub value : shownBy p standing (locateOf w p standing (e .name)) ≡ trimmed (e .bits) (e .value)
 
 -- whatever standing packet is lent beside it, if that has no item at fault
 abbrev pub Finds : Type 0
 Finds = (before after : List Entry) (e : Entry) (pad standing : List ℕ) → AllFit (before ++ (e ∷ after)) → Apart (before ++ (e ∷ after))
-    → length pad ≤ 7 → checkOf standing ≡ 0 → among (e .name) (namesOf before) ≡ false
-    → FoundAs (packetOf (before ++ (e ∷ after)) pad) standing e
+    → length pad ≤ 7 → checkOf Forbidden standing ≡ 0 → among (e .name) (namesOf before) ≡ false
+    → FoundAs Forbidden (packetOf (before ++ (e ∷ after)) pad) standing e
+
+-- document 02, Item 1: where names may repeat, a packet of written items opens whatever their names are,
+abbrev pub OpensRepeated : Type 0
+OpensRepeated = (es : List Entry) (pad : List ℕ) → AllFit es → length pad ≤ 7 → openCall Allowed (packetOf es pad) ≡ granted (0 ∷ [])
+
+-- and the first item that was written under a name is found under it, whether more were written or not
+abbrev pub FindsRepeated : Type 0
+FindsRepeated = (before after : List Entry) (e : Entry) (pad standing : List ℕ) → AllFit (before ++ (e ∷ after)) → length pad ≤ 7
+    → checkOf Allowed standing ≡ 0 → among (e .name) (namesOf before) ≡ false
+    → FoundAs Allowed (packetOf (before ++ (e ∷ after)) pad) standing e
+
+-- the occurrence of a number in p is the item that e was written as: the search answers its bits, and its value is shown
+pub record NthAs (p : List ℕ) (number : ℕ) (e : Entry) : Type 0 where
+  pub bits : searchNthCall Allowed p (e .name) number ≡ granted (e .bits ∷ [])
+  pub value : shownBy p p (locateNthOf Allowed p (e .name) number) ≡ trimmed (e .bits) (e .value)
+
+-- document 02, Item 1, "counted from 0": each item is the occurrence with the number of those that were written under its name before it,
+abbrev pub FindsNth : Type 0
+FindsNth = (before after : List Entry) (e : Entry) (pad : List ℕ) → AllFit (before ++ (e ∷ after)) → length pad ≤ 7
+    → NthAs (packetOf (before ++ (e ∷ after)) pad) (length (writtenAs (e .name) before)) e
+
+-- and beyond the last that was written there is none
+abbrev pub NoMore : Type 0
+NoMore = (es : List Entry) (name number : ℕ) (pad : List ℕ) → AllFit es → length pad ≤ 7 → length (writtenAs name es) ≤ number
+    → searchNthCall Allowed (packetOf es pad) name number ≡ refused 34
 
 -- W3: "Unused low bits of the last byte: the sender writes zeros": it is a multiple of their power of two,
 abbrev pub UnusedZero : Type 0

@@ -1,8 +1,9 @@
 -- A TAG packet as it is written (clause 5.1; document 01, "TAG layer"): items, one behind the other, then padding.
 use mathlib.Core.Path.{_≡_}
-use mathlib.Core.Bool.{false}
+use mathlib.Core.Bool.{false, cond}
 use mathlib.Core.List.{List, [], _∷_, _++_}
 use Prim.Native.Nat.{ℕ, _^_, _<_}
+use lib.Dec.{eqb}
 use lib.ListN.{length}
 use Rattle.base_rules.specs.Tests.{among}
 use Rattle.item_rules.specs.Item.{bytesFor}
@@ -24,6 +25,11 @@ packetOf (e ∷ es) pad = itemBytes (e .name) (e .bits) (e .value) ++ packetOf e
 unfoldable pub namesOf : List Entry → List ℕ
 namesOf [] = []
 namesOf (e ∷ es) = e .name ∷ namesOf es
+
+-- document 02, Item 1: those of them that are written under a name, in their order
+unfoldable pub writtenAs : ℕ → List Entry → List Entry
+writtenAs name [] = []
+writtenAs name (e ∷ es) = cond (eqb (e .name) name) (e ∷ writtenAs name es) (writtenAs name es)
 
 -- clause 5.2: name and length are numbers of 4 bytes; document 01: neither 43 BITS nor 33 PTR
 pub record Fits (e : Entry) : Type 0 where

@@ -10,10 +10,10 @@ enum-told : tie.Need-enum-told
 enum-told c = search needs
 
 returns : tie.Need-returns
-returns c = ap refusalOf (sym (c .enum-told .given .1)) ∙ opens _ _ (c .before .before .open-reader .ensures) .1
+returns c = ap refusalOf (sym (c .enum-told .given .1)) ∙ opens _ _ _ (c .before .before .open-reader .ensures) .1
 
 returns-2 : tie.Need-returns-2
-returns-2 c = ap refusalOf (sym (c .before .opened .given .1)) ∙ opens _ _ (c .before .before .before .open-reader .ensures) .1
+returns-2 c = ap refusalOf (sym (c .before .opened .given .1)) ∙ opens _ _ _ (c .before .before .before .open-reader .ensures) .1
 
 open-reader-requires : tie.Need-open-reader-requires
 open-reader-requires c κs = search needs

@@ -15,54 +15,57 @@ use Rattle.tag.proofs.check.Tie as tie
 use Rattle.tag.proofs.check.Reads as reads
 use Rattle.tag.proofs.check.Lts as lts
 use Rattle.item.proofs.fault_of.Reads as fault-of-reads
+use Rattle.item.proofs.marked.Reads as marked-reads
 use Rattle.item.proofs.no_marks.Reads as no-marks-reads
 use Rattle.item.proofs.slot.Reads as slot-reads
 use Rattle.item.proofs.step_in.Reads as step-in-reads
 
 abbrev Inv-loop : tie.InvT-loop
-Inv-loop packet end marks₀ at₀ marks at = Seen faultsOf packet 0 (length packet) marks at
+Inv-loop packet repeats end marks₀ at₀ marks at = Seen (faultsOf repeats) packet 0 (length packet) marks at
 
 abbrev μ-loop : tie.MeasureT-loop
-μ-loop packet end marks₀ at₀ marks at = length packet - at
+μ-loop packet repeats end marks₀ at₀ marks at = length packet - at
 
 loop-holds : tie.Need-loop-holds Inv-loop μ-loop
 loop-holds c = seen-none _ _ _ _ _ (ap length (c .no-marks .ensures) ∙ length-replicate slots false)
 
 returns : tie.Need-returns Inv-loop μ-loop
 returns c =
-    let k = c .before .before .before .before in
+    let k = c .before .before .before .before .before in
     let e = sym (k .before .before .step-in .ensures .0) ∙ k .step .given .1 in
-    check-stops _ _ _ (k .before .before .before .loop .inv) _ e _ _ (c .before .before .slot .ensures .0) (c .before .fault-of .ensures)
+    let m = c .before .before .marked .ensures in
+    check-stops _ _ _ _ (k .before .before .before .loop .inv) _ e _ _ _ (c .before .before .before .slot .ensures .0) m (c .before .fault-of .ensures)
     (c .if1 .taken)
 
 add-at : tie.Need-add-at Inv-loop μ-loop
 add-at c =
-    let k = c .before .before .before .before .before in
+    let k = c .before .before .before .before .before .before in
     let e = sym (k .before .before .step-in .ensures .0) ∙ k .step .given .1 in
     omega (arith, item-begins _ _ _ _ e, item-fits _ _ _ _ e)
 
 loop-less : tie.Need-loop-less Inv-loop μ-loop
 loop-less c =
-    let k = c .before .before .before .before .before in
+    let k = c .before .before .before .before .before .before in
     omega (arith, falls _ _ _ _ (sym (k .before .before .step-in .ensures .0) ∙ k .step .given .1))
 
 loop-again : tie.Need-loop-again Inv-loop μ-loop
 loop-again c =
-    let k = c .before .before .before .before .before in
+    let k = c .before .before .before .before .before .before in
     let e = sym (k .before .before .step-in .ensures .0) ∙ k .step .given .1 in
-    let h = c .before .before .before .slot .ensures .0 in
-    check-turn _ _ _ (k .before .before .before .loop .inv) _ e _ _ h (c .before .before .fault-of .ensures) (c .before .if1 .left)
+    let h = c .before .before .before .before .slot .ensures .0 in
+    let m = c .before .before .before .marked .ensures in
+    check-turn _ _ _ _ (k .before .before .before .loop .inv) _ e _ _ _ h m (c .before .before .fault-of .ensures) (c .before .if1 .left)
 
 enum-told : tie.Need-enum-told Inv-loop μ-loop
 enum-told c = search needs
 
 returns-2 : tie.Need-returns-2 Inv-loop μ-loop
-returns-2 c = check-ends _ _ _ (c .before .before .before .loop .inv) _ (sym (c .before .before .step-in .ensures .0) ∙ c .enum-told .given .1)
+returns-2 c = check-ends _ _ _ _ (c .before .before .before .loop .inv) _ (sym (c .before .before .step-in .ensures .0) ∙ c .enum-told .given .1)
 
 returns-3 : tie.Need-returns-3 Inv-loop μ-loop
 returns-3 c =
     let k = c .before in
-    check-refused _ _ _ (k .before .before .before .loop .inv) _ (sym (k .before .before .step-in .ensures .0) ∙ k .step2 .given .1)
+    check-refused _ _ _ _ (k .before .before .before .loop .inv) _ (sym (k .before .before .step-in .ensures .0) ∙ k .step2 .given .1)
 
 no-marks-requires : tie.Need-no-marks-requires Inv-loop μ-loop
 no-marks-requires c κs = search needs
@@ -76,8 +79,11 @@ enum-known-step c = search needs
 slot-requires : tie.Need-slot-requires Inv-loop μ-loop
 slot-requires c κs = search needs
 
-array-read-fault-of : tie.Need-array-read-fault-of Inv-loop μ-loop
-array-read-fault-of c = search needs
+array-read-marked : tie.Need-array-read-marked Inv-loop μ-loop
+array-read-marked c = search needs
+
+marked-requires : tie.Need-marked-requires Inv-loop μ-loop
+marked-requires c κs = search needs
 
 fault-of-requires : tie.Need-fault-of-requires Inv-loop μ-loop
 fault-of-requires c κs = search needs
@@ -99,7 +105,8 @@ check-spec =
     step-in-requires
     enum-known-step
     slot-requires
-    array-read-fault-of
+    array-read-marked
+    marked-requires
     fault-of-requires
     returns
     array-write-marks

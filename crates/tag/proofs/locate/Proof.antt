@@ -11,17 +11,17 @@ use Rattle.item.proofs.first_in.Reads as first-in-reads
 use Rattle.tag.proofs.check.Reads as check-reads
 
 returns : tie.Need-returns
-returns c = locate-told _ _ _ _ (refused-first _ _ _ _ (c .before .check .ensures) (c .if1 .taken))
+returns c = locate-told _ _ _ _ _ (refused-first _ _ _ _ _ (c .before .check .ensures) (c .if1 .taken))
 
 returns-2 : tie.Need-returns-2
 returns-2 c =
     let k = c .before in
-    locate-told _ _ _ _ (refused-second _ _ _ _ _ (k .before .before .check .ensures) (k .before .if1 .left) (k .check2 .ensures) (c .if2 .taken))
+    locate-told _ _ _ _ _ (refused-second _ _ _ _ _ _ (k .before .before .check .ensures) (k .before .if1 .left) (k .check2 .ensures) (c .if2 .taken))
 
 returns-3 : tie.Need-returns-3
 returns-3 c =
     let k = c .before .before .before .before in
-    locate-told _ _ _ _ (sym (is-located _ _ _ _ _ _ _ (k .before .before .before .check .ensures) (k .before .before .if1 .left) (k .before .check2 .ensures)
+    locate-told _ _ _ _ _ (sym (is-located _ _ _ _ _ _ _ _ (k .before .before .before .check .ensures) (k .before .before .if1 .left) (k .before .check2 .ensures)
     (k .if2 .left)
     (sym (c .before .before .before .first-in .ensures .0) ∙ c .before .f .given .1) refl))
 
@@ -33,7 +33,7 @@ returns-4 c =
     let Before = c .before .before .before .before .before .before .before in
     let First-in = c .before .before .before .before .before .before .first-in in
     let k = Before in
-    locate-told _ _ _ _ (sym (is-located _ _ _ _ _ _ _ (k .before .before .before .check .ensures) (k .before .before .if1 .left) (k .before .check2 .ensures)
+    locate-told _ _ _ _ _ (sym (is-located _ _ _ _ _ _ _ _ (k .before .before .before .check .ensures) (k .before .before .if1 .left) (k .before .check2 .ensures)
     (k .if2 .left)
     (sym (First-in .ensures .0) ∙ c .before .before .before .before .enum-told .given .1)
     (sym (c .before .before .before .first-in2 .ensures .0) ∙ c .before .g .given .1)))
@@ -41,7 +41,7 @@ returns-4 c =
 returns-5 : tie.Need-returns-5
 returns-5 c =
     let k = c .before .before .before .before .before .before in
-    locate-told _ _ _ _ (sym (is-located _ _ _ _ _ _ _ (k .before .before .before .check .ensures) (k .before .before .if1 .left) (k .before .check2 .ensures)
+    locate-told _ _ _ _ _ (sym (is-located _ _ _ _ _ _ _ _ (k .before .before .before .check .ensures) (k .before .before .if1 .left) (k .before .check2 .ensures)
     (k .if2 .left)
     (sym (c .before .before .before .before .before .first-in .ensures .0) ∙ c .before .before .before .enum-told .given .1)
     (sym (c .before .before .first-in2 .ensures .0) ∙ c .enum-told2 .given .1)))

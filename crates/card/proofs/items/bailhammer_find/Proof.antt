@@ -1,4 +1,7 @@
 -- `bailhammer_find` meets its contract: what is told is where the name is. Assumes nothing.
+use mathlib.Core.Path.{ap, _∙_}
+use Rattle.item_rules.specs.declared.Repeats.{Repeats}
+use Rattle.tag_rules.specs.Calls.{locateCall}
 use Rattle.card_rules.specs.Items.{found-widths}
 use Rattle.card_rules.proofs.ToldLaws.{told-as}
 use borrow.Author.Needs.{needs}
@@ -9,8 +12,13 @@ returns : tie.Need-returns
 returns c =
     let told = c .before .before in
     let found = told .before .before in
-    let before = found .before .before .before .before .args .told .now in
-    told-as found-widths before (found .locate .ensures .1) (told .tell-found .ensures)
+    let word = found .before in
+    let a = word .before .before .before .before .args in
+    let is = found .locate .ensures .1 ∙ ap (λ (r : Repeats). locateCall r (a .packet .now) (a .standing .now) (a .name)) (word .repeats-of .ensures) in
+    told-as found-widths (a .told .now) is (told .tell-found .ensures)
+
+repeats-of-requires : tie.Need-repeats-of-requires
+repeats-of-requires c κs = search needs
 
 locate-requires : tie.Need-locate-requires
 locate-requires c κs = search needs
@@ -22,4 +30,4 @@ same-length : tie.Need-same-length
 same-length c = search needs
 
 pub bailhammer-find-spec : {M : Type 1} → statement M
-bailhammer-find-spec = tie.close (tie.spec locate-requires tell-found-requires same-length returns)
+bailhammer-find-spec = tie.close (tie.spec repeats-of-requires locate-requires tell-found-requires same-length returns)

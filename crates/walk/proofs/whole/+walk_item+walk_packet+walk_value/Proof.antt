@@ -31,6 +31,7 @@ use Rattle.walk.proofs.whole.walk_value.Reads as walk-value
 use Rattle.walk.proofs.whole.walk_value.Kinds as walk-value-kinds
 use Rattle.walk.proofs.whole.+walk_item+walk_packet+walk_value.Lts-walk_value as walk-value-lts
 use Rattle.item.proofs.fault_of.Reads as fault-of-reads
+use Rattle.item.proofs.marked.Reads as marked-reads
 use Rattle.item.proofs.no_marks.Reads as no-marks-reads
 use Rattle.item.proofs.slot.Reads as slot-reads
 use Rattle.item.proofs.step_in.Reads as step-in-reads
@@ -40,13 +41,13 @@ use Rattle.walk.proofs.whole.+walk_item+walk_packet+walk_value.Tie.{clo
 
 -- the bytes left, an item's with its head; each call of the cycle leaves less
 abbrev μ-walk-item : Measures 2 walk-item-kinds.ps ℕ
-μ-walk-item κs a = head + a .1 .1 .1 .1 .1 .0 .len .0
+μ-walk-item κs a = head + a .1 .1 .1 .1 .1 .1 .0 .len .0
 
 abbrev μ-walk-packet : Measures 2 walk-packet-kinds.ps ℕ
-μ-walk-packet κs a = (a .1 .1 .1 .0 - a .1 .1 .0) + 1
+μ-walk-packet κs a = (a .1 .1 .1 .1 .0 - a .1 .1 .1 .0) + 1
 
 abbrev μ-walk-value : Measures 2 walk-value-kinds.ps ℕ
-μ-walk-value κs a = a .1 .1 .1 .0 .len .0 + 2
+μ-walk-value κs a = a .1 .1 .1 .1 .0 .len .0 + 2
 
 abbrev walk-item-at : ℕ → In 2 walk-item-kinds.ps
 walk-item-at t = and 2 walk-item-kinds.ps (is 2 walk-item-kinds.ps μ-walk-item t) walk-item.Pre
@@ -90,6 +91,8 @@ packet-calls t = (
   step-in-reads.Learnt,
   slot-reads.Asked,
   slot-reads.Learnt,
+  marked-reads.Asked,
+  marked-reads.Learnt,
   walk-item-below t,
   walk-item.Post,
 )
@@ -105,7 +108,7 @@ walk-item-fault-of-requires : (t : ℕ) → walk-item-lts.Need-fault-of-requires
 walk-item-fault-of-requires t c κs = search needs
 
 walk-item-returns : (t : ℕ) → walk-item-lts.Need-returns (item-calls t) (walk-item-at t) walk-item.Post
-walk-item-returns t c = own _ _ _ _ _ _ _ (own-first _ _ _ _ _ (c .before .fault-of .ensures) (c .if1 .taken)) (c .if1 .taken)
+walk-item-returns t c = own _ _ _ _ _ _ _ _ (own-first _ _ _ _ _ (c .before .fault-of .ensures) (c .if1 .taken)) (c .if1 .taken)
 
 walk-item-is-container-requires : (t : ℕ) → walk-item-lts.Need-is-container-requires (item-calls t) (walk-item-at t) walk-item.Post
 walk-item-is-container-requires t c κs = search needs
@@ -115,7 +118,7 @@ walk-item-returns-2 t c =
     let k = c .before .before .before in
     let a = k .before .before .before .before .before .args in
     let b = stood (a .s .now) (a .from) (a .end) (a .mark) (a .i) in
-    own _ _ _ b _ _ _ (not-whole _ _ b _ _ (k .before .before .fault-of .ensures) (k .before .if1 .left) (sym (k .is-container .ensures)
+    own _ _ _ _ b _ _ _ (not-whole _ _ b _ _ (k .before .before .fault-of .ensures) (k .before .if1 .left) (sym (k .is-container .ensures)
     ∙ c .before .before .if2 .taken) (λ z. omega (arith, z, c .if3 .taken))) (eqb-false 35 0 refl)
 
 -- behind the test of 35, whichever way it came: no container that is not whole bytes
@@ -132,7 +135,7 @@ walk-item-returns-3 t c =
     let k = c .before .before in
     let a = k .before .before .before .before .before .args in
     let b = stood (a .s .now) (a .from) (a .end) (a .mark) (a .i) in
-    own _ _ _ b _ _ _ (too-deep _ _ b _ _ (k .before .before .fault-of .ensures) (k .before .if1 .left) (whole-by t (c .before))
+    own _ _ _ _ b _ _ _ (too-deep _ _ b _ _ (k .before .before .fault-of .ensures) (k .before .if1 .left) (whole-by t (c .before))
     (omega (arith, c .if4 .taken))) (eqb-false 32 0 refl)
 
 walk-item-walk-value-requires : (t : ℕ) → walk-item-lts.Need-walk-value-requires (item-calls t) (walk-item-at t) walk-item.Post
@@ -147,7 +150,7 @@ walk-item-returns-4 t c =
     let b = stood (a .s .now) (a .from) (a .end) (a .mark) (a .i) in
     let z = no-fault _ (a .depth) b _ _ (k .before .before .fault-of .ensures) (k .before .if1 .left) (whole-by t (c .before .before .before))
     (omega (arith, c .before .before .if4 .left)) in
-    contents _ _ _ b _ _ z (sym (k .is-container .ensures) ∙ c .before .if5 .taken) (omega (arith, c .before .before .if4 .left))
+    contents _ _ _ _ b _ _ z (sym (k .is-container .ensures) ∙ c .before .if5 .taken) (omega (arith, c .before .before .if4 .left))
     (c .walk-value .ensures)
 
 walk-item-returns-5 : (t : ℕ) → walk-item-lts.Need-returns-5 (item-calls t) (walk-item-at t) walk-item.Post
@@ -157,14 +160,14 @@ walk-item-returns-5 t c =
     let b = stood (a .s .now) (a .from) (a .end) (a .mark) (a .i) in
     let z = no-fault _ (a .depth) b _ _ (k .before .before .fault-of .ensures) (k .before .if1 .left) (whole-by t (c .before .before))
     (omega (arith, c .before .if4 .left)) in
-    no-contents _ _ _ b _ z (sym (k .is-container .ensures) ∙ c .if5 .left) (omega (arith, c .before .if4 .left))
+    no-contents _ _ _ _ b _ z (sym (k .is-container .ensures) ∙ c .if5 .left) (omega (arith, c .before .if4 .left))
 
 abbrev walk-packet-Inv-loop : walk-packet-lts.InvT-loop
-walk-packet-Inv-loop s names from end depth marks₀ at₀ marks at = (from ≤ at)
-    × WalkSeen (deepest + 1 - depth) s (namesOf names) depth from end marks at
+walk-packet-Inv-loop s names repeats from end depth marks₀ at₀ marks at = (from ≤ at)
+    × WalkSeen repeats (deepest + 1 - depth) s (namesOf names) depth from end marks at
 
 abbrev walk-packet-μ-loop : walk-packet-lts.MeasureT-loop
-walk-packet-μ-loop s names from end depth marks₀ at₀ marks at = end - at
+walk-packet-μ-loop s names repeats from end depth marks₀ at₀ marks at = end - at
 
 walk-packet-no-marks-requires : (t : ℕ) → walk-packet-lts.Need-no-marks-requires (packet-calls t)
     (walk-packet-at t) walk-packet.Post walk-packet-Inv-loop walk-packet-μ-loop
@@ -186,14 +189,18 @@ walk-packet-slot-requires : (t : ℕ) → walk-packet-lts.Need-slot-requires (pa
     (walk-packet-at t) walk-packet.Post walk-packet-Inv-loop walk-packet-μ-loop
 walk-packet-slot-requires t c κs = search needs
 
-walk-packet-array-read-walk-item : (t : ℕ) → walk-packet-lts.Need-array-read-walk-item (packet-calls t)
+walk-packet-array-read-marked : (t : ℕ) → walk-packet-lts.Need-array-read-marked (packet-calls t)
     (walk-packet-at t) walk-packet.Post walk-packet-Inv-loop walk-packet-μ-loop
-walk-packet-array-read-walk-item t c = omega (arith, c .slot .ensures .1, c .before .before .before .before .before .loop .inv .1 .long)
+walk-packet-array-read-marked t c = omega (arith, c .slot .ensures .1, c .before .before .before .before .before .loop .inv .1 .long)
+
+walk-packet-marked-requires : (t : ℕ) → walk-packet-lts.Need-marked-requires (packet-calls t)
+    (walk-packet-at t) walk-packet.Post walk-packet-Inv-loop walk-packet-μ-loop
+walk-packet-marked-requires t c κs = search needs
 
 walk-packet-walk-item-requires : (t : ℕ) → walk-packet-lts.Need-walk-item-requires (packet-calls t)
     (walk-packet-at t) walk-packet.Post walk-packet-Inv-loop walk-packet-μ-loop
 walk-packet-walk-item-requires t c κs =
-    let k = c .before .before in
+    let k = c .before .before .before in
     let e = sym (k .before .before .step-in .ensures .0) ∙ k .step .given .1 in
     let h = item-fits _ _ _ _ e in
     let b = item-begins _ _ _ _ e in
@@ -204,41 +211,41 @@ walk-packet-walk-item-requires t c κs =
 walk-packet-returns : (t : ℕ) → walk-packet-lts.Need-returns (packet-calls t)
     (walk-packet-at t) walk-packet.Post walk-packet-Inv-loop walk-packet-μ-loop
 walk-packet-returns t c =
-    let k = c .before .before .before .before in
-    walk-stops _ _ _ _ _ _ _ _ (k .before .before .before .loop .inv .1) _ (sym (k .before .before .step-in .ensures .0) ∙ k .step .given .1) _ _
-    (c .before .before .slot .ensures .0) (c .before .walk-item .ensures) (c .if1 .taken)
+    let k = c .before .before .before .before .before in
+    walk-stops _ _ _ _ _ _ _ _ _ (k .before .before .before .loop .inv .1) _ (sym (k .before .before .step-in .ensures .0) ∙ k .step .given .1) _ _ _
+    (c .before .before .before .slot .ensures .0) (c .before .before .marked .ensures) (c .before .walk-item .ensures) (c .if1 .taken)
 
 walk-packet-array-write-marks : (t : ℕ) → walk-packet-lts.Need-array-write-marks (packet-calls t)
     (walk-packet-at t) walk-packet.Post walk-packet-Inv-loop walk-packet-μ-loop
 walk-packet-array-write-marks t c = omega (
   arith,
-  c .before .before .slot .ensures .1,
-  c .before .before .before .before .before .before .before .loop .inv .1 .long,
+  c .before .before .before .slot .ensures .1,
+  c .before .before .before .before .before .before .before .before .loop .inv .1 .long,
 )
 
 walk-packet-add-at : (t : ℕ) → walk-packet-lts.Need-add-at (packet-calls t)
     (walk-packet-at t) walk-packet.Post walk-packet-Inv-loop walk-packet-μ-loop
 walk-packet-add-at t c =
-    let k = c .before .before .before .before .before in
+    let k = c .before .before .before .before .before .before in
     let e = sym (k .before .before .step-in .ensures .0) ∙ k .step .given .1 in
     omega (arith, item-fits _ _ _ _ e, item-begins _ _ _ _ e)
 
 walk-packet-loop-less : (t : ℕ) → walk-packet-lts.Need-loop-less (packet-calls t)
     (walk-packet-at t) walk-packet.Post walk-packet-Inv-loop walk-packet-μ-loop
 walk-packet-loop-less t c =
-    let k = c .before .before .before .before .before in
+    let k = c .before .before .before .before .before .before in
     omega (arith, falls-short _ _ _ _ (sym (k .before .before .step-in .ensures .0) ∙ k .step .given .1))
 
 walk-packet-loop-again : (t : ℕ) → walk-packet-lts.Need-loop-again (packet-calls t)
     (walk-packet-at t) walk-packet.Post walk-packet-Inv-loop walk-packet-μ-loop
 walk-packet-loop-again t c =
-    let k = c .before .before .before .before .before in
+    let k = c .before .before .before .before .before .before in
     let e = sym (k .before .before .step-in .ensures .0) ∙ k .step .given .1 in
     let v = k .before .before .before .loop .inv in
     let b = item-begins _ _ _ _ e in (
       omega (arith, v .0),
-      walk-turn _ _ _ _ _ _ _ _ (v .1) _ e _ _ (c .before .before .before .slot .ensures .0)
-          (c .before .before .walk-item .ensures) (c .before .if1 .left),
+      walk-turn _ _ _ _ _ _ _ _ _ (v .1) _ e _ _ _ (c .before .before .before .before .slot .ensures .0)
+          (c .before .before .before .marked .ensures) (c .before .before .walk-item .ensures) (c .before .if1 .left),
     )
 
 walk-packet-enum-told : (t : ℕ) → walk-packet-lts.Need-enum-told (packet-calls t)
@@ -247,7 +254,7 @@ walk-packet-enum-told t c = search needs
 
 walk-packet-returns-2 : (t : ℕ) → walk-packet-lts.Need-returns-2 (packet-calls t)
     (walk-packet-at t) walk-packet.Post walk-packet-Inv-loop walk-packet-μ-loop
-walk-packet-returns-2 t c = walk-ends _ _ _ _ _ _ _ _ (c .before .before .before .loop .inv .1) _ (sym (c .before .before .step-in .ensures .0)
+walk-packet-returns-2 t c = walk-ends _ _ _ _ _ _ _ _ _ (c .before .before .before .loop .inv .1) _ (sym (c .before .before .step-in .ensures .0)
     ∙ c .enum-told .given .1)
 
 walk-packet-enum-known-step-2 : (t : ℕ) → walk-packet-lts.Need-enum-known-step-2 (packet-calls t)
@@ -258,7 +265,7 @@ walk-packet-returns-3 : (t : ℕ) → walk-packet-lts.Need-returns-3 (packet-cal
     (walk-packet-at t) walk-packet.Post walk-packet-Inv-loop walk-packet-μ-loop
 walk-packet-returns-3 t c =
     let k = c .before in
-    walk-refused _ _ _ _ _ _ _ _ (k .before .before .before .loop .inv .1) _ (sym (k .before .before .step-in .ensures .0) ∙ k .step2 .given .1)
+    walk-refused _ _ _ _ _ _ _ _ _ (k .before .before .before .loop .inv .1) _ (sym (k .before .before .step-in .ensures .0) ∙ k .step2 .given .1)
 
 walk-value-add-walk-packet : (t : ℕ) → walk-value-lts.Need-add-walk-packet (value-calls t) (walk-value-at t) walk-value.Post
 walk-value-add-walk-packet t c = search needs
@@ -272,7 +279,7 @@ walk-value-walk-packet-requires t c κs =
     (omega arith, omega arith)
 
 walk-value-returns : (t : ℕ) → walk-value-lts.Need-returns (value-calls t) (walk-value-at t) walk-value.Post
-walk-value-returns t c = one-deeper _ _ _ _ _ _ (c .walk-packet .ensures)
+walk-value-returns t c = one-deeper _ _ _ _ _ _ _ (c .walk-packet .ensures)
 
 pub +walk-item+walk-packet+walk-value-spec : {M : Type 1} → statement M
 +walk-item+walk-packet+walk-value-spec =
@@ -280,8 +287,8 @@ pub +walk-item+walk-packet+walk-value-spec : {M : Type 1} → statement M
     (walk-item-fault-of-requires t) (walk-item-returns t) (walk-item-is-container-requires t) (walk-item-returns-2 t) (walk-item-returns-3 t)
     (walk-item-walk-value-requires t) (walk-item-returns-4 t) (walk-item-returns-5 t)) (λ t. walk-packet-lts.spec (packet-calls t) (walk-packet-at t)
     walk-packet.Post walk-packet-Inv-loop walk-packet-μ-loop (walk-packet-no-marks-requires t) (walk-packet-loop-holds t)
-    (walk-packet-step-in-requires t) (walk-packet-enum-known-step t) (walk-packet-slot-requires t) (walk-packet-array-read-walk-item t)
-    (walk-packet-walk-item-requires t) (walk-packet-returns t) (walk-packet-array-write-marks t) (walk-packet-add-at t) (walk-packet-loop-less t)
+    (walk-packet-step-in-requires t) (walk-packet-enum-known-step t) (walk-packet-slot-requires t) (walk-packet-array-read-marked t)
+    (walk-packet-marked-requires t) (walk-packet-walk-item-requires t) (walk-packet-returns t) (walk-packet-array-write-marks t) (walk-packet-add-at t) (walk-packet-loop-less t)
     (walk-packet-loop-again t) (walk-packet-enum-told t) (walk-packet-returns-2 t) (walk-packet-enum-known-step-2 t) (walk-packet-returns-3 t))
     λ t. walk-value-lts.spec (value-calls t) (walk-value-at t) walk-value.Post (walk-value-add-walk-packet t) (walk-value-add-walk-packet-2 t)
     (walk-value-walk-packet-requires t) (walk-value-returns t)

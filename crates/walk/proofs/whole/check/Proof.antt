@@ -9,10 +9,10 @@ use Rattle.walk.proofs.names.fault.Reads as fault-reads
 use Rattle.walk.proofs.whole.walk_packet.Reads as walk-packet-reads
 
 returns : tie.Need-returns
-returns c = list-refused _ _ _ (c .before .fault .ensures) (c .if1 .taken)
+returns c = list-refused _ _ _ _ (c .before .fault .ensures) (c .if1 .taken)
 
 returns-2 : tie.Need-returns-2
-returns-2 c = list-taken _ _ _ (c .before .before .fault .ensures) _ (c .before .if1 .left) (c .walk-packet .ensures)
+returns-2 c = list-taken _ _ _ _ (c .before .before .fault .ensures) _ (c .before .if1 .left) (c .walk-packet .ensures)
 
 fault-requires : tie.Need-fault-requires
 fault-requires c κs = search needs

@@ -1,0 +1,23 @@
+-- `occurrence::search_nth` meets its contract.
+use borrow.Author.Needs.{needs}
+use mathlib.Core.Path.{ap, _∙_}
+use Rattle.tag_rules.specs.Calls.{searchAnswer, searchNthCall}
+use Rattle.occurrence.proofs.search_nth.Statement.{statement}
+use Rattle.occurrence.proofs.search_nth.Tie as tie
+use Rattle.occurrence.proofs.search_nth.Reads as reads
+use Rattle.occurrence.proofs.search_nth.Lts as lts
+use Rattle.occurrence.proofs.locate_nth.Reads as locate-nth-reads
+use Rattle.tag.proofs.sought.Reads as sought-reads
+
+returns : tie.Need-returns
+unfolding searchNthCall
+returns c = c .sought .ensures ∙ ap searchAnswer (c .before .locate-nth .ensures .0)
+
+locate-nth-requires : tie.Need-locate-nth-requires
+locate-nth-requires c κs = search needs
+
+sought-requires : tie.Need-sought-requires
+sought-requires c κs = search needs
+
+pub search-nth-spec : {M : Type 1} → statement M
+search-nth-spec = tie.close (tie.spec locate-nth-requires sought-requires returns)
