@@ -9,7 +9,7 @@ use crate::words;
 use crate::words::Name;
 use crate::words::Number;
 
-// The answer; 0 where the line is no question on items or malformed.
+// The answer; 0 where the line is no question on items or malformed. Those by name are asked of `finding`.
 pub(crate) fn answer(line: &[u8], out: &mut [u8]) -> usize
     ensures { λ r. ⌜ Wrote (now (out .entry)) 0 r (now (out .exit)) ⌝ }
 {
@@ -22,7 +22,7 @@ pub(crate) fn answer(line: &[u8], out: &mut [u8]) -> usize
     if words::asks_or_more(line, b"walk", 2) {
         return answer_walk(line, out);
     }
-    0
+    finding::answer(line, out)
 }
 
 // `item NAME BITS ROOM VALUE` is answered `item BYTES`, or `refused N`.

@@ -84,10 +84,6 @@ fn ask_stateless(line: &[u8], out: &mut [u8]) -> usize
     if item != 0 {
         return item;
     }
-    let found = finding::answer(line, out);
-    if found != 0 {
-        return found;
-    }
     sending::answer(line, out)
 }
 

@@ -1,23 +1,23 @@
--- `items::answer_find` meets its contract: the bytes read fit the buffer. Assumes nothing.
+-- `finding::answer_find` meets its contract: the bytes read fit the buffer. Assumes nothing.
 use mathlib.Core.Path.{ap}
 use native.Mathlib.Omega.{arith}
 use borrow.Author.Needs.{needs}
 use Rattle.console.specs.inner.Sized.{sizeOf}
 use Rattle.console.proofs.Parts.{front}
-use Rattle.console.proofs.items.answer_find.Statement.{statement}
-use Rattle.console.proofs.items.answer_find.Tie as tie
+use Rattle.console.proofs.finding.answer_find.Statement.{statement}
+use Rattle.console.proofs.finding.answer_find.Tie as tie
 
 array-share-prefix-packet : tie.Need-array-share-prefix-packet
-array-share-prefix-packet c = omega (arith, ap sizeOf (c .before .before .before .before .before .before .before .before .before .n .given .1))
+array-share-prefix-packet c = omega (arith, ap sizeOf (c .before .before .before .before .before .before .before .before .before .before .before .before .before .n .given .1))
 
-slice-aggregate-write-found : tie.Need-slice-aggregate-write-found
-slice-aggregate-write-found c = front _ _ (array-share-prefix-packet (c .before))
+slice-aggregate-search-and-write : tie.Need-slice-aggregate-search-and-write
+slice-aggregate-search-and-write c = front _ _ (array-share-prefix-packet (c .before))
 
 array-share-prefix-standing : tie.Need-array-share-prefix-standing
-array-share-prefix-standing c = omega (arith, ap sizeOf (c .before .before .before .m .given .1))
+array-share-prefix-standing c = omega (arith, ap sizeOf (c .before .before .before .before .before .before .before .m .given .1))
 
-slice-aggregate-write-found-2 : tie.Need-slice-aggregate-write-found-2
-slice-aggregate-write-found-2 c = front _ _ (array-share-prefix-standing (c .before))
+slice-aggregate-search-and-write-2 : tie.Need-slice-aggregate-search-and-write-2
+slice-aggregate-search-and-write-2 c = front _ _ (array-share-prefix-standing (c .before))
 
 name-at-requires : tie.Need-name-at-requires
 name-at-requires c κs = search needs
@@ -67,14 +67,26 @@ enum-told-3 c = search needs
 returns-3 : tie.Need-returns-3
 returns-3 c = search needs
 
-write-found-requires : tie.Need-write-found-requires
-write-found-requires c κs = search needs
+word-at-requires : tie.Need-word-at-requires
+word-at-requires c κs = search needs
+
+enum-known-repeats : tie.Need-enum-known-repeats
+enum-known-repeats c = search needs
+
+enum-told-4 : tie.Need-enum-told-4
+enum-told-4 c = search needs
+
+returns-4 : tie.Need-returns-4
+returns-4 c = search needs
+
+search-and-write-requires : tie.Need-search-and-write-requires
+search-and-write-requires c κs = search needs
 
 same-length : tie.Need-same-length
 same-length c = search needs
 
-returns-4 : tie.Need-returns-4
-returns-4 c = search needs
+returns-5 : tie.Need-returns-5
+returns-5 c = search needs
 
 pub answer-find-spec : {M : Type 1} → statement M
 answer-find-spec =
@@ -96,10 +108,14 @@ answer-find-spec =
     enum-known-m
     enum-told-3
     returns-3
+    word-at-requires
+    enum-known-repeats
+    enum-told-4
+    returns-4
     array-share-prefix-packet
-    slice-aggregate-write-found
+    slice-aggregate-search-and-write
     array-share-prefix-standing
-    slice-aggregate-write-found-2
-    write-found-requires
+    slice-aggregate-search-and-write-2
+    search-and-write-requires
     same-length
-    returns-4)
+    returns-5)

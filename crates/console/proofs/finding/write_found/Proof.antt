@@ -1,14 +1,11 @@
--- `items::write_found` meets its contract: the value goes on where the bits stop. Assumes nothing.
+-- `finding::write_found` meets its contract: the value goes on where the bits stop. Assumes nothing.
 use borrow.Author.Needs.{needs}
 use Rattle.text_rules.proofs.Writing.{chain}
-use Rattle.console.proofs.items.write_found.Statement.{statement}
-use Rattle.console.proofs.items.write_found.Tie as tie
+use Rattle.console.proofs.finding.write_found.Statement.{statement}
+use Rattle.console.proofs.finding.write_found.Tie as tie
 
 returns : tie.Need-returns
-returns c = chain (c .before .before .before .before .before .before .before .before .number .ensures) (c .before .before .value .ensures)
-
-search-requires : tie.Need-search-requires
-search-requires c κs = search needs
+returns c = chain (c .before .before .before .before .before .before .before .number .ensures) (c .before .before .value .ensures)
 
 enum-known-sought : tie.Need-enum-known-sought
 enum-known-sought c = search needs
@@ -24,9 +21,6 @@ number-requires c κs = search needs
 
 slice-aggregate-value : tie.Need-slice-aggregate-value
 slice-aggregate-value c = search needs
-
-find-requires : tie.Need-find-requires
-find-requires c κs = search needs
 
 value-requires : tie.Need-value-requires
 value-requires c κs = search needs
@@ -50,13 +44,11 @@ pub write-found-spec : {M : Type 1} → statement M
 write-found-spec =
     tie.close
     (tie.spec
-    search-requires
     enum-known-sought
     slice-aggregate-number
     cast-number
     number-requires
     slice-aggregate-value
-    find-requires
     value-requires
     enum-known-sought-2
     refused-requires

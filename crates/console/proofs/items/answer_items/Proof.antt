@@ -8,7 +8,7 @@ use Rattle.console.proofs.items.answer_items.Statement.{statement}
 use Rattle.console.proofs.items.answer_items.Tie as tie
 
 array-share-prefix-packet : tie.Need-array-share-prefix-packet
-array-share-prefix-packet c = omega (arith, ap sizeOf (c .before .before .n .given .1))
+array-share-prefix-packet c = omega (arith, ap sizeOf (c .before .before .before .before .before .before .n .given .1))
 
 slice-aggregate-write-items : tie.Need-slice-aggregate-write-items
 slice-aggregate-write-items c = front _ _ (array-share-prefix-packet (c .before))
@@ -31,14 +31,26 @@ enum-told c = search needs
 returns : tie.Need-returns
 returns c = search needs
 
+word-at-requires : tie.Need-word-at-requires
+word-at-requires c κs = search needs
+
+enum-known-repeats : tie.Need-enum-known-repeats
+enum-known-repeats c = search needs
+
+enum-told-2 : tie.Need-enum-told-2
+enum-told-2 c = search needs
+
+returns-2 : tie.Need-returns-2
+returns-2 c = search needs
+
 write-items-requires : tie.Need-write-items-requires
 write-items-requires c κs = search needs
 
 same-length : tie.Need-same-length
 same-length c = search needs
 
-returns-2 : tie.Need-returns-2
-returns-2 c = search needs
+returns-3 : tie.Need-returns-3
+returns-3 c = search needs
 
 pub answer-items-spec : {M : Type 1} → statement M
 answer-items-spec =
@@ -50,8 +62,12 @@ answer-items-spec =
     enum-known-n
     enum-told
     returns
+    word-at-requires
+    enum-known-repeats
+    enum-told-2
+    returns-2
     array-share-prefix-packet
     slice-aggregate-write-items
     write-items-requires
     same-length
-    returns-2)
+    returns-3)

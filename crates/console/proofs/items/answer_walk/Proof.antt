@@ -8,13 +8,13 @@ use Rattle.console.proofs.items.answer_walk.Statement.{statement}
 use Rattle.console.proofs.items.answer_walk.Tie as tie
 
 array-share-prefix-packet : tie.Need-array-share-prefix-packet
-array-share-prefix-packet c = omega (arith, ap sizeOf (c .before .before .n .given .1))
+array-share-prefix-packet c = omega (arith, ap sizeOf (c .before .before .before .before .before .before .n .given .1))
 
 slice-aggregate-write-walk : tie.Need-slice-aggregate-write-walk
 slice-aggregate-write-walk c = front _ _ (array-share-prefix-packet (c .before))
 
 array-share-prefix-names : tie.Need-array-share-prefix-names
-array-share-prefix-names c = omega (arith, ap sizeOf (c .before .before .before .before .before .before .before .before .before .before .m .given .1))
+array-share-prefix-names c = omega (arith, ap sizeOf (c .before .before .before .before .before .before .before .before .before .before .before .before .before .before .m .given .1))
 
 slice-aggregate-write-walk-2 : tie.Need-slice-aggregate-write-walk-2
 slice-aggregate-write-walk-2 c = front _ _ (array-share-prefix-names (c .before))
@@ -55,14 +55,26 @@ enum-told-2 c = search needs
 returns-2 : tie.Need-returns-2
 returns-2 c = search needs
 
+word-at-requires : tie.Need-word-at-requires
+word-at-requires c κs = search needs
+
+enum-known-repeats : tie.Need-enum-known-repeats
+enum-known-repeats c = search needs
+
+enum-told-3 : tie.Need-enum-told-3
+enum-told-3 c = search needs
+
+returns-3 : tie.Need-returns-3
+returns-3 c = search needs
+
 write-walk-requires : tie.Need-write-walk-requires
 write-walk-requires c κs = search needs
 
 same-length : tie.Need-same-length
 same-length c = search needs
 
-returns-3 : tie.Need-returns-3
-returns-3 c = search needs
+returns-4 : tie.Need-returns-4
+returns-4 c = search needs
 
 pub answer-walk-spec : {M : Type 1} → statement M
 answer-walk-spec =
@@ -80,10 +92,14 @@ answer-walk-spec =
     enum-known-n
     enum-told-2
     returns-2
+    word-at-requires
+    enum-known-repeats
+    enum-told-3
+    returns-3
     array-share-prefix-packet
     slice-aggregate-write-walk
     array-share-prefix-names
     slice-aggregate-write-walk-2
     write-walk-requires
     same-length
-    returns-3)
+    returns-4)
