@@ -7,8 +7,9 @@ The answers come from crc.txt (made by a peer), from plans.py and fields.py (com
 01 and 02), from chunks.py (of parity.txt, made by a peer), from packets.py (written out beside the
 sentence of document 01 that gives it, or by its own reader), from fragments.py (by its own sender),
 from receiving.py (by hand and by its own receiver), from editions.py (both rules of sizes, by hand
-and by all of these), from endurance.py (losses, counted) and from the lists below. None is taken
-from the program. Running this again gives the same bytes.
+and by all of these), from endurance.py (losses, counted), from repeats.py (repeated names, by hand
+and by its own reader) and from the lists below. None is taken from the program. Running this again
+gives the same bytes.
 """
 import pathlib
 import sys
@@ -23,6 +24,7 @@ import packets
 import plans
 import receiver
 import receiving
+import repeats
 import usage
 
 HERE = pathlib.Path(__file__).resolve().parent
@@ -246,12 +248,12 @@ def received_fragments():
     ask_parts(receiving.PARTS)
 
 
-def either_edition():
+def change_requests():
     ask_parts(editions.PARTS)
-
-
-def exact_losses():
+    silent("")
     ask_parts(endurance.PARTS)
+    silent("")
+    ask_parts(repeats.PARTS)
 
 
 MALFORMED = """\
@@ -380,7 +382,7 @@ def long_lines():
 
 def main():
     for part in (sums, sizes, settings, counts, ordinary, named_settings, elements, whole_chunks, packets_and_items, longest_packets,
-                 sent_packets, received_fragments, either_edition, exact_losses, malformed, long_lines):
+                 sent_packets, received_fragments, change_requests, malformed, long_lines):
         part()
         silent("")
     questions.pop()

@@ -23,7 +23,8 @@ use Rattle.card_rules.specs.Told.{refusalIn, inWidths, tooShort, toldOf}
 unfoldable pub repeatsOf : ℕ → Repeats
 repeatsOf repeats = cond (eqb repeats 0) Forbidden Allowed
 
--- the widths of what finding tells, by name or by name and number: which packet 1 byte; the name, which was given, none; the bits 4, the value's place 8 and its bytes 4
+-- the widths of what finding tells, an occurrence too: which packet 1 byte; the name, which was given, none; the bits 4, the value's place 8 and
+-- its bytes 4
 abbrev pub found-widths : List ℕ
 found-widths = 1 ∷ 0 ∷ 4 ∷ 8 ∷ 4 ∷ []
 

@@ -105,7 +105,11 @@ fn search_nth_and_write(
     ensures { λ r. ⌜ Wrote (now (out .entry)) 0 r (now (out .exit)) ⌝ }
 {
     let sought = occurrence::search_nth(packet, repeats, name, number);
-    write_found(out, sought, occurrence::find_nth(packet, repeats, name, number))
+    write_found(
+        out,
+        sought,
+        occurrence::find_nth(packet, repeats, name, number),
+    )
 }
 
 // What a search answers and shows, or the refusal.

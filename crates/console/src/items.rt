@@ -111,12 +111,7 @@ fn write_items(out: &mut [u8], packet: &[u8], repeats: item::Repeats) -> usize
 }
 
 // The items of a walk, or the refusal.
-fn write_walk(
-    out: &mut [u8],
-    packet: &[u8],
-    names: &[u8],
-    repeats: item::Repeats,
-) -> usize
+fn write_walk(out: &mut [u8], packet: &[u8], names: &[u8], repeats: item::Repeats) -> usize
     ensures { λ r. ⌜ Wrote (now (out .entry)) 0 r (now (out .exit)) ⌝ }
 {
     let opened = walk::open_walk(packet, names, repeats);

@@ -6,8 +6,9 @@ use Rattle.item_rules.specs.declared.Step.the-variants as step
 use Rattle.item_rules.specs.declared.Found.the-variants as found
 use Rattle.item_rules.specs.Item.{valuesOf, numberOf}
 use Rattle.item_rules.specs.Run.{foundNumber}
-use Rattle.item_rules.specs.Claims.{OneStep, OneFound, FirstIsNth}
+use Rattle.item_rules.specs.Claims.{OneStep, OneFound, FirstIsNth, Twice, NeverTwice}
 use Rattle.item_rules.proofs.Occurrences as occurrences
+use Rattle.item_rules.proofs.Repeated as repeated
 
 -- an item is what it tells
 abbrev made : ℕ → ℕ → ℕ → ℕ → Item
@@ -44,3 +45,11 @@ one-found found.Nothing found.Nothing e = refl
 -- the first of a name is its occurrence 0
 pub first-is-nth : FirstIsNth
 first-is-nth = occurrences.first-is-nth
+
+-- a name that has stood before refuses its item where repeats are forbidden,
+pub twice : Twice
+twice = repeated.faults-twice
+
+-- and none where they may
+pub never-twice : NeverTwice
+never-twice = repeated.faults-never

@@ -2,7 +2,7 @@
 use Prim.Native.Nat.{ℕ}
 use mathlib.Core.Bool.{Bool, true, false, cond, _&&_, and-assoc}
 use mathlib.Core.List.{List, _∷_}
-use mathlib.Core.Path.{_≡_, refl, ap, _∙_}
+use mathlib.Core.Path.{_≡_, refl, sym, ap, _∙_}
 use native.Mathlib.Omega.{arith}
 use lib.Dec.{eqb}
 use borrow.Author.Tests.{eqb-true}
@@ -10,9 +10,10 @@ use Rattle.base_rules.specs.Tests.{among}
 use Rattle.base_rules.proofs.Logic.{either}
 use Rattle.item_rules.specs.declared.Repeats.{Repeats}
 use Rattle.item_rules.specs.declared.Repeats.the-variants.{Forbidden, Allowed}
-use Rattle.item_rules.specs.Run.{Run, item, padding, refused, runOf, faultOf, forbids, faultsOf, orElse}
+use Rattle.item_rules.specs.Run.{Run, item, padding, refused, faultOf, forbids, faultsOf, orElse}
+use Rattle.item_rules.specs.Claims.{Twice, NeverTwice}
 use Rattle.item_rules.proofs.Runs.{every-run}
-use Rattle.item_rules.proofs.Faults.{fault-still, fault-never}
+use Rattle.item_rules.proofs.Faults.{fault-again, fault-still, fault-never}
 
 -- a mark that counts by the caller's word, and then what a search says: that a name has stood before, as it counts by that word
 pub counts : (w : Repeats) (mark before m : Bool) → m ≡ (forbids w && mark) → (m && before) ≡ (forbids w && (mark && before))
@@ -25,6 +26,19 @@ or-never k m n p q = go (eqb m 0)
     go : (b : Bool) → cond b n m ≡ k → ⊥
     go true e = q e
     go false e = p e
+
+-- where they are forbidden, an item is refused whose name has stood before
+pub faults-twice : Twice
+unfolding faultsOf forbids
+faults-twice seen i r h q = ap (λ (n : ℕ). orElse n (faultsOf Forbidden (i .name ∷ seen) r)) (sym (fault-again (among (i .name) seen) i h q))
+
+-- where names may repeat, no run of a packet has 31
+pub faults-never : NeverTwice
+unfolding faultsOf forbids
+faults-never s at end =
+    every-run s end (λ (r : Run). (seen : List ℕ) → faultsOf Allowed seen r ≡ 31 → ⊥)
+    (λ i r here behind seen. or-never 31 (faultOf false i) _ (fault-never i) (behind (i .name ∷ seen))) (λ p few seen q. omega arith)
+    (λ seen q. omega arith) at
 
 -- where the leftmost item at fault is not so for its name, it is so with either word
 pub faults-still : (seen : List ℕ) (r : Run) → (faultsOf Forbidden seen r ≡ 31 → ⊥) → faultsOf Allowed seen r ≡ faultsOf Forbidden seen r
@@ -39,11 +53,3 @@ faults-still seen (item i r) h =
     (λ f. same (λ q. h (simp f q)) ∙ simp f)
 faults-still seen (padding n) h = refl
 faults-still seen (refused n) h = refl
-
--- where names may repeat, no run of a packet has 31
-pub faults-never : (s : List ℕ) (at end : ℕ) (seen : List ℕ) → faultsOf Allowed seen (runOf s at end) ≡ 31 → ⊥
-unfolding faultsOf forbids
-faults-never s at end =
-    every-run s end (λ (r : Run). (seen : List ℕ) → faultsOf Allowed seen r ≡ 31 → ⊥)
-    (λ i r here behind seen. or-never 31 (faultOf false i) _ (fault-never i) (behind (i .name ∷ seen))) (λ p few seen q. omega arith)
-    (λ seen q. omega arith) at

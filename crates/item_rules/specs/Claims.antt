@@ -1,10 +1,15 @@
 -- What holds of the answers of a step and of a search, as claims (clause 5): the proofs are in proofs/Proved.antt.
+use mathlib.Core.Bool.{true}
+use mathlib.Core.List.{List}
 use mathlib.Core.Path.{_≡_}
 use Prim.Native.Nat.{ℕ}
+use Rattle.base_rules.specs.Tests.{among}
+use Rattle.item_rules.specs.declared.Item.{Item}
+use Rattle.item_rules.specs.declared.Repeats.the-variants.{Forbidden, Allowed}
 use Rattle.item_rules.specs.declared.Step.{Step}
 use Rattle.item_rules.specs.declared.Found.{Found}
 use Rattle.item_rules.specs.Item.{numberOf}
-use Rattle.item_rules.specs.Run.{Run, firstOf, nthOf, foundNumber}
+use Rattle.item_rules.specs.Run.{Run, item, runOf, firstOf, nthOf, foundNumber, dmy, faultsOf}
 
 -- no second answer fits: two steps with the same number and values are the same step
 abbrev pub OneStep : Type 0
@@ -17,3 +22,11 @@ OneFound = (a b : Found) → foundNumber a ≡ foundNumber b → a ≡ b
 -- document 02, Item 1, "finding by name shows the first", "counted from 0": in every run that is occurrence 0
 abbrev pub FirstIsNth : Type 0
 FirstIsNth = (name : ℕ) (r : Run) → firstOf name r ≡ nthOf name 0 r
+
+-- document 01, 31 TWICE: where repeats are forbidden, an item is refused whose name has stood before, unless it is "*dmy"
+abbrev pub Twice : Type 0
+Twice = (seen : List ℕ) (i : Item) (r : Run) → (i .name ≡ dmy → ⊥) → among (i .name) seen ≡ true → faultsOf Forbidden seen (item i r) ≡ 31
+
+-- document 02, Item 1, "31 only when repeats are forbidden": where they may, no run of a packet has that number
+abbrev pub NeverTwice : Type 0
+NeverTwice = (s : List ℕ) (at end : ℕ) (seen : List ℕ) → faultsOf Allowed seen (runOf s at end) ≡ 31 → ⊥

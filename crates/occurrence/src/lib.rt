@@ -71,8 +71,8 @@ pub fn search_nth(packet: &[u8], repeats: Repeats, name: u32, number: usize) -> 
 pub fn find_nth<'a>(packet: &'a [u8], repeats: Repeats, name: u32, number: usize) -> &'a [u8]
     ensures { λ r. ⌜ NthPartShown repeats (packet .entry) name number r ⌝ }
 {
-    let l = locate_nth(packet, repeats, name, number);
-    match l {
+    let at = locate_nth(packet, repeats, name, number);
+    match at {
         Located::Packet(i) => tag::value(packet, i),
         Located::Standing(_) => &packet[..0],
         Located::Refused(_) => &packet[..0],

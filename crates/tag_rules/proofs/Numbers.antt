@@ -131,7 +131,8 @@ module _ (w : Repeats) (s t : List ℕ) (name : ℕ) where
 -- two numbers one greater each stand to each other as before
 one-more : (a b : ℕ) → leb (suc a) (suc b) ≡ leb a b
 one-more a b =
-    either (leb a b) (λ t. le-leb (suc a) (suc b) (omega (arith, leb-true a b t)) ∙ sym t) (λ f. lt-leb (suc a) (suc b) (omega (arith, leb-false a b f)) ∙ sym f)
+    either (leb a b) (λ t. le-leb (suc a) (suc b) (omega (arith, leb-true a b t)) ∙ sym t)
+    (λ f. lt-leb (suc a) (suc b) (omega (arith, leb-false a b f)) ∙ sym f)
 
 -- by the items of the name
 occurs-by : (l : List Item) (k : ℕ)

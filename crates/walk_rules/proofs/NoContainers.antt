@@ -47,7 +47,8 @@ module _ (word : Repeats) (inner : Item → Tour) where
   items-by seen (refused n) z = refl
 
 -- no names are none, and no fault
-whole : (word : Repeats) (s : List ℕ) → walkOf word s [] ≡ tourBy word (λ i. tourAt word deepest s [] 1 [] (runOf s (i .from) (nextOf i))) [] 0 [] (runOf s 0 (length s))
+whole : (word : Repeats) (s : List ℕ)
+    → walkOf word s [] ≡ tourBy word (λ i. tourAt word deepest s [] 1 [] (runOf s (i .from) (nextOf i))) [] 0 [] (runOf s 0 (length s))
 unfolding walkOf namesFault namesOf tourAt table first
 whole word s = refl
 

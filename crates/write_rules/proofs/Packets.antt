@@ -1,6 +1,6 @@
 -- A packet of written items is the run of those items. Assumes nothing.
 use mathlib.Core.Path.{_≡_, refl, sym, ap, subst, _∙_}
-use mathlib.Core.Bool.{true, false}
+use mathlib.Core.Bool.{Bool, true, false, _||_}
 use mathlib.Core.List.{List, [], _∷_, _++_, append-assoc}
 use Prim.Native.Nat.{ℕ, suc, _+_, _-_, _≤_}
 use native.Mathlib.Nat.{add-zero}
@@ -18,6 +18,7 @@ use Rattle.item_rules.specs.declared.Step.the-variants as step
 use Rattle.item_rules.specs.declared.Found.the-variants as found
 use Rattle.item_rules.proofs.Runs.{run-item, run-end}
 use Rattle.item_rules.proofs.Faults.{fault-dmy, fault-none}
+use Rattle.item_rules.proofs.Proved.{twice}
 use Rattle.write_rules.specs.Write.{itemBytes}
 use Rattle.write_rules.specs.Packet.{Entry, packetOf, namesOf, writtenAs, Fits, AllFit, Apart}
 use Rattle.write_rules.proofs.Back.{length-item, reads-back}
@@ -88,6 +89,22 @@ faults-none seen at [] n fit apart h = refl
 faults-none seen at (e ∷ es) n fit apart h =
     simp (no-fault seen at e es (fit .0) h) (faults-none (e .name ∷ seen) (nextOf (itemOf at e)) es n (fit .1) (apart .1)
     (unseen-next seen e es apart h))
+
+either-way : (x y z : Bool) → (x || y) || z ≡ true → y || (x || z) ≡ true
+either-way true true z q = refl
+either-way true false z q = refl
+either-way false true z q = refl
+either-way false false z q = q
+
+-- where an item comes whose name stands among those or was seen, the packet has 31
+pub faults-again : (seen : List ℕ) (at : ℕ) (before after : List Entry) (e : Entry) (n : ℕ) → AllFit (before ++ (e ∷ after)) → Apart before
+    → Unseen seen before → (e .name ≡ dmy → ⊥) → among (e .name) (namesOf before) || among (e .name) seen ≡ true
+    → faultsOf Forbidden seen (entriesRun at (before ++ (e ∷ after)) n) ≡ 31
+unfolding entriesRun faultsOf forbids among namesOf
+faults-again seen at [] after e n fit apart h d q = twice seen (itemOf at e) (entriesRun (nextOf (itemOf at e)) after n) d q
+faults-again seen at (b ∷ before) after e n fit apart h d q =
+    simp (no-fault seen at b before (fit .0) h) (faults-again (b .name ∷ seen) (nextOf (itemOf at b)) before after e n (fit .1) (apart .1)
+    (unseen-next seen b before apart h) d (either-way (eqb (b .name) (e .name)) (among (e .name) (namesOf before)) (among (e .name) seen) q))
 
 -- where names may repeat, whichever they are
 pub faults-repeated : (seen : List ℕ) (at : ℕ) (es : List Entry) (n : ℕ) → AllFit es → faultsOf Allowed seen (entriesRun at es n) ≡ 0

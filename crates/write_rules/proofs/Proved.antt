@@ -18,11 +18,12 @@ use Rattle.tag_rules.specs.Find.{wholeRun, checkOf, valueOf}
 use Rattle.tag_rules.specs.Calls.{openCall, searchAnswer, searchNthCall}
 use Rattle.tag_rules.proofs.Searches.{found-here, nth-found}
 use Rattle.tag_rules.proofs.Proved.{nth-beyond}
-use Rattle.write_rules.specs.Write.{itemBytes, trimmedBy, trimmed, unusedOf}
+use Rattle.write_rules.specs.Write.{trimmedBy, trimmed, unusedOf}
 use Rattle.write_rules.specs.Packet.{Entry, packetOf, namesOf, writtenAs, AllFit, Apart}
-use Rattle.write_rules.specs.Claims.{ReadsBack, Opens, FoundAs, Finds, OpensRepeated, FindsRepeated, FindsNth, NoMore, UnusedZero, TrimmedOnce, WholeKept}
+use Rattle.write_rules.specs.Claims.{ReadsBack, Opens, RefusesTwice, FoundAs, Finds, OpensRepeated, FindsRepeated, FindsNth, NoMore}
+use Rattle.write_rules.specs.Claims.{UnusedZero, TrimmedOnce, WholeKept}
 use Rattle.write_rules.proofs.Back as back
-use Rattle.write_rules.proofs.Packets.{itemOf, run-written, faults-none, faults-repeated, packet-split, fits-at}
+use Rattle.write_rules.proofs.Packets.{itemOf, run-written, faults-none, faults-again, faults-repeated, packet-split, fits-at}
 use Rattle.write_rules.proofs.Packets.{none-written, as-many, nth-written}
 use Rattle.write_rules.proofs.Trimming.{last-down, stays, unused-none}
 
@@ -42,6 +43,14 @@ sound-repeated es pad fit few = ap (faultsOf Allowed []) (run-written [] es pad 
 pub opens : Opens
 unfolding openCall answered
 opens es pad fit apart few = simp (sound es pad fit apart few)
+
+pub refuses-twice : RefusesTwice
+unfolding openCall answered among checkOf
+refuses-twice before after e pad fit apart few d again =
+    let number : checkOf Forbidden (packetOf (before ++ (e ∷ after)) pad) ≡ 31 =
+    ap (faultsOf Forbidden []) (run-written [] (before ++ (e ∷ after)) pad fit few)
+    ∙ faults-again [] 0 before after e (length pad) fit apart (λ m d q. refl) d (simp again) in
+    simp number
 
 pub opens-repeated : OpensRepeated
 unfolding openCall answered

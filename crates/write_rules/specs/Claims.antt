@@ -1,10 +1,11 @@
 -- The theorems of writing, W1 to W3, as they can be held against document 01. Each is proved in proofs/Proved.antt.
 use mathlib.Core.Path.{_≡_}
-use mathlib.Core.Bool.{false}
+use mathlib.Core.Bool.{true, false}
 use mathlib.Core.List.{List, [], _∷_, _++_}
 use Prim.Native.Nat.{ℕ, _+_, _-_, _%_, _^_, _≤_, _<_}
 use lib.ListN.{length, getD, take, drop}
 use Rattle.item_rules.specs.Item.{head, bytesFor, stepIn}
+use Rattle.item_rules.specs.Run.{dmy}
 use Rattle.item_rules.specs.declared.Repeats.{Repeats}
 use Rattle.item_rules.specs.declared.Repeats.the-variants.{Forbidden, Allowed}
 use Rattle.item_rules.specs.declared.Step.the-variants as step
@@ -31,7 +32,12 @@ ReadsBack = (pre rest : List ℕ) (end name bits : ℕ) (v : List ℕ) → name 
 abbrev pub Opens : Type 0
 Opens = (es : List Entry) (pad : List ℕ) → AllFit es → Apart es → length pad ≤ 7 → openCall Forbidden (packetOf es pad) ≡ granted (0 ∷ [])
 
--- and the first item that was written under a name is found under it: the search answers its bits, and its value is shown
+-- document 01, 31 TWICE: and one with an item behind them whose name, not "*dmy", one of them has, is refused
+abbrev pub RefusesTwice : Type 0
+RefusesTwice = (before after : List Entry) (e : Entry) (pad : List ℕ) → AllFit (before ++ (e ∷ after)) → Apart before → length pad ≤ 7
+    → (e .name ≡ dmy → ⊥) → among (e .name) (namesOf before) ≡ true → openCall Forbidden (packetOf (before ++ (e ∷ after)) pad) ≡ refused 31
+
+-- the first item that was written under a name is found under it: the search answers its bits, and its value is shown
 pub record FoundAs (w : Repeats) (p standing : List ℕ) (e : Entry) : Type 0 where
   pub bits : searchCall w p standing (e .name) ≡ granted (e .bits ∷ [])
   pub value : shownBy p standing (locateOf w p standing (e .name)) ≡ trimmed (e .bits) (e .value)

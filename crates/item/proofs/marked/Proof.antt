@@ -3,8 +3,6 @@ use borrow.Author.Needs.{needs}
 use Rattle.item_rules.specs.Run.{forbids}
 use Rattle.item.proofs.marked.Statement.{statement}
 use Rattle.item.proofs.marked.Tie as tie
-use Rattle.item.proofs.marked.Reads as reads
-use Rattle.item.proofs.marked.Lts as lts
 
 returns : tie.Need-returns
 unfolding forbids

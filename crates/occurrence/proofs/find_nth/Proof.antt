@@ -7,10 +7,6 @@ use Rattle.tag_rules.proofs.Inside.{nth-in}
 use Rattle.tag_rules.proofs.Values.{place-inside}
 use Rattle.occurrence.proofs.find_nth.Statement.{statement}
 use Rattle.occurrence.proofs.find_nth.Tie as tie
-use Rattle.occurrence.proofs.find_nth.Reads as reads
-use Rattle.occurrence.proofs.find_nth.Lts as lts
-use Rattle.occurrence.proofs.locate_nth.Reads as locate-nth-reads
-use Rattle.tag.proofs.value.Reads as value-reads
 
 enum-told : tie.Need-enum-told
 enum-told c = search needs
@@ -21,7 +17,7 @@ enum-told-2 c = search needs
 returns : tie.Need-returns
 returns c =
     let k = c .before .before in
-    let e = sym (k .l .given .1) ∙ k .before .before .locate-nth .ensures .0 in
+    let e = sym (k .at .given .1) ∙ k .before .before .locate-nth .ensures .0 in
     let inside = nth-in _ _ _ _ _ .0 (sym e) .inside in
     (c .value .ensures .0 ∙ ap (shownBy _ _) e, c .value .ensures .1 ∙ sym (place-inside _ _ (omega arith)) ∙ ap (placeBy _ _) e)
 
@@ -36,8 +32,8 @@ returns-3 c =
 locate-nth-requires : tie.Need-locate-nth-requires
 locate-nth-requires c κs = search needs
 
-enum-known-l : tie.Need-enum-known-l
-enum-known-l c = search needs
+enum-known-at : tie.Need-enum-known-at
+enum-known-at c = search needs
 
 value-requires : tie.Need-value-requires
 value-requires c κs = search needs
@@ -53,7 +49,7 @@ find-nth-spec =
     tie.close
     (tie.spec
     locate-nth-requires
-    enum-known-l
+    enum-known-at
     value-requires
     enum-told
     slice-aggregate-result

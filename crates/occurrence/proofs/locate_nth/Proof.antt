@@ -5,10 +5,6 @@ use Rattle.tag_rules.proofs.Numbers.{locate-nth-told}
 use Rattle.tag_rules.proofs.Searches.{nth-unopened, nth-opened}
 use Rattle.occurrence.proofs.locate_nth.Statement.{statement}
 use Rattle.occurrence.proofs.locate_nth.Tie as tie
-use Rattle.occurrence.proofs.locate_nth.Reads as reads
-use Rattle.occurrence.proofs.locate_nth.Lts as lts
-use Rattle.occurrence.proofs.nth_in.Reads as nth-in-reads
-use Rattle.tag.proofs.open_reader.Reads as open-reader-reads
 
 enum-told : tie.Need-enum-told
 enum-told c = search needs

@@ -1,8 +1,8 @@
 -- `occurrence::nth_in` meets its contract. The invariant: the occurrence looked for is the one with the number left, from `at` on. The measure is what is left.
 use borrow.Author.Needs.{needs}
 use native.Mathlib.Omega.{arith}
-use Prim.Native.Nat.{_+_, _-_}
-use mathlib.Core.Path.{_≡_, refl, sym, ap, _∙_}
+use Prim.Native.Nat.{_-_}
+use mathlib.Core.Path.{_≡_, refl, sym, _∙_}
 use lib.ListN.{length}
 use Rattle.item_rules.specs.Run.{runOf, nthOf}
 use Rattle.tag_rules.specs.Find.{wholeRun}
@@ -11,9 +11,6 @@ use Rattle.item_rules.proofs.Runs.{item-begins, falls}
 use Rattle.item_rules.proofs.Occurrences.{nth-here, nth-past, nth-next, nth-end, nth-refused}
 use Rattle.occurrence.proofs.nth_in.Statement.{statement}
 use Rattle.occurrence.proofs.nth_in.Tie as tie
-use Rattle.occurrence.proofs.nth_in.Reads as reads
-use Rattle.occurrence.proofs.nth_in.Lts as lts
-use Rattle.item.proofs.step_in.Reads as step-in-reads
 
 abbrev Inv-loop : tie.InvT-loop
 Inv-loop packet name number end at₀ left₀ at left = nthOf name number (wholeRun packet) ≡ nthOf name left (runOf packet at (length packet))

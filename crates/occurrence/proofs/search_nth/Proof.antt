@@ -4,10 +4,6 @@ use mathlib.Core.Path.{ap, _∙_}
 use Rattle.tag_rules.specs.Calls.{searchAnswer, searchNthCall}
 use Rattle.occurrence.proofs.search_nth.Statement.{statement}
 use Rattle.occurrence.proofs.search_nth.Tie as tie
-use Rattle.occurrence.proofs.search_nth.Reads as reads
-use Rattle.occurrence.proofs.search_nth.Lts as lts
-use Rattle.occurrence.proofs.locate_nth.Reads as locate-nth-reads
-use Rattle.tag.proofs.sought.Reads as sought-reads
 
 returns : tie.Need-returns
 unfolding searchNthCall

@@ -69,7 +69,8 @@ module _ {M : Type 1} (𝓤 : URA M) (H : Heap 𝓤) (A : Atoms 𝓤) (W : Given
   made n = record { packet = s; at = 0; refusal = n }
 
   abbrev Post : Val → SProp 𝓤
-  Post = walkOf 𝓤 H A opening.ended stayed (opening.clauses 𝓤 H A mem run) .post (((κ, tt), (q, tt), tt, (s, (w, tt)), (lentVal s ∷ [], (wordVal w ∷ [], tt))), tt)
+  Post =
+      walkOf 𝓤 H A opening.ended stayed (opening.clauses 𝓤 H A mem run) .post (((κ, tt), (q, tt), tt, (s, (w, tt)), (lentVal s ∷ [], (wordVal w ∷ [], tt))), tt)
 
   abbrev to : RefusalOf 𝓤 H A mem run .Ghost
   to = (((κ, tt), (q, tt), tt, (s, (w, tt)), (lentVal s ∷ [], (wordVal w ∷ [], tt))), tt)
@@ -109,7 +110,8 @@ module _ {M : Type 1} (𝓤 : URA M) (H : Heap 𝓤) (A : Atoms 𝓤) (W : Given
         (and-then ! (lit ! tt) (and-then ! (load ! (from ! (stop !)) (look ! 3 refl)) (no-more !)))))
         (from ! (stop !)) (init ! 9 refl (tt, (typed .1, (record { fits = lit< tt }, (record { fits = is .1 }, tt))))) $
         returns ! (look ! 9 refl) $ forget ! 3 refl $ forget ! 5 refl $ forget ! 7 refl $ forget ! 9 refl $
-        move ! (9 ∷ 10 ∷ []) $ free1 ! $ move ! (7 ∷ 8 ∷ []) $ free1 ! $ move ! (5 ∷ 6 ∷ []) $ free1 ! $ move ! (3 ∷ 4 ∷ []) $ free1 ! $ free0 ! $ by ! (exits n u e (is .1))))))))
+        move ! (9 ∷ 10 ∷ []) $ free1 ! $ move ! (7 ∷ 8 ∷ []) $ free1 ! $
+        move ! (5 ∷ 6 ∷ []) $ free1 ! $ move ! (3 ∷ 4 ∷ []) $ free1 ! $ free0 ! $ by ! (exits n u e (is .1))))))))
 
 module _ {M : Type 1} (𝓤 : URA M) (H : Heap 𝓤) (A : Atoms 𝓤) (W : Given 𝓤 H A) (mem : Memory → SProp 𝓤) (run : Routine → Fun 𝓤) (𝓣 : Tables 𝓤 H)
     (known : Triple 𝓤 (𝓣 .C #reader·refusal-of) (RefusalOf 𝓤 H A mem run)) where

@@ -21,8 +21,8 @@ returns-2 c =
 returns-3 : tie.Need-returns-3
 returns-3 c =
     let k = c .before .before .before .before in
-    locate-told _ _ _ _ _ (sym (is-located _ _ _ _ _ _ _ _ (k .before .before .before .check .ensures) (k .before .before .if1 .left) (k .before .check2 .ensures)
-    (k .if2 .left)
+    locate-told _ _ _ _ _ (sym (is-located _ _ _ _ _ _ _ _ (k .before .before .before .check .ensures) (k .before .before .if1 .left)
+    (k .before .check2 .ensures) (k .if2 .left)
     (sym (c .before .before .before .first-in .ensures .0) ∙ c .before .f .given .1) refl))
 
 enum-told : tie.Need-enum-told
@@ -33,16 +33,16 @@ returns-4 c =
     let Before = c .before .before .before .before .before .before .before in
     let First-in = c .before .before .before .before .before .before .first-in in
     let k = Before in
-    locate-told _ _ _ _ _ (sym (is-located _ _ _ _ _ _ _ _ (k .before .before .before .check .ensures) (k .before .before .if1 .left) (k .before .check2 .ensures)
-    (k .if2 .left)
+    locate-told _ _ _ _ _ (sym (is-located _ _ _ _ _ _ _ _ (k .before .before .before .check .ensures) (k .before .before .if1 .left)
+    (k .before .check2 .ensures) (k .if2 .left)
     (sym (First-in .ensures .0) ∙ c .before .before .before .before .enum-told .given .1)
     (sym (c .before .before .before .first-in2 .ensures .0) ∙ c .before .g .given .1)))
 
 returns-5 : tie.Need-returns-5
 returns-5 c =
     let k = c .before .before .before .before .before .before in
-    locate-told _ _ _ _ _ (sym (is-located _ _ _ _ _ _ _ _ (k .before .before .before .check .ensures) (k .before .before .if1 .left) (k .before .check2 .ensures)
-    (k .if2 .left)
+    locate-told _ _ _ _ _ (sym (is-located _ _ _ _ _ _ _ _ (k .before .before .before .check .ensures) (k .before .before .if1 .left)
+    (k .before .check2 .ensures) (k .if2 .left)
     (sym (c .before .before .before .before .before .first-in .ensures .0) ∙ c .before .before .before .enum-told .given .1)
     (sym (c .before .before .first-in2 .ensures .0) ∙ c .enum-told2 .given .1)))
 

@@ -4,10 +4,6 @@ use mathlib.Core.Path.{ap, _∙_}
 use Rattle.tag_rules.specs.Calls.{searchAnswer, searchCall}
 use Rattle.tag.proofs.search.Statement.{statement}
 use Rattle.tag.proofs.search.Tie as tie
-use Rattle.tag.proofs.search.Reads as reads
-use Rattle.tag.proofs.search.Lts as lts
-use Rattle.tag.proofs.locate.Reads as locate-reads
-use Rattle.tag.proofs.sought.Reads as sought-reads
 
 returns : tie.Need-returns
 unfolding searchCall

@@ -4,9 +4,6 @@ use mathlib.Core.Path.{sym, ap, _∙_}
 use Rattle.tag_rules.specs.Calls.{soughtNumber, searchAnswer}
 use Rattle.tag.proofs.sought.Statement.{statement}
 use Rattle.tag.proofs.sought.Tie as tie
-use Rattle.tag.proofs.sought.Reads as reads
-use Rattle.tag.proofs.sought.Lts as lts
-use Rattle.tag.proofs.found.Reads as found-reads
 
 returns : tie.Need-returns
 unfolding searchAnswer

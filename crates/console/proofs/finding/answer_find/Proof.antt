@@ -8,7 +8,9 @@ use Rattle.console.proofs.finding.answer_find.Statement.{statement}
 use Rattle.console.proofs.finding.answer_find.Tie as tie
 
 array-share-prefix-packet : tie.Need-array-share-prefix-packet
-array-share-prefix-packet c = omega (arith, ap sizeOf (c .before .before .before .before .before .before .before .before .before .before .before .before .before .n .given .1))
+array-share-prefix-packet c =
+    let standing = c .before .before .before .before .before .before in
+    omega (arith, ap sizeOf (standing .before .before .before .before .before .before .before .n .given .1))
 
 slice-aggregate-search-and-write : tie.Need-slice-aggregate-search-and-write
 slice-aggregate-search-and-write c = front _ _ (array-share-prefix-packet (c .before))

@@ -14,7 +14,9 @@ slice-aggregate-write-walk : tie.Need-slice-aggregate-write-walk
 slice-aggregate-write-walk c = front _ _ (array-share-prefix-packet (c .before))
 
 array-share-prefix-names : tie.Need-array-share-prefix-names
-array-share-prefix-names c = omega (arith, ap sizeOf (c .before .before .before .before .before .before .before .before .before .before .before .before .before .before .m .given .1))
+array-share-prefix-names c =
+    let packet = c .before .before .before .before .before .before .before in
+    omega (arith, ap sizeOf (packet .before .before .before .before .before .before .before .m .given .1))
 
 slice-aggregate-write-walk-2 : tie.Need-slice-aggregate-write-walk-2
 slice-aggregate-write-walk-2 c = front _ _ (array-share-prefix-names (c .before))
