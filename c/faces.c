@@ -5,86 +5,9 @@
 
 enum { ROUNDS = 200 };
 
-static uint8_t packet[BAILHAMMER_PACKET], out[2][BAILHAMMER_SENT];
+static uint8_t out[2][BAILHAMMER_SENT];
 static struct bailhammer_receiver receiver; /* behind the structs */
 static uint8_t record[BAILHAMMER_RECORD], lent[BAILHAMMER_LENT]; /* behind the bytes */
-
-/* ---- packets */
-
-static void faces_of_check(size_t length)
-{
-    uint8_t told[BAILHAMMER_TOLD_CHECK] = {0}, again[BAILHAMMER_TOLD_CHECK], *at = again;
-    struct bailhammer_af af;
-    memset(&af, 1, sizeof af);
-    size_t number = bailhammer_check(packet, length, told, sizeof told);
-    same_number("check", number, bailhammer_af_check(packet, length, &af));
-    at = put(put(at, 2, af.seq), 1, af.cf);
-    put(put(at, 1, af.minor), 4, af.payload_len);
-    same("check", told, again, sizeof told);
-    const uint8_t *due = number == BAILHAMMER_DONE ? packet + 10 : packet;
-    same("where the payload begins", &af.payload, &due, sizeof due);
-}
-
-static void faces_of_find(size_t length, const uint8_t *standing, size_t standing_len, uint32_t name)
-{
-    uint8_t told[BAILHAMMER_TOLD_FIND] = {0}, again[BAILHAMMER_TOLD_FIND], *at = again;
-    struct bailhammer_found found;
-    memset(&found, 1, sizeof found);
-    size_t number = bailhammer_find(payload, length, standing ? standing : payload, standing_len, name, told, sizeof told);
-    same_number("find", number, bailhammer_tag_find(payload, length, standing, standing_len, name, &found));
-    at = put(put(at, 1, found.standing), 4, found.bits);
-    put(put(at, 8, (size_t)(found.value - (found.standing ? standing : payload))), 4, found.value_len);
-    same("find", told, again, sizeof told);
-}
-
-/* Both walks step by step, and once past the end. */
-static void faces_of_walk(size_t length, const char *names, size_t names_len)
-{
-    uint8_t walker[BAILHAMMER_WALKER] = {0}, again[BAILHAMMER_TOLD_STEP];
-    struct bailhammer_walk walk;
-    struct bailhammer_step step;
-    size_t number = bailhammer_walk_open(payload, length, (const uint8_t *)names, names_len, walker, sizeof walker);
-    same_number("walk_open", number, bailhammer_tag_walk_open(&walk, payload, length, names, names_len));
-    same("walk_open", walker, walk.walker, sizeof walker);
-    size_t walked = number == BAILHAMMER_DONE ? length : 0;
-    same("what is walked through", &walk.packet_len, &walked, sizeof walked);
-    for (size_t ends = 0; ends < 2; ends += !step.item) {
-        uint8_t told[BAILHAMMER_TOLD_STEP] = {0}, *at = again;
-        memset(&step, 1, sizeof step);
-        number = bailhammer_walk_step(payload, walked, (const uint8_t *)names, names_len, walker, sizeof walker, told, sizeof told);
-        same_number("walk_step", number, bailhammer_tag_walk_step(&walk, &step));
-        at = put(put(put(at, 1, step.item), 1, step.depth), 4, step.name);
-        put(put(put(at, 4, step.bits), 8, (size_t)(step.value - payload)), 4, step.value_len + step.padding);
-        size_t beside = step.item ? step.padding : step.value_len, none = 0;
-        same("what an end or an item has not", &beside, &none, sizeof none);
-        same("walk_step", told, again, sizeof told);
-        same("the walk", walker, walk.walker, sizeof walker);
-    }
-}
-
-/* The faces on a payload and on its AF packet, whose length it gives. */
-static size_t faces_of_packets(void)
-{
-    static uint8_t standing[] = {'r', 'a', 'r', 'e', 0, 0, 0, 12, 0xab, 0xc0};
-    size_t length = make_payload();
-    faces_of_find(length, standing, sizeof standing, bailhammer_name("demo"));
-    faces_of_find(length, standing, sizeof standing, BAILHAMMER_NAME('r', 'a', 'r', 'e'));
-    faces_of_find(length, NULL, 0, bailhammer_name("none"));
-    faces_of_walk(length, "fio_", 4);
-    faces_of_walk(length, "", 0);
-    faces_of_walk(length, "fio_x", 5);
-    bailhammer_wrap((uint16_t)drawn(65536), drawn(2), payload, length, packet, sizeof packet);
-    length += BAILHAMMER_AF_FRAME;
-    faces_of_check(length);
-    faces_of_check(length - 1);
-    packet[8] ^= 5; /* another minor revision, and with CF a wrong CRC */
-    faces_of_check(length);
-    packet[8] ^= 5;
-    packet[9] ^= 1;
-    faces_of_check(length);
-    packet[9] ^= 1;
-    return length;
-}
 
 /* ---- the sender */
 

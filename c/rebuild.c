@@ -52,7 +52,7 @@ static void deliver(struct traffic *t, size_t length)
     struct bailhammer_af af;
     struct bailhammer_found demo;
     must("check", bailhammer_af_check(out, length, &af));
-    must("find", bailhammer_tag_find(af.payload, af.payload_len, NULL, 0, bailhammer_name("demo"), &demo));
+    must("find", bailhammer_tag_find(af.payload, af.payload_len, NULL, 0, bailhammer_name("demo"), false, &demo));
     printf("    AF packet %d, demo has %zu bytes\n", af.seq, demo.value_len);
     t->rebuilt = length == t->length && memcmp(out, t->packet, length) == 0;
 }

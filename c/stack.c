@@ -51,12 +51,17 @@ static void item(void)
 
 static void find(void)
 {
-    number = bailhammer_find(payload, sizeof payload, payload, sizeof payload, NEST, told, sizeof told);
+    number = bailhammer_find(payload, sizeof payload, payload, sizeof payload, NEST, 0, told, sizeof told);
+}
+
+static void nth(void)
+{
+    number = bailhammer_nth(payload, sizeof payload, NEST, 0, 0, told, sizeof told);
 }
 
 static void walk_open(void)
 {
-    number = bailhammer_walk_open(nested, sizeof nested, names, sizeof names, walker, sizeof walker);
+    number = bailhammer_walk_open(nested, sizeof nested, names, sizeof names, 0, walker, sizeof walker);
 }
 
 static void walk_step(void)
@@ -189,6 +194,7 @@ int main(void)
     tell("wrap", wrap);
     tell("check", check);
     tell("find", find);
+    tell("nth", nth);
     tell("walk_open", walk_open);
     tell("walk_step", walk_step);
     tell("plan", plan);
