@@ -3,7 +3,7 @@
 
 use card::receiver::{LENT, PACKET};
 use card::sender::{Split, SENT};
-use card::{af, sender, tag, Received, Receiver, Refused, Settings};
+use card::{af, sender, tag, Received, Receiver, Refused, Repeats, Settings};
 
 const SETTINGS: Settings = Settings::HOUSE;
 
@@ -38,7 +38,8 @@ fn prepare(number: u16, bytes: usize) -> Result<Traffic, Refused> {
 /// it.
 fn deliver(traffic: &mut Traffic, packet: &[u8]) -> Result<(), Refused> {
     let checked = af::check(packet)?;
-    let demo = tag::find(&packet[af::HEADER..][..checked.len], &[], *b"demo")?;
+    let payload = &packet[af::HEADER..][..checked.len];
+    let demo = tag::find(payload, &[], *b"demo", Repeats::Forbidden)?;
     println!("    AF packet {}, demo has {} bytes", checked.seq, demo.value.len());
     traffic.rebuilt = packet == traffic.packet;
     Ok(())

@@ -29,6 +29,16 @@ extern "C" {
         standing: *const u8,
         standing_len: usize,
         name: u32,
+        repeats: usize,
+        told: *mut u8,
+        told_len: usize,
+    ) -> usize;
+    pub fn bailhammer_nth(
+        packet: *const u8,
+        packet_len: usize,
+        name: u32,
+        number: usize,
+        repeats: usize,
         told: *mut u8,
         told_len: usize,
     ) -> usize;
@@ -37,6 +47,7 @@ extern "C" {
         packet_len: usize,
         names: *const u8,
         names_len: usize,
+        repeats: usize,
         walker: *mut u8,
         walker_len: usize,
     ) -> usize;

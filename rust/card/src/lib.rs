@@ -24,10 +24,10 @@ pub mod tag;
 pub use receiver::{Place, Received, Receiver};
 pub use refused::Refused;
 pub use sender::{Address, Rule, Settings};
-pub use tag::{Step, Walk};
+pub use tag::{Repeats, Step, Walk};
 
 /// One more where a call, a number or a size is another than before.
-pub const VERSION: usize = 2;
+pub const VERSION: usize = 3;
 /// One more where a record or lent bytes that were kept mean something else than before.
 pub const RECORD_LAYOUT: usize = 1;
 

@@ -9,7 +9,7 @@ use crate::ffi;
 /// The bytes that a check tells; where `told` has fewer, a call that tells gives 1 or the number
 /// that is due before it, and does nothing.
 pub const TOLD_CHECK: usize = 8;
-/// The bytes that finding an item tells.
+/// The bytes that finding an item tells, by its name or by the number of its occurrence.
 pub const TOLD_FIND: usize = 17;
 /// The bytes that a step of a walk tells.
 pub const TOLD_STEP: usize = 22;
@@ -46,7 +46,7 @@ pub fn item(name: u32, bits: u32, value: &[u8], out: &mut [u8]) -> usize {
     unsafe { ffi::bailhammer_item(name, bits, value.as_ptr(), bytes, out.as_mut_ptr(), room) }
 }
 
-pub fn find(packet: &[u8], standing: &[u8], name: u32, told: &mut [u8]) -> usize {
+pub fn find(packet: &[u8], standing: &[u8], name: u32, repeats: usize, told: &mut [u8]) -> usize {
     // Safety: pointers and lengths are those of live slices, and those read may be the same.
     unsafe {
         ffi::bailhammer_find(
@@ -55,13 +55,29 @@ pub fn find(packet: &[u8], standing: &[u8], name: u32, told: &mut [u8]) -> usize
             standing.as_ptr(),
             standing.len(),
             name,
+            repeats,
             told.as_mut_ptr(),
             told.len(),
         )
     }
 }
 
-pub fn walk_open(packet: &[u8], names: &[u8], walker: &mut [u8]) -> usize {
+pub fn nth(packet: &[u8], name: u32, number: usize, repeats: usize, told: &mut [u8]) -> usize {
+    // Safety: pointers and lengths are those of live slices, which do not overlap.
+    unsafe {
+        ffi::bailhammer_nth(
+            packet.as_ptr(),
+            packet.len(),
+            name,
+            number,
+            repeats,
+            told.as_mut_ptr(),
+            told.len(),
+        )
+    }
+}
+
+pub fn walk_open(packet: &[u8], names: &[u8], repeats: usize, walker: &mut [u8]) -> usize {
     // Safety: pointers and lengths are those of live slices, and those read may be the same.
     unsafe {
         ffi::bailhammer_walk_open(
@@ -69,6 +85,7 @@ pub fn walk_open(packet: &[u8], names: &[u8], walker: &mut [u8]) -> usize {
             packet.len(),
             names.as_ptr(),
             names.len(),
+            repeats,
             walker.as_mut_ptr(),
             walker.len(),
         )

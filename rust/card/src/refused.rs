@@ -55,10 +55,11 @@ numbers! {
     AF_TYPE = 24, "the AF packet's type is not 'T'";
     AF_CRC = 25, "the AF packet's CRC field is wrong";
     OVERRUN = 30, "an item passes the end of its packet";
-    TWICE = 31, "a name other than \"*dmy\" stands twice on one level of a packet";
+    TWICE = 31, "a name other than \"*dmy\" stands twice on one level of a packet, and repeats are \
+        forbidden";
     DEPTH = 32, "an item stands at depth 5";
     PTR = 33, "\"*ptr\" has not 64 bits";
-    ABSENT = 34, "the name is in neither packet";
+    ABSENT = 34, "the name is in neither packet, or the packet has no occurrence of that number";
     WHOLE = 35, "a container has not whole bytes";
     SETTINGS = 40, "settings that cannot be: m over 5, m above 0 without FEC, or mtu over 16,384 \
         or not above h";

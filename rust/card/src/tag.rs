@@ -1,5 +1,5 @@
-//! The TAG layer: writing an item, finding one by its name, going through the items of a packet and
-//! of the containers in it.
+//! The TAG layer: writing an item, finding one by its name, the first or the occurrence of a given
+//! number, going through the items of a packet and of the containers in it.
 
 use crate::{done, long, place, raw, Refused};
 
@@ -10,6 +10,24 @@ pub type Name = [u8; 4];
 pub const HEAD: usize = 8;
 /// The bytes that say where a walk stands.
 const WALKER: usize = 56;
+
+/// Whether a name may stand twice on one level of a packet; "*dmy" always may. The word holds for
+/// both packets of a finding, and for every level of a walk.
+///
+/// ```
+/// use card::{tag, Refused, Repeats};
+/// let packet = *b"demo\0\0\0\x08!demo\0\0\0\x08?";
+/// assert_eq!(tag::find(&packet, &[], *b"demo", Repeats::Allowed)?.value, b"!");
+/// assert_eq!(tag::find(&packet, &[], *b"demo", Repeats::Forbidden), Err(Refused::TWICE));
+/// # Ok::<(), card::Refused>(())
+/// ```
+#[derive(Clone, Copy, Debug, PartialEq, Eq)]
+pub enum Repeats {
+    /// It may not: a packet where one does is refused with 31.
+    Forbidden,
+    /// It may, and 31 is never given. All other checks are made.
+    Allowed,
+}
 
 /// An item that was found; its value is a part of the packet that holds it.
 #[derive(Clone, Copy, Debug, PartialEq, Eq)]
@@ -51,10 +69,10 @@ pub enum Step<'a> {
 /// over the packet and the names that were checked when it was opened.
 ///
 /// ```
-/// use card::{Step, Walk};
+/// use card::{Repeats, Step, Walk};
 /// let packet = *b"fio_\0\0\0\x48demo\0\0\0\x08!";
 /// let names = [*b"fio_"];
-/// let mut walk = Walk::open(&packet, &names)?;
+/// let mut walk = Walk::open(&packet, &names, Repeats::Forbidden)?;
 /// while let Step::Item { depth, name, value, .. } = walk.step()? {
 ///     println!("{depth} {name:?} {} bytes", value.len());
 /// }
@@ -71,10 +89,10 @@ pub struct Walk<'a> {
 /// 33, 1.
 ///
 /// ```
-/// use card::tag;
+/// use card::{tag, Repeats};
 /// let mut packet = [0; 32];
 /// let length = tag::item(*b"demo", 12, &[0xab, 0xc0], &mut packet)?;
-/// let found = tag::find(&packet[..length], &[], *b"demo")?;
+/// let found = tag::find(&packet[..length], &[], *b"demo", Repeats::Forbidden)?;
 /// assert_eq!((found.bits, found.value), (12, &[0xab, 0xc0][..]));
 /// # Ok::<(), card::Refused>(())
 /// ```
@@ -83,14 +101,49 @@ pub fn item(name: Name, bits: u32, value: &[u8], out: &mut [u8]) -> Result<usize
     done(number).map(|()| value.len() + HEAD)
 }
 
-/// Finds an item in a packet, else in the standing packet, which may be empty. Refused: 30, 31 or
-/// 33 of the packet, then of the standing packet; 34.
-pub fn find<'a>(packet: &'a [u8], standing: &'a [u8], name: Name) -> Result<Found<'a>, Refused> {
+/// Finds the first item of a name in a packet, else in the standing packet, which may be empty.
+/// Refused: 30, 31 or 33 of the packet, then of the standing packet; 34.
+pub fn find<'a>(
+    packet: &'a [u8],
+    standing: &'a [u8],
+    name: Name,
+    repeats: Repeats,
+) -> Result<Found<'a>, Refused> {
     let mut told = [0; raw::TOLD_FIND];
-    done(raw::find(packet, standing, u32::from_be_bytes(name), &mut told))?;
+    done(raw::find(packet, standing, u32::from_be_bytes(name), allowed(repeats), &mut told))?;
     let in_standing = told[0] != 0;
     let holder = if in_standing { standing } else { packet };
     Ok(Found { standing: in_standing, bits: long(&told, 1), value: part(holder, &told[5..]) })
+}
+
+/// Finds occurrence `number`, counted from 0, of a name in a packet alone, with no standing packet
+/// beside it. Refused: 30, 31 or 33 of the packet; 34 where there is no occurrence of that number.
+///
+/// ```
+/// use card::{tag, Refused, Repeats};
+/// let packet = *b"demo\0\0\0\x08!*dmy\0\0\0\0demo\0\0\0\x08?";
+/// let demo = |number| tag::nth(&packet, *b"demo", number, Repeats::Allowed);
+/// assert_eq!((demo(0)?.value, demo(1)?.value), (&b"!"[..], &b"?"[..]));
+/// assert_eq!(demo(2), Err(Refused::ABSENT));
+/// # Ok::<(), card::Refused>(())
+/// ```
+pub fn nth(
+    packet: &[u8],
+    name: Name,
+    number: usize,
+    repeats: Repeats,
+) -> Result<Found<'_>, Refused> {
+    let mut told = [0; raw::TOLD_FIND];
+    done(raw::nth(packet, u32::from_be_bytes(name), number, allowed(repeats), &mut told))?;
+    Ok(Found { standing: false, bits: long(&told, 1), value: part(packet, &told[5..]) })
+}
+
+/// The word as the library takes it: whether repeats are allowed.
+fn allowed(repeats: Repeats) -> usize {
+    match repeats {
+        Repeats::Forbidden => 0,
+        Repeats::Allowed => 1,
+    }
 }
 
 /// The part of a packet that is told by its place (8 bytes) and its length (4).
@@ -102,10 +155,14 @@ fn part<'a>(packet: &'a [u8], told: &[u8]) -> &'a [u8] {
 impl<'a> Walk<'a> {
     /// Opens a walk; the packet and all that its containers hold are checked. Refused: 43; then 30,
     /// 31, 33, 35 or 32 of the leftmost item at fault.
-    pub fn open(packet: &'a [u8], containers: &'a [Name]) -> Result<Walk<'a>, Refused> {
+    pub fn open(
+        packet: &'a [u8],
+        containers: &'a [Name],
+        repeats: Repeats,
+    ) -> Result<Walk<'a>, Refused> {
         let names = containers.as_flattened();
         let mut walker = [0; WALKER];
-        done(raw::walk_open(packet, names, &mut walker))?;
+        done(raw::walk_open(packet, names, allowed(repeats), &mut walker))?;
         Ok(Walk { packet, names, walker })
     }
 
@@ -125,14 +182,14 @@ impl<'a> Walk<'a> {
 /// Checks a packet whole and gives its items. Refused: 30, 31 or 33 of the leftmost item at fault.
 ///
 /// ```
-/// use card::tag;
+/// use card::{tag, Repeats};
 /// let packet = *b"demo\0\0\0\x08!*dmy\0\0\0\0";
-/// let names: Vec<_> = tag::items(&packet)?.map(|item| item.name).collect();
+/// let names: Vec<_> = tag::items(&packet, Repeats::Forbidden)?.map(|item| item.name).collect();
 /// assert_eq!(names, [*b"demo", *b"*dmy"]);
 /// # Ok::<(), card::Refused>(())
 /// ```
-pub fn items(packet: &[u8]) -> Result<Items<'_>, Refused> {
-    Walk::open(packet, &[]).map(Items)
+pub fn items(packet: &[u8], repeats: Repeats) -> Result<Items<'_>, Refused> {
+    Walk::open(packet, &[], repeats).map(Items)
 }
 
 impl<'a> Iterator for Items<'a> {

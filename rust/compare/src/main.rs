@@ -8,6 +8,7 @@ mod af;
 mod block;
 mod call;
 mod field;
+mod find;
 mod header;
 mod places;
 mod receiver;
@@ -38,11 +39,12 @@ const NUMBERS: [std::ops::RangeInclusive<usize>; 4] = [1..=14, 20..=25, 30..=35,
 type Compared = fn(&mut Rng, &mut Tally);
 
 /// The kinds that are compared one call after another, with the numbers that each can give.
-const KINDS: [(&str, &[usize], Compared); 11] = [
+const KINDS: [(&str, &[usize], Compared); 12] = [
     ("wrap", &[0, 1, 22], af::wrap),
     ("check", &[0, 1, 20, 21, 22, 23, 24, 25], af::check),
     ("item", &[0, 1, 33, 43], tag::item),
-    ("find", &[0, 1, 30, 31, 33, 34], tag::find),
+    ("find", &[0, 1, 30, 31, 33, 34], find::find),
+    ("nth", &[0, 1, 30, 31, 33, 34], find::nth),
     ("plan", &[0, 1, 20, 22, 40, 41], sender::plan),
     ("endure", &[0, 1, 20, 22, 40, 41], sender::endure),
     ("fragment", &[0, 1, 20, 21, 22, 23, 24, 25, 40, 41, 42], sender::fragment),

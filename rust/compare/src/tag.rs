@@ -1,11 +1,11 @@
-//! The TAG layer: item, find, and packets of items.
+//! The TAG layer: item, and packets of items.
 
 use card::{raw, tag};
 use reference::tag as expected;
-use reference::tag::{Found, Name, DUMMY, POINTER};
+use reference::tag::{Name, Repeats, DUMMY, POINTER};
 
 use crate::rng::Rng;
-use crate::tally::{due, hex, number_of, told, Judge, Tally};
+use crate::tally::{hex, number_of, Judge, Tally};
 
 /// The depth at which an item is refused.
 const TOO_DEEP: usize = 5;
@@ -23,7 +23,7 @@ pub const POOL: [Name; 10] = [
     *b"_oif",
 ];
 
-fn name(rng: &mut Rng) -> Name {
+pub fn name(rng: &mut Rng) -> Name {
     if rng.chance(75) {
         rng.pick(&POOL)
     } else {
@@ -64,19 +64,40 @@ pub fn item(rng: &mut Rng, tally: &mut Tally) {
     });
 }
 
-/// How packets are made up: which names are containers, how often an item has something wrong, and
-/// how many items stand on a level.
+/// The word on repeats, one as often as the other.
+pub fn word(rng: &mut Rng) -> Repeats {
+    rng.pick(&[Repeats::Forbidden, Repeats::Allowed])
+}
+
+/// The word for the typed calls.
+pub fn typed_word(repeats: Repeats) -> card::Repeats {
+    match repeats {
+        Repeats::Forbidden => card::Repeats::Forbidden,
+        Repeats::Allowed => card::Repeats::Allowed,
+    }
+}
+
+/// How packets are made up: which names are containers, the few names that come again on a level if
+/// any do, how often an item has something wrong, and how many items stand on a level.
 pub struct Style {
     containers: Vec<Name>,
+    few: Vec<Name>,
     slips: usize,
     most: usize,
 }
 
 impl Style {
-    pub fn new(rng: &mut Rng, containers: Vec<Name>) -> Style {
+    /// Names repeat for the most part where they may, and at times where they may not; among them
+    /// often those that have rules of their own.
+    pub fn new(rng: &mut Rng, containers: Vec<Name>, repeats: Repeats) -> Style {
         let slips = if rng.chance(45) { 12 } else { 0 };
-        let most = if rng.chance(2) { 120 } else { 5 };
-        Style { containers, slips, most }
+        let often = if repeats == Repeats::Allowed { 70 } else { 10 };
+        let (names, usual) = if rng.chance(often) { (rng.within(1, 4), 9) } else { (0, 5) };
+        let ruled = [POINTER, DUMMY];
+        let mut one = || if rng.chance(25) { rng.pick(&ruled) } else { rng.pick(&POOL) };
+        let few = (0..names).map(|_| one()).collect();
+        let most = if rng.chance(2) { 120 } else { usual };
+        Style { containers, few, slips, most }
     }
 
     /// A run of items with any padding.
@@ -86,7 +107,7 @@ impl Style {
         for _ in 0..rng.within(0, most) {
             let name = self.name(rng);
             let again = name != DUMMY && names.contains(&name);
-            if !again || rng.chance(2 * self.slips) {
+            if !again || !self.few.is_empty() || rng.chance(2 * self.slips) {
                 names.push(name);
                 packet.extend(self.item(rng, depth, name));
             }
@@ -95,10 +116,12 @@ impl Style {
         packet
     }
 
-    /// Any name, and often a container's.
+    /// One of the few names, or any where there are none; and often a container's.
     fn name(&self, rng: &mut Rng) -> Name {
         if !self.containers.is_empty() && rng.chance(35) {
             rng.pick(&self.containers)
+        } else if !self.few.is_empty() {
+            rng.pick(&self.few)
         } else {
             name(rng)
         }
@@ -166,57 +189,4 @@ pub fn some_packet(rng: &mut Rng, style: &Style) -> Vec<u8> {
 /// Where a part of a packet begins in it.
 pub fn place(packet: &[u8], part: &[u8]) -> usize {
     part.as_ptr() as usize - packet.as_ptr() as usize
-}
-
-/// Name, bits and value of each item of a packet, or the number with which it is refused.
-type Listed<'a> = Result<Vec<(Name, u32, &'a [u8])>, u8>;
-
-/// As the typed call gives them.
-fn in_order(packet: &[u8]) -> Listed<'_> {
-    let items = tag::items(packet).map_err(|refused| refused.0)?;
-    Ok(items.map(|item| (item.name, item.bits, item.value)).collect())
-}
-
-/// As the reference reads them.
-fn due_in_order(packet: &[u8]) -> Listed<'_> {
-    let (items, _) = expected::items(packet)?;
-    Ok(items.into_iter().map(|item| (item.name, item.bits, item.value)).collect())
-}
-
-pub fn find(rng: &mut Rng, tally: &mut Tally) {
-    let style = Style::new(rng, Vec::new());
-    let (packet, standing) = (some_packet(rng, &style), some_packet(rng, &style));
-    let (mut wanted, before) = (name(rng), rng.room(raw::TOLD_FIND));
-    let whole = expected::items(&packet).into_iter().chain(expected::items(&standing));
-    let there: Vec<Name> = whole.flat_map(|(items, _)| items).map(|item| item.name).collect();
-    if !there.is_empty() && rng.chance(70) {
-        wanted = rng.pick(&there);
-    }
-    let mut after = before.clone();
-    let number = raw::find(&packet, &standing, u32::from_be_bytes(wanted), &mut after);
-    let typed = tag::find(&packet, &standing, wanted).map_err(|refused| refused.0);
-    let expected = expected::find(wanted, &packet, &standing);
-
-    let mut judge = Judge::default();
-    let due = due(&expected, &before, raw::TOLD_FIND);
-    judge.same("number", number, number_of(&due));
-    let shown = |found: &Found| {
-        let holder = if found.standing { &standing } else { &packet };
-        let mut bytes = vec![found.standing.into()];
-        bytes.extend(found.item.bits.to_be_bytes());
-        bytes.extend((place(holder, found.item.value) as u64).to_be_bytes());
-        bytes.extend((found.item.value.len() as u32).to_be_bytes());
-        bytes
-    };
-    let line = due.map_or(before.clone(), |found| told(&before, &shown(found)));
-    judge.bytes("told", &after, &line);
-    let typed = typed.map(|t| (t.standing, t.bits, t.value.as_ptr(), t.value.len()));
-    let value = |found: Found| (found.item.value.as_ptr(), found.item.value.len());
-    let expected = expected.map(|e| (e.standing, e.item.bits, value(e).0, value(e).1));
-    judge.same("typed", typed, expected);
-    judge.same("items", in_order(&packet), due_in_order(&packet));
-    tally.count(number, judge, || {
-        let (packet, standing) = (hex(&packet), hex(&standing));
-        format!("packet={packet} standing={standing} name={} told={}", hex(&wanted), hex(&before))
-    });
 }

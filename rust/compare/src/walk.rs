@@ -3,13 +3,16 @@
 use card::{raw, Step, Walk};
 use reference::number;
 use reference::tag as expected;
-use reference::tag::{Name, Walked};
+use reference::tag::{Name, Repeats, Walked};
 
+use crate::find::note_word;
 use crate::rng::Rng;
-use crate::tag::{place, some_packet, Style, POOL};
+use crate::tag::{place, some_packet, typed_word, word, Style, POOL};
 use crate::tally::{hex, number_of, told, Judge, Tally};
 use crate::walker::{self, Walker};
 
+/// The walks that show that the word on repeats is for every level.
+const INNER: &str = "granted where names repeat in containers alone";
 /// Lengths that a walker has not.
 const OTHER_LENGTHS: [usize; 5] = [0, 8, 55, 57, 112];
 
@@ -28,14 +31,14 @@ fn names_of(list: &[u8]) -> Vec<Name> {
 }
 
 pub fn walk(rng: &mut Rng, opened: &mut Tally, stepped: &mut Tally) {
-    let list = container_list(rng);
-    let style = Style::new(rng, names_of(&list));
+    let (list, repeats) = (container_list(rng), word(rng));
+    let style = Style::new(rng, names_of(&list), repeats);
     let packet = some_packet(rng, &style);
     let length = if rng.chance(96) { walker::BYTES } else { rng.pick(&OTHER_LENGTHS) };
-    let before = rng.bytes(length);
+    let (before, flag) = (rng.bytes(length), rng.flag(repeats == Repeats::Allowed));
     let mut walker = before.clone();
-    let number = raw::walk_open(&packet, &list, &mut walker);
-    let expected = expected::walk(&list, &packet);
+    let number = raw::walk_open(&packet, &list, flag, &mut walker);
+    let expected = expected::walk(&list, &packet, repeats);
 
     let mut judge = Judge::default();
     let due = number_of(&expected);
@@ -44,9 +47,10 @@ pub fn walk(rng: &mut Rng, opened: &mut Tally, stepped: &mut Tally) {
     let opened_at = Walker::opened(&packet).bytes();
     judge.bytes("walker", &walker, if due == 0 && room == 0 { &opened_at } else { &before });
     if list.len() % 4 == 0 {
-        judge.same("typed", typed_walk(&list, &packet), expected.clone().map(handed));
+        judge.same("typed", typed_walk(&list, &packet, repeats), expected.clone().map(handed));
     }
-    opened.count(number, judge, || inputs(&packet, &list, &before));
+    note_walk(opened, number, &list, &packet);
+    opened.count(number, judge, || inputs(&packet, &list, &before) + &format!(" repeats={flag}"));
     if let (0, Ok((items, padding))) = (number, expected) {
         steps(rng, stepped, &packet, &list, &items, padding);
     }
@@ -57,6 +61,14 @@ pub fn walk(rng: &mut Rng, opened: &mut Tally, stepped: &mut Tally) {
     if rng.chance(10) {
         misfit_step(rng, stepped, &packet, &list);
     }
+}
+
+/// Notes what an opening shows of the word on repeats.
+fn note_walk(tally: &mut Tally, number: usize, list: &[u8], packet: &[u8]) {
+    let forbidden = expected::walk(list, packet, Repeats::Forbidden);
+    let outer = expected::items(packet, Repeats::Forbidden);
+    tally.note(INNER, number == 0 && forbidden.is_err() && outer.is_ok());
+    note_word(tally, number, &forbidden);
 }
 
 fn inputs(packet: &[u8], list: &[u8], walker: &[u8]) -> String {
@@ -73,9 +85,9 @@ fn handed<'a>((items, padding): (Vec<Walked<'a>>, usize)) -> HandedOut<'a> {
 }
 
 /// The same by the typed calls.
-fn typed_walk<'a>(list: &[u8], packet: &'a [u8]) -> Result<HandedOut<'a>, u8> {
-    let names = names_of(list);
-    let mut walk = Walk::open(packet, &names).map_err(|refused| refused.0)?;
+fn typed_walk<'a>(list: &[u8], packet: &'a [u8], repeats: Repeats) -> Result<HandedOut<'a>, u8> {
+    let (names, word) = (names_of(list), typed_word(repeats));
+    let mut walk = Walk::open(packet, &names, word).map_err(|refused| refused.0)?;
     let mut items = Vec::new();
     loop {
         match walk.step().map_err(|refused| refused.0)? {

@@ -4,8 +4,9 @@ use crate::code::{Filling, MOST_DATA, PARITY};
 use crate::endurance::{endure, Endurance};
 use crate::plan::{Address, Rule, Settings, HOUSE, TWO_LOSSES};
 use crate::receiver::{Condition, Kept, Received, Table};
-use crate::tag::{Name, Walked};
-use crate::{af, code, crc, field, listing, number, plan, sender, tag, Answer};
+use crate::{af, code, crc, field, number, plan, sender, Answer};
+
+mod items;
 
 /// The most bytes of a word in hex, and the most room that can be lent.
 const MOST_BYTES: usize = 32_768;
@@ -48,7 +49,7 @@ impl Console {
                 on_sender(&words)?
             }
             &"afcheck" | &"afwrap" => on_af(&words)?,
-            _ => on_tag(&words)?,
+            _ => items::answer(&words)?,
         };
         Some(answer.unwrap_or_else(|number| format!("refused {number}")))
     }
@@ -160,29 +161,6 @@ fn on_af(words: &[&str]) -> Option<Answer<String>> {
     }
 }
 
-fn on_tag(words: &[&str]) -> Option<Answer<String>> {
-    match words {
-        ["item", name, bits, room, value] => {
-            let (name, mut out, value) = (tag_name(name)?, buffer(room)?, bytes(value)?);
-            let bits = decimal(bits, u32::MAX.into())? as u32;
-            let written = tag::write(name, bits, &value, &mut out);
-            Some(written.map(|length| format!("item {}", hex(&out[..length]))))
-        }
-        ["items", packet] => Some(show_items(&bytes(packet)?)),
-        ["find", name, packet, standing] => {
-            let (packet, standing) = (bytes(packet)?, bytes(standing)?);
-            let found = tag::find(tag_name(name)?, &packet, &standing).map(|found| found.item);
-            Some(found.map(|item| format!("found {} {}", item.bits, hex(item.value))))
-        }
-        ["walk", names, packet] => Some(show_walk(&bytes(names)?, &bytes(packet)?)),
-        ["list", input] => {
-            let text = listing::listing(&bytes(input)?);
-            Some(Ok(format!("list {}", text.replace(' ', "_").replace('\n', "|"))))
-        }
-        _ => None,
-    }
-}
-
 // Words of a question; nothing where a word is malformed or too large.
 
 /// A decimal number of at most `most`; zeros in front change none.
@@ -240,10 +218,6 @@ fn hex_digit(letter: u8) -> Option<u8> {
         b'a'..=b'f' => Some(letter - b'a' + 10),
         _ => None,
     }
-}
-
-fn tag_name(word: &str) -> Option<Name> {
-    bytes(word)?.try_into().ok()
 }
 
 /// An address or configured pair, `-` for none.
@@ -311,24 +285,6 @@ fn show_endurance(endured: &Endurance) -> String {
 fn show_af(header: &af::Header) -> String {
     let cf = u8::from(header.cf);
     format!("af seq={} cf={cf} rev=1.{} len={}", header.seq, header.minor, header.len)
-}
-
-fn show_items(packet: &[u8]) -> Answer<String> {
-    let (items, padding) = tag::items(packet)?;
-    let mut text = "items ".to_string();
-    for item in items {
-        text += &format!("{}:{}:{} ", hex(&item.name), item.bits, hex(item.value));
-    }
-    Ok(text + &format!("end {padding}"))
-}
-
-fn show_walk(names: &[u8], packet: &[u8]) -> Answer<String> {
-    let (items, padding) = tag::walk(names, packet)?;
-    let mut text = "walk ".to_string();
-    for Walked { depth, item } in items {
-        text += &format!("{depth}:{}:{} ", hex(&item.name), item.bits);
-    }
-    Ok(text + &format!("end {padding}"))
 }
 
 fn show_received(received: &Received, out: &[u8]) -> String {

@@ -1,6 +1,6 @@
 //! The listing program of document 01, as a text.
 
-use crate::tag::Name;
+use crate::tag::{Name, Repeats};
 use crate::{af, tag, Answer};
 
 /// The listing's only container.
@@ -14,7 +14,7 @@ pub fn listing(input: &[u8]) -> String {
 /// SEQ, revision and LEN; then depth, name and bits of each item; last the outer padding bytes.
 fn lines(input: &[u8]) -> Answer<String> {
     let header = af::check(input)?;
-    let (items, padding) = tag::walk(CONTAINER, af::payload(input))?;
+    let (items, padding) = tag::walk(CONTAINER, af::payload(input), Repeats::Forbidden)?;
     let mut text = format!("af {} 1.{} {}\n", header.seq, header.minor, header.len);
     for walked in items {
         let name = u32::from_be_bytes(walked.item.name);

@@ -6,7 +6,7 @@ use crate::{big_endian, number, refuse, Answer};
 
 pub type Name = [u8; 4];
 
-/// Filler; the only name that may occur again on a level (document 01, "TAG layer").
+/// Filler; the only name that may always occur again on a level (document 01, "TAG layer").
 pub const DUMMY: Name = *b"*dmy";
 /// Protocol type and revision, exactly 64 bits.
 pub const POINTER: Name = *b"*ptr";
@@ -17,6 +17,13 @@ const HEAD: usize = 8;
 const DEEPEST: usize = 4;
 /// The most container names.
 const MOST_CONTAINERS: usize = 8;
+
+/// What the caller says of other names that occur again (document 02, Item 1).
+#[derive(Clone, Copy, Debug, PartialEq)]
+pub enum Repeats {
+    Forbidden,
+    Allowed,
+}
 
 /// An item, its value shown as a part of the packet.
 #[derive(Clone, Copy, Debug, PartialEq)]
@@ -60,33 +67,47 @@ fn next(rest: &[u8]) -> Answer<Option<(Item<'_>, &[u8])>> {
     Ok(Some((Item { name, bits, value }, left)))
 }
 
-/// What an item may be refused for behind 30 on every level: 31, 33. `before` are the names that
-/// have stood on its level.
-fn check_item(item: &Item, before: &mut HashSet<Name>) -> Answer<()> {
+/// What an item may be refused for behind 30 on every level: 31 where repeats are forbidden, 33.
+/// `before` are the names that have stood on its level.
+fn check_item(item: &Item, before: &mut HashSet<Name>, repeats: Repeats) -> Answer<()> {
     let new = before.insert(item.name);
-    refuse(!new && item.name != DUMMY, number::TWICE)?;
+    let forbidden = repeats == Repeats::Forbidden && item.name != DUMMY;
+    refuse(!new && forbidden, number::TWICE)?;
     refuse(item.name == POINTER && item.bits != POINTER_BITS, number::PTR)
 }
 
 /// All items of a packet, and the count of its padding bytes; the leftmost item at fault decides.
-pub fn items(packet: &[u8]) -> Answer<(Vec<Item<'_>>, usize)> {
+pub fn items(packet: &[u8], repeats: Repeats) -> Answer<(Vec<Item<'_>>, usize)> {
     let mut items = Vec::new();
     let mut names = HashSet::new();
     let mut rest = packet;
     while let Some((item, left)) = next(rest)? {
-        check_item(&item, &mut names)?;
+        check_item(&item, &mut names, repeats)?;
         items.push(item);
         rest = left;
     }
     Ok((items, rest.len()))
 }
 
-/// The item of that name in the packet, else in the standing packet. Both are checked whole first,
-/// the packet before the standing one; a name in neither is 34.
-pub fn find<'a>(name: Name, packet: &'a [u8], standing: &'a [u8]) -> Answer<Found<'a>> {
-    let first = items(packet)?.0.into_iter().map(|item| Found { standing: false, item });
-    let second = items(standing)?.0.into_iter().map(|item| Found { standing: true, item });
+/// The first item of that name in the packet, else in the standing packet. Both are checked whole
+/// first, the packet before the standing one; a name in neither is 34.
+pub fn find<'a>(
+    name: Name,
+    packet: &'a [u8],
+    standing: &'a [u8],
+    repeats: Repeats,
+) -> Answer<Found<'a>> {
+    let first = items(packet, repeats)?.0.into_iter().map(|item| Found { standing: false, item });
+    let second = items(standing, repeats)?.0.into_iter().map(|item| Found { standing: true, item });
     first.chain(second).find(|found| found.item.name == name).ok_or(number::ABSENT)
+}
+
+/// The occurrence of a given number, counted from 0, of that name in the packet alone, which is
+/// checked whole first; one beyond the last is 34.
+pub fn nth(name: Name, occurrence: usize, packet: &[u8], repeats: Repeats) -> Answer<Item<'_>> {
+    let (items, _) = items(packet, repeats)?;
+    let named: Vec<Item> = items.into_iter().filter(|item| item.name == name).collect();
+    named.get(occurrence).copied().ok_or(number::ABSENT)
 }
 
 /// The names in a list of containers, four bytes a name; over 8 of them or bytes left over are 43.
@@ -98,16 +119,21 @@ pub fn containers(list: &[u8]) -> Answer<HashSet<Name>> {
 }
 
 /// All items of a packet and, behind each container, those of its value; and the count of padding
-/// bytes of the outer packet.
-pub fn walk<'a>(list: &[u8], packet: &'a [u8]) -> Answer<(Vec<Walked<'a>>, usize)> {
-    let mut walk = Walk { containers: containers(list)?, walked: Vec::new() };
+/// bytes of the outer packet. What is said of repeats holds for each level by itself.
+pub fn walk<'a>(
+    list: &[u8],
+    packet: &'a [u8],
+    repeats: Repeats,
+) -> Answer<(Vec<Walked<'a>>, usize)> {
+    let mut walk = Walk { containers: containers(list)?, repeats, walked: Vec::new() };
     let padding = walk.packet(packet, 0)?;
     Ok((walk.walked, padding))
 }
 
-/// A walk on its way: the container names, and the items handed out so far.
+/// A walk on its way: the container names, what is said of repeats, and the items handed out.
 struct Walk<'a> {
     containers: HashSet<Name>,
+    repeats: Repeats,
     walked: Vec<Walked<'a>>,
 }
 
@@ -117,7 +143,7 @@ impl<'a> Walk<'a> {
         let mut names = HashSet::new();
         let mut rest = packet;
         while let Some((item, left)) = next(rest)? {
-            check_item(&item, &mut names)?;
+            check_item(&item, &mut names, self.repeats)?;
             self.item(&item, depth)?;
             rest = left;
         }
