@@ -6,7 +6,7 @@ use Rattle.item_rules.specs.declared.Step.the-variants as step
 use Rattle.item_rules.specs.declared.Found.the-variants as found
 use Rattle.item_rules.specs.Item.{valuesOf, numberOf}
 use Rattle.item_rules.specs.Run.{foundNumber}
-use Rattle.item_rules.specs.Claims.{OneStep, OneFound, FirstIsNth, Twice, NeverTwice}
+use Rattle.item_rules.specs.Claims.{OneStep, OneFound, FirstIsNth, AsItWas, Twice, NeverTwice}
 use Rattle.item_rules.proofs.Occurrences as occurrences
 use Rattle.item_rules.proofs.Repeated as repeated
 
@@ -46,7 +46,11 @@ one-found found.Nothing found.Nothing e = refl
 pub first-is-nth : FirstIsNth
 first-is-nth = occurrences.first-is-nth
 
--- a name that has stood before refuses its item where repeats are forbidden,
+-- where repeats are forbidden the leftmost item at fault is the one that it was,
+pub as-it-was : AsItWas
+as-it-was = repeated.as-it-was
+
+-- a name that has stood before refuses its item,
 pub twice : Twice
 twice = repeated.faults-twice
 

@@ -11,7 +11,7 @@ use Rattle.base_rules.proofs.Logic.{either}
 use Rattle.item_rules.specs.declared.Repeats.{Repeats}
 use Rattle.item_rules.specs.declared.Repeats.the-variants.{Forbidden, Allowed}
 use Rattle.item_rules.specs.Run.{Run, item, padding, refused, faultOf, forbids, faultsOf, orElse}
-use Rattle.item_rules.specs.Claims.{Twice, NeverTwice}
+use Rattle.item_rules.specs.Claims.{AsItWas, Twice, NeverTwice}
 use Rattle.item_rules.proofs.Runs.{every-run}
 use Rattle.item_rules.proofs.Faults.{fault-again, fault-still, fault-never}
 
@@ -27,10 +27,15 @@ or-never k m n p q = go (eqb m 0)
     go true e = q e
     go false e = p e
 
--- where they are forbidden, an item is refused whose name has stood before
-pub faults-twice : Twice
+-- where repeats are forbidden, a name counts that has stood before,
+pub as-it-was : AsItWas
 unfolding faultsOf forbids
-faults-twice seen i r h q = ap (λ (n : ℕ). orElse n (faultsOf Forbidden (i .name ∷ seen) r)) (sym (fault-again (among (i .name) seen) i h q))
+as-it-was seen i r = refl
+
+-- and its item is refused
+pub faults-twice : Twice
+faults-twice seen i r h q =
+    as-it-was seen i r ∙ ap (λ (n : ℕ). orElse n (faultsOf Forbidden (i .name ∷ seen) r)) (sym (fault-again (among (i .name) seen) i h q))
 
 -- where names may repeat, no run of a packet has 31
 pub faults-never : NeverTwice

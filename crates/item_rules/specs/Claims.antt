@@ -1,6 +1,6 @@
 -- What holds of the answers of a step and of a search, as claims (clause 5): the proofs are in proofs/Proved.antt.
 use mathlib.Core.Bool.{true}
-use mathlib.Core.List.{List}
+use mathlib.Core.List.{List, _∷_}
 use mathlib.Core.Path.{_≡_}
 use Prim.Native.Nat.{ℕ}
 use Rattle.base_rules.specs.Tests.{among}
@@ -9,7 +9,7 @@ use Rattle.item_rules.specs.declared.Repeats.the-variants.{Forbidden, Al
 use Rattle.item_rules.specs.declared.Step.{Step}
 use Rattle.item_rules.specs.declared.Found.{Found}
 use Rattle.item_rules.specs.Item.{numberOf}
-use Rattle.item_rules.specs.Run.{Run, item, runOf, firstOf, nthOf, foundNumber, dmy, faultsOf}
+use Rattle.item_rules.specs.Run.{Run, item, runOf, firstOf, nthOf, foundNumber, dmy, faultOf, orElse, faultsOf}
 
 -- no second answer fits: two steps with the same number and values are the same step
 abbrev pub OneStep : Type 0
@@ -22,6 +22,11 @@ OneFound = (a b : Found) → foundNumber a ≡ foundNumber b → a ≡ b
 -- document 02, Item 1, "finding by name shows the first", "counted from 0": in every run that is occurrence 0
 abbrev pub FirstIsNth : Type 0
 FirstIsNth = (name : ℕ) (r : Run) → firstOf name r ≡ nthOf name 0 r
+
+-- document 02, Item 1, "Where they may not, all stays as it was": the leftmost item at fault is the one that document 01 has, 31 for a name seen
+abbrev pub AsItWas : Type 0
+AsItWas = (seen : List ℕ) (i : Item) (r : Run)
+    → faultsOf Forbidden seen (item i r) ≡ orElse (faultOf (among (i .name) seen) i) (faultsOf Forbidden (i .name ∷ seen) r)
 
 -- document 01, 31 TWICE: where repeats are forbidden, an item is refused whose name has stood before, unless it is "*dmy"
 abbrev pub Twice : Type 0

@@ -1,5 +1,5 @@
 -- The claims of specs/Claims.antt, each by citation.
-use Rattle.walk_rules.specs.Claims.{InOrder, OneHanded, WalkInside, StepInside, NoNames, ValueAsPacket, ValueWalked, NoTwice, AcceptedStill}
+use Rattle.walk_rules.specs.Claims.{InOrder, OneHanded, WalkInside, StepInside, NoNames, ValueAsPacket, ValueWalked, AsItWas, NoTwice, AcceptedStill}
 use Rattle.walk_rules.proofs.Order.{ordered}
 use Rattle.walk_rules.proofs.HandedNumbers.{number-tells}
 use Rattle.walk_rules.proofs.Inside as inside
@@ -34,6 +34,10 @@ value-as-packet = values.value-as-packet
 -- and so it is of all that the containers among them hold
 pub value-walked : ValueWalked
 value-walked = walks.value-walked
+
+-- where repeats are forbidden a walk goes on as it did
+pub as-it-was : AsItWas
+as-it-was = repeated.as-it-was
 
 -- where names may repeat, no walk is refused with 31,
 pub no-twice : NoTwice

@@ -17,9 +17,14 @@ use Rattle.item_rules.proofs.Faults.{fault-still, fault-never}
 use Rattle.item_rules.proofs.Repeated.{or-never}
 use Rattle.walk_rules.specs.Names.{deepest, namesOf, namesFault}
 use Rattle.walk_rules.specs.Walk.{Tour, visit, ends, stops, unless, andThen, walkFault, tourBy, tourAt, refusal, walkOf}
-use Rattle.walk_rules.specs.Claims.{NoTwice, AcceptedStill}
+use Rattle.walk_rules.specs.Claims.{AsItWas, NoTwice, AcceptedStill}
 use Rattle.walk_rules.proofs.ContainerNames.{fault-is}
 use Rattle.walk_rules.proofs.Refusals.{then-refusal, unless-refusal, by-item}
+
+-- where repeats are forbidden, a name counts that has stood before
+pub as-it-was : AsItWas
+unfolding tourBy forbids
+as-it-was inner cs d seen i r = refl
 
 -- ---- no walk is refused with 31
 

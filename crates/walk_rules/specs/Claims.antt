@@ -6,6 +6,7 @@ use mathlib.Core.Path.{_≡_}
 use Prim.Native.Nat.{ℕ, zero, suc, _+_, _≤_}
 use lib.Dec.{eqb}
 use lib.ListN.{length, take, drop, replicate}
+use Rattle.base_rules.specs.Tests.{among}
 use Rattle.item_rules.specs.declared.Item.{Item}
 use Rattle.item_rules.specs.declared.Repeats.{Repeats}
 use Rattle.item_rules.specs.declared.Repeats.the-variants.{Forbidden, Allowed}
@@ -16,7 +17,7 @@ use Rattle.walk_rules.specs.declared.Handed.{Handed}
 use Rattle.walk_rules.specs.declared.Handed.the-variants as handed
 use Rattle.walk_rules.specs.declared.Walker.{Walker}
 use Rattle.walk_rules.specs.Names.{deepest}
-use Rattle.walk_rules.specs.Walk.{Tour, visit, ends, stops, tourAt, refusal, walkOf}
+use Rattle.walk_rules.specs.Walk.{Tour, visit, ends, stops, unless, andThen, walkFault, tourBy, tourAt, refusal, walkOf}
 use Rattle.walk_rules.specs.Step.{handedNumber, opens, walkStep}
 
 -- what n steps from w hand out
@@ -112,6 +113,13 @@ ValueWalked = (w : Repeats) (s cs : List ℕ) (levels d : ℕ) (i : Item) → ne
     tourAt w levels s cs d [] (runOf s (i .from) (nextOf i)) ≡ movedTour (i .from) (tourAt w levels v cs d [] (runOf v 0 (length v))))
 
 -- ---- document 02, Item 1: where names may repeat, on every level
+
+-- "Where they may not, all stays as it was": a walk of a run goes on as document 01 has it, 31 for a name seen
+abbrev pub AsItWas : Type 0
+AsItWas = (inner : Item → Tour) (cs : List ℕ) (d : ℕ) (seen : List ℕ) (i : Item) (r : Run)
+    → tourBy Forbidden inner cs d seen (item i r)
+    ≡ unless (walkFault cs d (among (i .name) seen) i)
+    (visit d i (andThen (cond (among (i .name) cs) (inner i) (ends 0)) (tourBy Forbidden inner cs d (i .name ∷ seen) r)))
 
 -- "31 only when repeats are forbidden": where they may, no walk is refused with 31
 abbrev pub NoTwice : Type 0
