@@ -128,8 +128,8 @@ static inline struct bailhammer_found bailhammer_found_in(const uint8_t *packet,
     return found;
 }
 
-/* Finds the first item of a name in a packet, else in the standing packet, which may be null with no bytes. In either two items may have one name
- * where repeats is yes.
+/* Finds the first item of a name in a packet, else in the standing packet, which may be null with no bytes. Where repeats is yes, a name may
+ * stand more than once in either.
  *
  *     struct bailhammer_found found;
  *     if (bailhammer_tag_find(af.payload, af.payload_len, NULL, 0, bailhammer_name("demo"), false, &found) == BAILHAMMER_DONE)
@@ -145,11 +145,11 @@ static inline size_t bailhammer_tag_find(const uint8_t *packet, size_t packet_le
     return number;
 }
 
-/* Finds an item by its name and its occurrence, counted from 0 on, in the packet alone. Each call checks the whole packet: for all of its items, a
- * walk.
+/* Finds an item by its name and its occurrence, counted from 0 on, in the packet alone. Each call checks the whole packet: who wants all items of a
+ * name takes a walk.
  *
- *     struct bailhammer_found found;
- *     for (size_t i = 0; bailhammer_tag_nth(af.payload, af.payload_len, bailhammer_name("demo"), i, true, &found) == BAILHAMMER_DONE; i++)
+ *     struct bailhammer_found found;           // the second item of the name:
+ *     if (bailhammer_tag_nth(af.payload, af.payload_len, bailhammer_name("demo"), 1, true, &found) == BAILHAMMER_DONE)
  *         use(found.value, found.value_len);
  */
 static inline size_t bailhammer_tag_nth(const uint8_t *packet, size_t packet_len, uint32_t name, size_t occurrence, bool repeats,

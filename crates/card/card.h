@@ -186,11 +186,10 @@ size_t bailhammer_find(const uint8_t *packet, size_t packet_len, const uint8_t *
 
 /* Finds occurrence `number` of a name, counted from 0 on, in the packet alone: no standing packet is looked at. Tells the 17 bytes that
  * bailhammer_find tells, and the first of them is 0. Where repeats is no, "*dmy" alone can have occurrences beyond 0. Gives 0; else 30, 31 or 33
- * of the packet; 34 where it has no such occurrence; or 1. Each call checks the whole packet: for all of its items, bailhammer_walk_open.
+ * of the packet; 34 where it has no such occurrence; or 1. Each call checks the whole packet: who wants all items of a name takes a walk.
  *
- *     uint8_t told[BAILHAMMER_TOLD_FIND];      // all items of the name, in their order:
- *     for (size_t i = 0; bailhammer_nth(payload, payload_len, BAILHAMMER_NAME('d', 'e', 'm', 'o'), i, 1, told, sizeof told) == 0; i++)
- *         show(told);
+ *     uint8_t told[BAILHAMMER_TOLD_FIND];      // the second item of the name:
+ *     number = bailhammer_nth(payload, payload_len, BAILHAMMER_NAME('d', 'e', 'm', 'o'), 1, 1, told, sizeof told);
  */
 size_t bailhammer_nth(const uint8_t *packet, size_t packet_len, uint32_t name, size_t number, size_t repeats, uint8_t *told, size_t told_len);
 

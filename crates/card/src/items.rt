@@ -1,4 +1,4 @@
-// The items of a packet for C: finding one by its name, and a walk, which C holds as bytes.
+// The items of a packet for C: finding one by its name, or by its name and number, and a walk, which C holds as bytes.
 use crate::telling::tell;
 use item::Item;
 use item::Repeats;
@@ -29,7 +29,7 @@ const TOLD_STEP: usize = 22;
 
 const STEP_WIDTHS: [usize; 6] = [1, 1, 4, 4, 8, 4];
 
-// Whether names may repeat.
+// What C says of repeats: 0 forbids them.
 fn repeats_of(repeats: usize) -> Repeats
     ensures { λ r. ⌜ r ≡ repeatsOf repeats ⌝ }
 {

@@ -62,25 +62,25 @@ walker-laid d w long ends said =
 
 -- ---- opening a walk
 
-module _ (by : Repeats) (packet names walker : List ℕ) (w : Walker) (e : w ≡ opens by packet names) where
-  is-refusal : w .refusal ≡ opens by packet names .refusal
+module _ (word : Repeats) (packet names walker : List ℕ) (w : Walker) (e : w ≡ opens word packet names) where
+  is-refusal : w .refusal ≡ opens word packet names .refusal
   is-refusal = ap (λ (x : Walker). x .refusal) e
 
   -- a walk that is refused gives its number and leaves the lent bytes, however many they are
-  pub open-refused : (w .refusal ≡ 0 → ⊥) → outcome (refused (w .refusal)) walker ≡ walkOpenCall by packet names walker
+  pub open-refused : (w .refusal ≡ 0 → ⊥) → outcome (refused (w .refusal)) walker ≡ walkOpenCall word packet names walker
   unfolding walkOpenCall walkOpenFault
   open-refused h =
       leaves (w .refusal) _ _ _ _ (pos-of-ne-zero h)
-      (is-refusal ∙ due (opens by packet names .refusal) _ (other (λ (z : opens by packet names .refusal ≡ 0). h (is-refusal ∙ z))))
+      (is-refusal ∙ due (opens word packet names .refusal) _ (other (λ (z : opens word packet names .refusal ≡ 0). h (is-refusal ∙ z))))
 
   -- a walk that is not refused gives 1 where the lent bytes are not 56, and leaves them
-  pub open-short : w .refusal ≡ 0 → (length walker ≡ walker-bytes → ⊥) → outcome (refused 1) walker ≡ walkOpenCall by packet names walker
+  pub open-short : w .refusal ≡ 0 → (length walker ≡ walker-bytes → ⊥) → outcome (refused 1) walker ≡ walkOpenCall word packet names walker
   unfolding walkOpenCall walkOpenFault
   open-short z h = leaves 1 _ _ _ _ (lit< tt) (skip _ _ (same (sym is-refusal ∙ z)) (due 1 _ (other h)))
 
   -- with 56 bytes lent, a walk that is not refused stands in them
   pub open-done : {y : List ℕ} → w .refusal ≡ 0 → length walker ≡ walker-bytes → y ≡ walkerBytes w
-      → outcome (granted []) y ≡ walkOpenCall by packet names walker
+      → outcome (granted []) y ≡ walkOpenCall word packet names walker
   unfolding walkOpenCall walkOpenFault
   open-done z l is-y = writes _ _ _ _ _ (skip _ _ (same (sym is-refusal ∙ z)) (skip 1 _ (same l) none-due)) (is-y ∙ ap walkerBytes e)
 

@@ -64,9 +64,9 @@ located-whole false b′ f g n m p q = tt
 -- no figure of an item found, in the packet or the standing packet, is cut off where it is told
 pub found-whole : FoundWhole
 unfolding locateOf
-found-whole r packet standing name bytes bytes′ long long′ =
-    located-whole (eqb (checkOf r packet) 0) (eqb (checkOf r standing) 0) (firstOf name (wholeRun packet)) (firstOf name (wholeRun standing))
-    (checkOf r packet) (checkOf r standing) (found-there packet name bytes long) (found-there standing name bytes′ long′)
+found-whole word packet standing name bytes bytes′ long long′ =
+    located-whole (eqb (checkOf word packet) 0) (eqb (checkOf word standing) 0) (firstOf name (wholeRun packet)) (firstOf name (wholeRun standing))
+    (checkOf word packet) (checkOf word standing) (found-there packet name bytes long) (found-there standing name bytes′ long′)
 
 -- by what the check and the search for an occurrence say
 nth-located-whole : (b : Bool) (f : Found) (n : ℕ) → ((i : Item) → f ≡ found.At i → ItemWhole i)
@@ -78,8 +78,8 @@ nth-located-whole false f n p = tt
 -- nor is any of an occurrence
 pub nth-whole : NthWhole
 unfolding locateNthOf
-nth-whole r packet name number bytes long =
-    nth-located-whole (eqb (checkOf r packet) 0) (nthOf name number (wholeRun packet)) (checkOf r packet)
+nth-whole word packet name number bytes long =
+    nth-located-whole (eqb (checkOf word packet) 0) (nthOf name number (wholeRun packet)) (checkOf word packet)
     (λ i q. let v = nth-stands packet name (length packet) number 0 i q in stands-whole packet bytes (v .at) (length packet) long i (v .here))
 
 -- ---- one that a step hands out

@@ -81,7 +81,7 @@ typed at depth ends a d long all = record { unrefused = refl; five = long; small
 -- a walk that opens without refusal on a packet under 2^64 bytes has five ends and numbers of 64 bits
 pub opens-typed : OpensTyped
 unfolding opens
-opens-typed by packet names long none =
+opens-typed word packet names long none =
     let l : ℕ = length packet in
     record {
       unrefused = none;

@@ -171,7 +171,7 @@ pub record TypedWalk (w : Walker) : Type 0 where
 
 -- such a walk is opened,
 abbrev pub OpensTyped : Type 0
-OpensTyped = (r : Repeats) (packet names : List ℕ) → length packet < 2 ^ 64 → opens r packet names .refusal ≡ 0 → TypedWalk (opens r packet names)
+OpensTyped = (word : Repeats) (packet names : List ℕ) → length packet < 2 ^ 64 → opens word packet names .refusal ≡ 0 → TypedWalk (opens word packet names)
 
 -- and a step leaves one, so that what is said of such a walk holds between any two calls:
 abbrev pub StepsTyped : Type 0
@@ -210,12 +210,12 @@ LocatedWhole (located.Refused n) = Unit {0}
 -- whatever the two packets are
 abbrev pub FoundWhole : Type 0
 FoundWhole =
-    (r : Repeats) (packet standing : List ℕ) (name : ℕ) → Bytes packet → Bytes standing → length packet < 2 ^ 64 → length standing < 2 ^ 64
-    → LocatedWhole (locateOf r packet standing name)
+    (word : Repeats) (packet standing : List ℕ) (name : ℕ) → Bytes packet → Bytes standing → length packet < 2 ^ 64 → length standing < 2 ^ 64
+    → LocatedWhole (locateOf word packet standing name)
 
 -- document 02, Item 1: and so it is of an occurrence
 abbrev pub NthWhole : Type 0
-NthWhole = (r : Repeats) (packet : List ℕ) (name number : ℕ) → Bytes packet → length packet < 2 ^ 64 → LocatedWhole (locateNthOf r packet name number)
+NthWhole = (word : Repeats) (packet : List ℕ) (name number : ℕ) → Bytes packet → length packet < 2 ^ 64 → LocatedWhole (locateNthOf word packet name number)
 
 -- of an item that a step hands out, with its depth; the padding is less than an item's head
 abbrev pub HandedWhole : Handed → Type 0

@@ -55,12 +55,12 @@ walkerFrom s = record {
 
 -- the walk's refusal, and then 1 ROOM where there are not the bytes of a walk
 unfoldable pub walkOpenFault : Repeats → List ℕ → List ℕ → List ℕ → ℕ
-walkOpenFault r packet names walker =
-    first ((not (eqb (opens r packet names .refusal) 0), opens r packet names .refusal) ∷ (not (eqb (length walker) walker-bytes), 1) ∷ [])
+walkOpenFault word packet names walker =
+    first ((not (eqb (opens word packet names .refusal) 0), opens word packet names .refusal) ∷ (not (eqb (length walker) walker-bytes), 1) ∷ [])
 
 -- what is opened stands in the walk's bytes, which a refusal leaves
 unfoldable pub walkOpenCall : Repeats → List ℕ → List ℕ → List ℕ → Outcome
-walkOpenCall r packet names walker = settled (walkOpenFault r packet names walker) [] (walkerBytes (opens r packet names)) walker
+walkOpenCall word packet names walker = settled (walkOpenFault word packet names walker) [] (walkerBytes (opens word packet names)) walker
 
 -- ---- a step
 

@@ -4,12 +4,7 @@ use crate::replies;
 use crate::words;
 use crate::words::Name;
 use crate::words::Number;
-
-// Whether names may repeat, as a question's last word says.
-pub(crate) enum Word {
-    Of(item::Repeats),
-    Malformed,
-}
+use crate::words::Repeating;
 
 // The answer; 0 where the line is no question by name or malformed.
 pub(crate) fn answer(line: &[u8], out: &mut [u8]) -> usize
@@ -22,21 +17,6 @@ pub(crate) fn answer(line: &[u8], out: &mut [u8]) -> usize
         return answer_nth(line, out);
     }
     0
-}
-
-// What the word with that number says, `once` or `repeat`; where the line has no such word, names may not repeat.
-pub(crate) fn word_at(line: &[u8], at: usize) -> Word {
-    if !words::has(line, at) {
-        return Word::Of(item::Repeats::Forbidden);
-    }
-    let word = words::nth(line, at);
-    if words::is(word, b"once") {
-        return Word::Of(item::Repeats::Forbidden);
-    }
-    if words::is(word, b"repeat") {
-        return Word::Of(item::Repeats::Allowed);
-    }
-    Word::Malformed
 }
 
 // `find NAME PACKET STANDING [once|repeat]` is answered `found BITS VALUE`, or `refused N`.
@@ -54,7 +34,7 @@ fn answer_find(line: &[u8], out: &mut [u8]) -> usize
     let Number::Of(m) = words::bytes_of(words::nth(line, 3), &mut standing) else {
         return 0;
     };
-    let Word::Of(repeats) = word_at(line, 4) else {
+    let Repeating::Of(repeats) = words::repeats_at(line, 4) else {
         return 0;
     };
     search_and_write(out, &packet[..n], &standing[..m], repeats, name)
@@ -74,7 +54,7 @@ fn answer_nth(line: &[u8], out: &mut [u8]) -> usize
     let Number::Of(n) = words::bytes_of(words::nth(line, 3), &mut packet) else {
         return 0;
     };
-    let Word::Of(repeats) = word_at(line, 4) else {
+    let Repeating::Of(repeats) = words::repeats_at(line, 4) else {
         return 0;
     };
     search_nth_and_write(out, &packet[..n], repeats, name, number)

@@ -3,11 +3,11 @@ ghost use Prim.Native.Nat.{_≤_};
 ghost use lib.ListN.{length};
 ghost use Rattle.text_rules.specs.Wrote.{Wrote};
 use crate::finding;
-use crate::finding::Word;
 use crate::replies;
 use crate::words;
 use crate::words::Name;
 use crate::words::Number;
+use crate::words::Repeating;
 
 // The answer; 0 where the line is no question on items or malformed. Those by name are asked of `finding`.
 pub(crate) fn answer(line: &[u8], out: &mut [u8]) -> usize
@@ -60,7 +60,7 @@ fn answer_items(line: &[u8], out: &mut [u8]) -> usize
     let Number::Of(n) = words::bytes_of(words::nth(line, 1), &mut packet) else {
         return 0;
     };
-    let Word::Of(repeats) = finding::word_at(line, 2) else {
+    let Repeating::Of(repeats) = words::repeats_at(line, 2) else {
         return 0;
     };
     write_items(out, &packet[..n], repeats)
@@ -78,7 +78,7 @@ fn answer_walk(line: &[u8], out: &mut [u8]) -> usize
     let Number::Of(n) = words::bytes_of(words::nth(line, 2), &mut packet) else {
         return 0;
     };
-    let Word::Of(repeats) = finding::word_at(line, 3) else {
+    let Repeating::Of(repeats) = words::repeats_at(line, 3) else {
         return 0;
     };
     write_walk(out, &packet[..n], &names[..m], repeats)

@@ -25,6 +25,12 @@ pub(crate) enum Name {
     Malformed,
 }
 
+// Whether names may repeat, as a question's last word says.
+pub(crate) enum Repeating {
+    Of(item::Repeats),
+    Malformed,
+}
+
 // A buffer to lend. A function of its own, so that a caller's proof has a name for the array and not
 // its elements.
 pub(crate) fn zeros() -> [u8; BYTES] {
@@ -238,4 +244,20 @@ pub(crate) fn name_at(line: &[u8], at: usize) -> Name {
         return Name::Malformed;
     }
     Name::Of(base::read4(&four, 0))
+}
+
+// Whether names may repeat, as the word with that number says, `once` or `repeat`; where the line has
+// no such word, they may not.
+pub(crate) fn repeats_at(line: &[u8], at: usize) -> Repeating {
+    if !has(line, at) {
+        return Repeating::Of(item::Repeats::Forbidden);
+    }
+    let word = nth(line, at);
+    if is(word, b"once") {
+        return Repeating::Of(item::Repeats::Forbidden);
+    }
+    if is(word, b"repeat") {
+        return Repeating::Of(item::Repeats::Allowed);
+    }
+    Repeating::Malformed
 }

@@ -84,7 +84,7 @@ pub fn first_in(s: &[u8], name: u32, from: usize, end: usize) -> Found
     }
 }
 
-// Whether an item of that name stands before `at`. Where there is no mark it does not, and nothing is searched.
+// Whether there is a mark and an item of that name stands before `at`. Where there is no mark nothing is searched.
 fn again(s: &[u8], name: u32, from: usize, end: usize, at: usize, mark: bool) -> bool
     ensures { λ r. ⌜ r ≡ (mark && isBefore (firstOf name (runOf (now (s .entry)) from end)) at) ⌝ }
 {
@@ -110,7 +110,8 @@ pub fn bad_ptr(name: u32, bits: Bits) -> bool
     }
 }
 
-// The number of the fault of an item of the packet from `from` to `end`, or 0; `mark` is whether the slot of its name is marked.
+// The number of the fault of an item of the packet from `from` to `end`, or 0; `mark` is whether the slot of its name is
+// marked and that counts.
 pub fn fault_of(s: &[u8], from: usize, end: usize, i: Item, mark: bool) -> u8
     ensures { λ r. ⌜ r ≡ faultOf (mark && isBefore (firstOf (i .name) (runOf (now (s .entry)) from end)) (i .from)) i ⌝ }
 {
@@ -123,7 +124,7 @@ pub fn fault_of(s: &[u8], from: usize, end: usize, i: Item, mark: bool) -> u8
     if bad_ptr(i.name, i.bits) { 33 } else { 0 }
 }
 
-// Whether the mark of a name counts: where names may repeat it does not, and so nothing is searched.
+// The mark of a name's slot as it counts by the caller's word: where names may repeat it does not, and so nothing is searched.
 pub fn marked(repeats: Repeats, mark: bool) -> bool
     ensures { λ r. ⌜ r ≡ (forbids repeats && mark) ⌝ }
 {

@@ -15,7 +15,7 @@ use Rattle.item_rules.specs.Claims.{AsItWas, Twice, NeverTwice}
 use Rattle.item_rules.proofs.Runs.{every-run}
 use Rattle.item_rules.proofs.Faults.{fault-again, fault-still, fault-never}
 
--- a mark that counts by the caller's word, and then what a search says: that a name has stood before, as it counts by that word
+-- whether a name has stood before, as it counts by the caller's word, is its mark, as it counts, and then what a search says
 pub counts : (w : Repeats) (mark before m : Bool) → m ≡ (forbids w && mark) → (m && before) ≡ (forbids w && (mark && before))
 counts w mark before m q = ap (λ (b : Bool). b && before) q ∙ and-assoc (forbids w) mark before
 
@@ -30,20 +30,20 @@ or-never k m n p q = go (eqb m 0)
 -- where repeats are forbidden, a name counts that has stood before,
 pub as-it-was : AsItWas
 unfolding faultsOf forbids
-as-it-was seen i r = refl
+as-it-was seen = record { at-item = λ i r. refl; at-end = λ n. (refl, refl) }
 
 -- and its item is refused
 pub faults-twice : Twice
 faults-twice seen i r h q =
-    as-it-was seen i r ∙ ap (λ (n : ℕ). orElse n (faultsOf Forbidden (i .name ∷ seen) r)) (sym (fault-again (among (i .name) seen) i h q))
+    as-it-was seen .at-item i r ∙ ap (λ (n : ℕ). orElse n (faultsOf Forbidden (i .name ∷ seen) r)) (sym (fault-again (among (i .name) seen) i h q))
 
 -- where names may repeat, no run of a packet has 31
 pub faults-never : NeverTwice
 unfolding faultsOf forbids
 faults-never s at end =
-    every-run s end (λ (r : Run). (seen : List ℕ) → faultsOf Allowed seen r ≡ 31 → ⊥)
-    (λ i r here behind seen. or-never 31 (faultOf false i) _ (fault-never i) (behind (i .name ∷ seen))) (λ p few seen q. omega arith)
-    (λ seen q. omega arith) at
+    every-run s end (λ (at : ℕ) (r : Run). (seen : List ℕ) → faultsOf Allowed seen r ≡ 31 → ⊥)
+    (λ at i e behind seen. or-never 31 (faultOf false i) _ (fault-never i) (behind (i .name ∷ seen))) (λ at p few seen q. omega arith)
+    (λ at seen q. omega arith) at
 
 -- where the leftmost item at fault is not so for its name, it is so with either word
 pub faults-still : (seen : List ℕ) (r : Run) → (faultsOf Forbidden seen r ≡ 31 → ⊥) → faultsOf Allowed seen r ≡ faultsOf Forbidden seen r

@@ -65,24 +65,23 @@ pub record Stands (s : List ℕ) (end : ℕ) (i : Item) : Type 0 where
   pub at : ℕ
   pub here : stepIn s at end ≡ step.Item i
 
--- what holds of padding of 7 or fewer bytes and of 30, and of an item of the packet with what is behind it where it holds of that,
-module _ (s : List ℕ) (end : ℕ) (P : Run → Type 0) (more : (i : Item) (r : Run) → Stands s end i → P r → P (item i r))
-    (ends : (p : ℕ) → p < head → P (padding p)) (overrun : P (refused 30)) where
-  in-steps : (f at : ℕ) → P (runIn f s at end)
-  unfolding runIn
-  in-steps zero at = ends 0 (omega arith)
-  in-steps (suc f) at = go (in-steps f) (stepIn s at end) refl
-    where
-      go : ((b : ℕ) → P (runIn f s b end)) → (t : Step) → stepIn s at end ≡ t
-          → P (onStep t (λ i. item i (runIn f s (nextOf i) end)) padding refused)
-      go behind (step.Item i) e = more i _ (record { at = at; here = e }) (behind (nextOf i))
-      go behind (step.End p) e = ends (p .0) (end-few s at end p e)
-      go behind (step.Refused n) e = subst (λ (m : ℕ). P (refused m)) (sym (refused-is s at end n e)) overrun
+-- what holds wherever padding of 7 or fewer bytes stands, or an item that passes the end, and at an item where it holds behind it,
+module _ (s : List ℕ) (end : ℕ) (P : ℕ → Run → Type 0)
+    (more : (at : ℕ) (i : Item) → stepIn s at end ≡ step.Item i → P (nextOf i) (runOf s (nextOf i) end) → P at (item i (runOf s (nextOf i) end)))
+    (ends : (at p : ℕ) → p < head → P at (padding p)) (overrun : (at : ℕ) → P at (refused 30)) where
+  step-by : (at : ℕ) → ((b : ℕ) → end - b < end - at → P b (runOf s b end)) → (t : Step) → stepIn s at end ≡ t → P at (runOf s at end)
+  step-by at behind (step.Item i) e = subst (P at) (sym (run-item s at end i e)) (more at i e (behind (nextOf i) (falls s at end i e)))
+  step-by at behind (step.End p) e = subst (P at) (sym (run-end s at end p e)) (ends at (p .0) (end-few s at end p e))
+  step-by at behind (step.Refused n) e =
+      subst (P at) (sym (run-refused s at end n e ∙ ap refused (refused-is s at end n e))) (overrun at)
 
-  -- holds of every run of the packet
-  pub every-run : (at : ℕ) → P (runOf s at end)
-  unfolding runOf
-  every-run at = in-steps (end - at) at
+  in-steps : (f at : ℕ) → end - at ≤ f → P at (runOf s at end)
+  in-steps zero at h = step-by at (λ b l. absurd (omega arith)) (stepIn s at end) refl
+  in-steps (suc f) at h = step-by at (λ b l. in-steps f b (omega arith)) (stepIn s at end) refl
+
+  -- holds of the run of the packet from every place on
+  pub every-run : (at : ℕ) → P at (runOf s at end)
+  every-run at = in-steps (end - at) at (le-refl _)
 
 -- the search for a name, by what stands at the start
 module _ (s : List ℕ) (name at end : ℕ) where

@@ -1,4 +1,5 @@
--- What holds of the answers of a step and of a search, as claims (clause 5): the proofs are in proofs/Proved.antt.
+-- What holds of the answers of a step and of a search, and of the faults of a run, as claims (clause 5; document 02, Item 1): the proofs are in
+-- proofs/Proved.antt.
 use mathlib.Core.Bool.{true}
 use mathlib.Core.List.{List, _∷_}
 use mathlib.Core.Path.{_≡_}
@@ -9,7 +10,7 @@ use Rattle.item_rules.specs.declared.Repeats.the-variants.{Forbidden, Al
 use Rattle.item_rules.specs.declared.Step.{Step}
 use Rattle.item_rules.specs.declared.Found.{Found}
 use Rattle.item_rules.specs.Item.{numberOf}
-use Rattle.item_rules.specs.Run.{Run, item, runOf, firstOf, nthOf, foundNumber, dmy, faultOf, orElse, faultsOf}
+use Rattle.item_rules.specs.Run.{Run, item, padding, refused, runOf, firstOf, nthOf, foundNumber, dmy, faultOf, orElse, faultsOf}
 
 -- no second answer fits: two steps with the same number and values are the same step
 abbrev pub OneStep : Type 0
@@ -23,10 +24,16 @@ OneFound = (a b : Found) → foundNumber a ≡ foundNumber b → a ≡ b
 abbrev pub FirstIsNth : Type 0
 FirstIsNth = (name : ℕ) (r : Run) → firstOf name r ≡ nthOf name 0 r
 
--- document 02, Item 1, "Where they may not, all stays as it was": the leftmost item at fault is the one that document 01 has, 31 for a name seen
+-- document 02, Item 1, "Where they may not, all stays as it was": an item's own fault comes first, 31 for a name seen, and then what is behind it;
+-- at the end there is none, but for an item that is refused
+pub record Before (seen : List ℕ) : Type 0 where
+  pub at-item : (i : Item) (r : Run)
+      → faultsOf Forbidden seen (item i r) ≡ orElse (faultOf (among (i .name) seen) i) (faultsOf Forbidden (i .name ∷ seen) r)
+  pub at-end : (n : ℕ) → (faultsOf Forbidden seen (padding n) ≡ 0) × (faultsOf Forbidden seen (refused n) ≡ n)
+
+-- so it is, whatever names were seen
 abbrev pub AsItWas : Type 0
-AsItWas = (seen : List ℕ) (i : Item) (r : Run)
-    → faultsOf Forbidden seen (item i r) ≡ orElse (faultOf (among (i .name) seen) i) (faultsOf Forbidden (i .name ∷ seen) r)
+AsItWas = (seen : List ℕ) → Before seen
 
 -- document 01, 31 TWICE: where repeats are forbidden, an item is refused whose name has stood before, unless it is "*dmy"
 abbrev pub Twice : Type 0

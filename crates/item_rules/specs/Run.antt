@@ -72,7 +72,7 @@ nthOf name number r = getD (map found.At (namedIn name r)) number found.Nothing
 unfoldable pub nthValues : ℕ → ℕ → Run → List ℕ
 nthValues name number r = getD (map valuesOf (namedIn name r)) number []
 
--- document 01's number and values for each case: a search of one packet refuses nothing, since 34 ABSENT is said of two
+-- document 01's number and values for each case: a search of a run refuses nothing; 34 ABSENT is said by the calls above it
 unfoldable pub foundNumber : Found → Answer
 foundNumber (found.At i) = granted (valuesOf i)
 foundNumber found.Nothing = granted []
@@ -106,7 +106,7 @@ unfoldable pub forbids : Repeats → Bool
 forbids Forbidden = true
 forbids Allowed = false
 
--- document 01: the number of the leftmost item at fault, after items of the names seen; 0 where none is
+-- document 01: the number of the leftmost item at fault, after items of the names seen, 0 where none is; document 02, Item 1: by the caller's word
 unfoldable pub faultsOf : Repeats → List ℕ → Run → ℕ
 faultsOf w seen (item i r) = orElse (faultOf (forbids w && among (i .name) seen) i) (faultsOf w (i .name ∷ seen) r)
 faultsOf w seen (padding n) = 0

@@ -21,7 +21,7 @@ pub enum Step {
     Refused(u8),
 }
 
-// Whether names may repeat in a packet, as the caller says: one word for a call.
+// Whether names may repeat, as the caller says: one word for a call, for every level of a walk and both packets of a finding.
 pub enum Repeats {
     Forbidden,
     Allowed,

@@ -1,8 +1,6 @@
-// The occurrences of a name in a TAG packet where names may repeat, each by its number, counted from 0: in the packet alone, without a standing
-// packet.
+// The occurrences of a name in a TAG packet, each by its number, counted from 0: in the packet alone, without a standing packet.
 use item::Found;
 use item::Repeats;
-use item::Step;
 use tag::Located;
 use tag::Opened;
 use tag::Sought;
@@ -19,21 +17,16 @@ fn nth_in(packet: &[u8], name: u32, number: usize) -> Found
     let mut at = 0;
     let mut left = number;
     loop {
-        let step = item::step_in(packet, at, end);
-        match step {
-            Step::Item(i) => {
-                at = i.from + i.len.0;
-                if i.name == name {
-                    if left == 0 {
-                        return Found::At(i);
-                    }
-                    left -= 1;
+        let f = item::first_in(packet, name, at, end);
+        match f {
+            Found::At(i) => {
+                if left == 0 {
+                    return Found::At(i);
                 }
+                left -= 1;
+                at = i.from + i.len.0;
             }
-            Step::End(_) => {
-                return Found::Nothing;
-            }
-            Step::Refused(_) => {
+            Found::Nothing => {
                 return Found::Nothing;
             }
         }
@@ -67,12 +60,13 @@ pub fn search_nth(packet: &[u8], repeats: Repeats, name: u32, number: usize) -> 
     tag::sought(l)
 }
 
-// The value of the occurrence that `search_nth` finds, as a part of the packet; empty where the search is refused.
+// The value of the occurrence that `search_nth` finds, as a part of the packet; empty where the search is refused. It is never `Standing`, since no
+// standing packet is lent.
 pub fn find_nth<'a>(packet: &'a [u8], repeats: Repeats, name: u32, number: usize) -> &'a [u8]
     ensures { λ r. ⌜ NthPartShown repeats (packet .entry) name number r ⌝ }
 {
-    let at = locate_nth(packet, repeats, name, number);
-    match at {
+    let shown = locate_nth(packet, repeats, name, number);
+    match shown {
         Located::Packet(i) => tag::value(packet, i),
         Located::Standing(_) => &packet[..0],
         Located::Refused(_) => &packet[..0],

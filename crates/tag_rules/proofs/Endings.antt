@@ -20,19 +20,19 @@ rest-by : (m n : ℕ) (b : Bool) → eqb m 0 ≡ b → cond b n m ≡ 0 → n �
 rest-by m n true q e = e
 rest-by m n false q e = absurd (eqb-false m 0 q e)
 
-abbrev Pads : Repeats → Run → Type 0
-Pads w r = (seen : List ℕ) → faultsOf w seen r ≡ 0 → Padded r
+abbrev Pads : Repeats → ℕ → Run → Type 0
+Pads w at r = (seen : List ℕ) → faultsOf w seen r ≡ 0 → Padded r
 
-pads : (w : Repeats) (s : List ℕ) (end at : ℕ) → Pads w (runOf s at end)
+pads : (w : Repeats) (s : List ℕ) (end at : ℕ) → Pads w at (runOf s at end)
 unfolding faultsOf lastOf
 pads w s end =
     every-run s end (Pads w)
-    (λ i r here behind seen q.
+    (λ at i e behind seen q.
     let fault : ℕ = faultOf (forbids w && among (i .name) seen) i in
     let v = behind (i .name ∷ seen) (rest-by fault _ (eqb fault 0) refl q) in
     record { bytes = v .bytes; last = v .last; few = v .few })
-    (λ p few seen q. record { bytes = record { 0 = p }; last = refl; few = few })
-    (λ seen q. let none : _≡_ {A = ℕ} 30 0 = q in absurd (omega arith))
+    (λ at p few seen q. record { bytes = record { 0 = p }; last = refl; few = few })
+    (λ at seen q. let none : _≡_ {A = ℕ} 30 0 = q in absurd (omega arith))
 
 -- a packet that is not refused ends with END, and 7 or fewer bytes are its padding
 pub ends : Ends

@@ -7,7 +7,7 @@ use native.Mathlib.Omega.{arith}
 use lib.Dec.{eqb, leb}
 use lib.ListN.{length, getD}
 use borrow.Author.Tests.{eqb-true, leb-true, leb-false, le-leb, lt-leb}
-use Rattle.base_rules.specs.Answer.{granted, refused as no, answered}
+use Rattle.base_rules.specs.Answer.{granted, refused as refused-with, answered}
 use Rattle.base_rules.specs.Tests.{first}
 use Rattle.base_rules.proofs.Logic.{either}
 use Rattle.item_rules.specs.declared.Item.{Item}
@@ -41,22 +41,22 @@ module _ (s : List ℕ) (at refusal : ℕ) where
   read-told t e = (e, ap numberOf e ∙ read-number)
 
 -- where values are granted, no number is due
-pub none-due : (n : ℕ) (vs ws : List ℕ) → granted ws ≡ answered n vs → n ≡ 0
+pub granted-by : (n : ℕ) (vs ws : List ℕ) → granted ws ≡ answered n vs → n ≡ 0
 unfolding answered
-none-due zero vs ws e = refl
-none-due (suc n) vs ws e = cc
+granted-by zero vs ws e = refl
+granted-by (suc n) vs ws e = cc
 
 -- where an answer is refused, its number is due
-pub some-due : (n m : ℕ) (vs : List ℕ) → no n ≡ answered m vs → (n ≡ m) × (n ≡ 0 → ⊥)
+pub refused-by : (n m : ℕ) (vs : List ℕ) → refused-with n ≡ answered m vs → (n ≡ m) × (n ≡ 0 → ⊥)
 unfolding answered
-some-due n zero vs e = let z : _≡_ {A = ℕ} 0 1 = cc in absurd (omega arith)
-some-due n (suc m) vs e = let same : n ≡ suc m = cc in (same, λ z. omega (arith, same, z))
+refused-by n zero vs e = let z : _≡_ {A = ℕ} 0 1 = cc in absurd (omega arith)
+refused-by n (suc m) vs e = let same : n ≡ suc m = cc in (same, λ z. omega (arith, same, z))
 
 module _ (w : Repeats) (s : List ℕ) where
   sound-by : (t : Step) → stepIn s 0 (length s) ≡ t → checkOf w s ≡ 0 → overrunIn s 0 (length s) ≡ 0
   unfolding checkOf faultsOf stepCall numberOf
-  sound-by (step.Item i) e z = none-due _ _ _ (sym (ap numberOf e) ∙ step-number s 0 (length s))
-  sound-by (step.End p) e z = none-due _ _ _ (sym (ap numberOf e) ∙ step-number s 0 (length s))
+  sound-by (step.Item i) e z = granted-by _ _ _ (sym (ap numberOf e) ∙ step-number s 0 (length s))
+  sound-by (step.End p) e z = granted-by _ _ _ (sym (ap numberOf e) ∙ step-number s 0 (length s))
   sound-by (step.Refused n) e z =
       let none : n ≡ 0 = rw (run-refused s 0 (length s) n e) at z in absurd (omega (arith, refused-is s 0 (length s) n e))
 

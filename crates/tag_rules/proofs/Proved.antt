@@ -21,7 +21,8 @@ use Rattle.tag_rules.specs.Find.{checkOf}
 use Rattle.tag_rules.specs.Calls.{openedNumber, openCall, soughtNumber, locatedNumber, readOf}
 use Rattle.tag_rules.specs.Reading.{startOf, refusalOf, checkedRun, itemsOf, lastOf}
 use Rattle.tag_rules.specs.Claims.{OneOpened, OneSought, OneLocated, Opens, InOrder, Ends, StaysAtEnd, StaysRefused, ReadShown, FoundShown}
-use Rattle.tag_rules.specs.Claims.{NoTwice, AcceptedStill, FoundStill, NthBeyond, NthRefused, FindsFirst, StandingAside, NthShown}
+use Rattle.tag_rules.specs.Claims.{NoTwice, AcceptedStill, FoundStill, NthStill, StandingRefused, FoundNotTwice, NthNotTwice}
+use Rattle.tag_rules.specs.Claims.{NthBeyond, NthRefused, FindsFirst, StandingAside, NthShown}
 use Rattle.tag_rules.proofs.Reading.{handed-stands, after-is, refused-reads, refused-after}
 use Rattle.tag_rules.proofs.HandedOut.{stays, repeats, hands-run}
 use Rattle.tag_rules.proofs.Endings as endings
@@ -106,6 +107,19 @@ accepted-still = repeated.accepted-still
 
 pub found-still : FoundStill
 found-still = repeated.found-still
+
+pub nth-still : NthStill
+nth-still = repeated.nth-still
+
+-- one word for both packets
+pub standing-refused : StandingRefused
+standing-refused = repeated.standing-refused
+
+pub found-not-twice : FoundNotTwice
+found-not-twice = repeated.found-not-twice
+
+pub nth-not-twice : NthNotTwice
+nth-not-twice = repeated.nth-not-twice
 
 -- an occurrence is one of the packet's items of the name, in their order, or 34
 pub nth-beyond : NthBeyond

@@ -1,8 +1,9 @@
 -- What holds where names may repeat, and of the occurrences of a name. Assumes nothing.
 use Prim.Native.Nat.{ℕ}
-use mathlib.Core.Bool.{true, cond}
+use mathlib.Core.Bool.{Bool, true, false, cond}
 use mathlib.Core.List.{List, [], map}
 use mathlib.Core.Path.{_≡_, refl, sym, ap, _∙_}
+use native.Mathlib.Omega.{arith}
 use lib.Dec.{eqb}
 use lib.ListN.{length, getD}
 use borrow.Author.Tests.{eq-eqb}
@@ -12,14 +13,16 @@ use Rattle.item_rules.specs.declared.Repeats.the-variants.{Forbidden, Allowed}
 use Rattle.item_rules.specs.declared.Found.{Found}
 use Rattle.item_rules.specs.declared.Found.the-variants as found
 use Rattle.item_rules.specs.Run.{refused, firstOf, namedIn, nthOf}
+use Rattle.item_rules.proofs.Steps.{zero-one}
 use Rattle.item_rules.proofs.Occurrences.{first-is-nth, listed, unlisted, none-named}
 use Rattle.item_rules.proofs.Repeated.{faults-still, faults-never}
 use Rattle.tag_rules.specs.declared.Located.{Located}
 use Rattle.tag_rules.specs.declared.Located.the-variants as located
 use Rattle.tag_rules.specs.Find.{wholeRun, checkOf, inPacket, inStanding, locateOf, locateNthOf}
 use Rattle.tag_rules.specs.Reading.{checkedRun}
-use Rattle.tag_rules.specs.Claims.{NoTwice, AcceptedStill, FoundStill, NthBeyond, NthRefused, FindsFirst, StandingAside}
-use Rattle.tag_rules.proofs.Searches.{is-nth, nth-first}
+use Rattle.tag_rules.specs.Claims.{NoTwice, AcceptedStill, FoundStill, NthStill, StandingRefused, FoundNotTwice, NthNotTwice}
+use Rattle.tag_rules.specs.Claims.{NthBeyond, NthRefused, FindsFirst, StandingAside}
+use Rattle.tag_rules.proofs.Searches.{refused-second, is-nth, nth-first}
 use Rattle.tag_rules.proofs.Numbers.{isAt, has-found}
 
 pub no-twice : NoTwice
@@ -39,6 +42,38 @@ found-still s t name h k =
     let rest : ℕ → Located = λ m. cond (eqb m 0) found (located.Refused m) in
     ap (λ (n : ℕ). cond (eqb n 0) (rest (checkOf Allowed t)) (located.Refused n)) (accepted-still s h .0)
     ∙ ap (λ (m : ℕ). cond (eqb (checkOf Forbidden s) 0) (rest m) (located.Refused (checkOf Forbidden s))) (accepted-still t k .0)
+
+pub nth-still : NthStill
+unfolding locateNthOf
+nth-still s name number h =
+    ap (λ (n : ℕ). cond (eqb n 0) (inPacket (nthOf name number (wholeRun s)) (located.Refused 34)) (located.Refused n)) (accepted-still s h .0)
+
+pub standing-refused : StandingRefused
+standing-refused w s t name z h = sym (refused-second w s t name 0 (checkOf w t) (sym z) refl refl h)
+
+-- a packet's refusal is not 31, and neither is 34
+found-by : (b c : Bool) (f g : Found) (n m : ℕ) → (n ≡ 31 → ⊥) → (m ≡ 31 → ⊥)
+    → cond b (cond c (inPacket f (inStanding g)) (located.Refused m)) (located.Refused n) ≡ located.Refused 31 → ⊥
+found-by true true (found.At i) g n m p q e = zero-one (cc)
+found-by true true found.Nothing (found.At i) n m p q e = zero-one (cc)
+found-by true true found.Nothing found.Nothing n m p q e = let z : _≡_ {A = ℕ} 34 31 = cc in omega arith
+found-by true false f g n m p q e = q (let z : m ≡ 31 = cc in z)
+found-by false c f g n m p q e = p (let z : n ≡ 31 = cc in z)
+
+pub found-not-twice : FoundNotTwice
+unfolding locateOf
+found-not-twice s t name =
+    found-by (eqb (checkOf Allowed s) 0) (eqb (checkOf Allowed t) 0) (firstOf name (wholeRun s)) (firstOf name (wholeRun t)) (checkOf Allowed s)
+    (checkOf Allowed t) (no-twice s) (no-twice t)
+
+nth-by : (b : Bool) (f : Found) (n : ℕ) → (n ≡ 31 → ⊥) → cond b (inPacket f (located.Refused 34)) (located.Refused n) ≡ located.Refused 31 → ⊥
+nth-by true (found.At i) n p e = zero-one (cc)
+nth-by true found.Nothing n p e = let z : _≡_ {A = ℕ} 34 31 = cc in omega arith
+nth-by false f n p e = p (let z : n ≡ 31 = cc in z)
+
+pub nth-not-twice : NthNotTwice
+unfolding locateNthOf
+nth-not-twice s name number = nth-by (eqb (checkOf Allowed s) 0) (nthOf name number (wholeRun s)) (checkOf Allowed s) (no-twice s)
 
 pub nth-beyond : NthBeyond
 unfolding nthOf

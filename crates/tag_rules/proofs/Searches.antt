@@ -14,7 +14,7 @@ use Rattle.tag_rules.specs.declared.Opened.{Opened}
 use Rattle.tag_rules.specs.declared.Opened.the-variants as opened
 use Rattle.tag_rules.specs.Find.{wholeRun, checkOf, inPacket, inStanding, locateOf, locateNthOf, valueOf, shownBy}
 use Rattle.tag_rules.specs.Calls.{openedNumber, openCall, searchAnswer, searchCall, searchNthCall}
-use Rattle.tag_rules.proofs.Numbers.{none-due, some-due}
+use Rattle.tag_rules.proofs.Numbers.{granted-by, refused-by}
 
 module _ (w : Repeats) (s t : List ℕ) (name : ℕ) where
   -- the packet is refused,
@@ -59,13 +59,13 @@ module _ (w : Repeats) (s : List ℕ) (name number : ℕ) where
   -- so it is of a packet that does not open,
   pub nth-unopened : (o : Opened) (n : ℕ) → openedNumber o ≡ openCall w s → o ≡ opened.Refused n → located.Refused n ≡ locateNthOf w s name number
   unfolding openedNumber openCall
-  nth-unopened o n e q = let due = some-due n (checkOf w s) _ (sym (ap openedNumber q) ∙ e) in nth-first n (due .0) (due .1)
+  nth-unopened o n e q = let due = refused-by n (checkOf w s) _ (sym (ap openedNumber q) ∙ e) in nth-first n (due .0) (due .1)
 
   -- or opens
   pub nth-opened : (o : Opened) (at : ℕ) (f : Found) → openedNumber o ≡ openCall w s → o ≡ opened.At at → nthOf name number (wholeRun s) ≡ f
       → locateNthOf w s name number ≡ inPacket f (located.Refused 34)
   unfolding openedNumber openCall
-  nth-opened o at f e q a = is-nth 0 f (sym (none-due (checkOf w s) _ _ (sym (ap openedNumber q) ∙ e))) refl a
+  nth-opened o at f e q a = is-nth 0 f (sym (granted-by (checkOf w s) _ _ (sym (ap openedNumber q) ∙ e))) refl a
 
   -- so a search that finds the occurrence answers its bits, and shows its value
   pub nth-found : (i : Item) → checkOf w s ≡ 0 → nthOf name number (wholeRun s) ≡ found.At i

@@ -82,7 +82,7 @@ locateValues s t name = cond (hasName name (wholeRun s)) (0 ∷ firstValues name
 unfoldable pub locateCall : Repeats → List ℕ → List ℕ → ℕ → Answer
 locateCall w s t name = answered (locateFault w s t name) (locateValues s t name)
 
--- document 02, Item 1: the packet's fault; then "34 also for an occurrence beyond the last": of that name the packet has no more than that number
+-- document 02, Item 1: the packet's fault; then "34 also for an occurrence beyond the last": the packet has no more items of that name than that number
 unfoldable pub nthFault : Repeats → List ℕ → ℕ → ℕ → ℕ
 nthFault w s name number = orElse (checkOf w s) (first ((leb (length (namedIn name (wholeRun s))) number, 34) ∷ []))
 

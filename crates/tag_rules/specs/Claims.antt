@@ -1,4 +1,4 @@
--- What document 01 says of a reader and of a search, as claims: each is proved in proofs/Proved.antt.
+-- What document 01 and document 02, Item 1, say of a reader and of a search, as claims: each is proved in proofs/Proved.antt.
 use mathlib.Core.Bool.{true, false}
 use mathlib.Core.Path.{_≡_}
 use mathlib.Core.List.{List, _++_}
@@ -74,7 +74,7 @@ abbrev pub FoundShown : Type 0
 FoundShown = (w : Repeats) (s t : List ℕ) (name : ℕ) (i : Item)
     → (locateOf w s t name ≡ located.Packet i → Shown s i) × (locateOf w s t name ≡ located.Standing i → Shown t i)
 
--- ---- document 02, Item 1: where names may repeat
+-- ---- document 02, Item 1: whether names may repeat
 
 -- "31 only when repeats are forbidden": where they may, no packet is refused with 31
 abbrev pub NoTwice : Type 0
@@ -85,10 +85,27 @@ abbrev pub AcceptedStill : Type 0
 AcceptedStill = (s : List ℕ) → (checkOf Forbidden s ≡ 31 → ⊥)
     → (checkOf Allowed s ≡ checkOf Forbidden s) × (checkedRun Allowed s ≡ checkedRun Forbidden s)
 
--- and so a name is found in the same place, or refused with the same number, where neither packet is
+-- so where neither packet is refused with 31, a name is found in the same place, or refused with the same number, with either word,
 abbrev pub FoundStill : Type 0
 FoundStill = (s t : List ℕ) (name : ℕ) → (checkOf Forbidden s ≡ 31 → ⊥) → (checkOf Forbidden t ≡ 31 → ⊥)
     → locateOf Allowed s t name ≡ locateOf Forbidden s t name
+
+-- and so is an occurrence
+abbrev pub NthStill : Type 0
+NthStill = (s : List ℕ) (name number : ℕ) → (checkOf Forbidden s ≡ 31 → ⊥) → locateNthOf Allowed s name number ≡ locateNthOf Forbidden s name number
+
+-- one word for both packets: where the standing packet is refused by it, so is the finding;
+abbrev pub StandingRefused : Type 0
+StandingRefused = (w : Repeats) (s t : List ℕ) (name : ℕ) → checkOf w s ≡ 0 → (checkOf w t ≡ 0 → ⊥)
+    → locateOf w s t name ≡ located.Refused (checkOf w t)
+
+-- where names may repeat no finding is refused with 31, whichever packet repeats one,
+abbrev pub FoundNotTwice : Type 0
+FoundNotTwice = (s t : List ℕ) (name : ℕ) → locateOf Allowed s t name ≡ located.Refused 31 → ⊥
+
+-- and no occurrence is
+abbrev pub NthNotTwice : Type 0
+NthNotTwice = (s : List ℕ) (name number : ℕ) → locateNthOf Allowed s name number ≡ located.Refused 31 → ⊥
 
 -- an occurrence is one of the packet's items of that name, in their order, counted from 0; beyond the last there is none, 34 ABSENT
 pub record Occurs (w : Repeats) (s : List ℕ) (name number : ℕ) : Type 0 where
@@ -109,7 +126,7 @@ abbrev pub FindsFirst : Type 0
 FindsFirst = (w : Repeats) (s t : List ℕ) (name : ℕ) → checkOf w t ≡ 0 → hasName name (wholeRun s) ≡ true
     → locateOf w s t name ≡ locateNthOf w s name 0
 
--- "without the standing packet": a name that the packet does not hold has no occurrence, whatever a standing packet holds
+-- "without the standing packet", of which `locateNthOf` takes none: a name that the packet does not hold has no occurrence
 abbrev pub StandingAside : Type 0
 StandingAside = (w : Repeats) (s : List ℕ) (name number : ℕ) → checkOf w s ≡ 0 → hasName name (wholeRun s) ≡ false
     → locateNthOf w s name number ≡ located.Refused 34

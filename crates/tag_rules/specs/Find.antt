@@ -1,4 +1,5 @@
--- A packet checked whole, and finding by name in a packet and in a standing packet beside it (document 01, "TAG layer").
+-- A packet checked whole, and finding by name in a packet and in a standing packet beside it (document 01, "TAG layer"); an occurrence of a name in a
+-- packet alone (document 02, Item 1).
 use mathlib.Core.Bool.{cond}
 use mathlib.Core.Path.{_≡_}
 use mathlib.Core.List.{List, []}
@@ -76,6 +77,6 @@ PartAt p t l r = (now r ≡ shownBy (now p) (now t) l) × (ptr r ≡ placeBy p t
 abbrev pub PartShown : Repeats → RefT (List ℕ) → RefT (List ℕ) → ℕ → RefT (List ℕ) → Type 0
 PartShown w p t name r = PartAt p t (locateOf w (now p) (now t) name) r
 
--- document 02, Item 1: the one that a search for an occurrence shows; no standing packet is lent, so the packet stands in its place
+-- document 02, Item 1: the one that a search for an occurrence shows; no standing packet is lent or looked at, so the packet is named twice
 abbrev pub NthPartShown : Repeats → RefT (List ℕ) → ℕ → ℕ → RefT (List ℕ) → Type 0
 NthPartShown w p name number r = PartAt p p (locateNthOf w (now p) name number) r

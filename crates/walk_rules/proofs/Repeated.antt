@@ -23,8 +23,8 @@ use Rattle.walk_rules.proofs.Refusals.{then-refusal, unless-refusal, by
 
 -- where repeats are forbidden, a name counts that has stood before
 pub as-it-was : AsItWas
-unfolding tourBy forbids
-as-it-was inner cs d seen i r = refl
+unfolding tourAt tourBy forbids
+as-it-was s cs levels d seen i r = refl
 
 -- ---- no walk is refused with 31
 
@@ -44,19 +44,20 @@ within-never true n h q = h q
 within-never false n h q = omega arith
 
 module _ (s cs : List ℕ) where
-  abbrev Never : (Item → Tour) → ℕ → Run → Type 0
-  Never inner d r = (seen : List ℕ) → refusal (tourBy Allowed inner cs d seen r) ≡ 31 → ⊥
+  abbrev Never : (Item → Tour) → ℕ → ℕ → Run → Type 0
+  Never inner d at r = (seen : List ℕ) → refusal (tourBy Allowed inner cs d seen r) ≡ 31 → ⊥
 
   -- the walk of a run is not, where those of its containers are not
-  never-by : (inner : Item → Tour) (d at end : ℕ) → ((i : Item) → refusal (inner i) ≡ 31 → ⊥) → Never inner d (runOf s at end)
+  never-by : (inner : Item → Tour) (d at end : ℕ) → ((i : Item) → refusal (inner i) ≡ 31 → ⊥) → Never inner d at (runOf s at end)
   unfolding tourBy refusal forbids
   never-by inner d at end none =
       every-run s end (Never inner d)
-      (λ i r here behind seen q.
+      (λ at i e behind seen q.
+      let r : Run = runOf s (nextOf i) end in
       let own = or-never 31 (walkFault cs d false i) _ (walk-fault-never cs d i) (within-never (among (i .name) cs) (refusal (inner i)) (none i)) in
       or-never 31 _ (refusal (tourBy Allowed inner cs d (i .name ∷ seen) r)) own (behind (i .name ∷ seen)) (sym (by-item Allowed inner cs d seen i r) ∙ q))
-      (λ p few seen q. let z : _≡_ {A = ℕ} 0 31 = q in omega arith)
-      (λ seen q. let z : _≡_ {A = ℕ} 30 31 = q in omega arith) at
+      (λ at p few seen q. let z : _≡_ {A = ℕ} 0 31 = q in omega arith)
+      (λ at seen q. let z : _≡_ {A = ℕ} 30 31 = q in omega arith) at
 
   never-at : (k d at end : ℕ) (seen : List ℕ) → refusal (tourAt Allowed k s cs d seen (runOf s at end)) ≡ 31 → ⊥
   unfolding tourAt refusal

@@ -17,7 +17,7 @@ use Rattle.walk_rules.specs.declared.Handed.{Handed}
 use Rattle.walk_rules.specs.declared.Handed.the-variants as handed
 use Rattle.walk_rules.specs.declared.Walker.{Walker}
 use Rattle.walk_rules.specs.Names.{deepest}
-use Rattle.walk_rules.specs.Walk.{Tour, visit, ends, stops, unless, andThen, walkFault, tourBy, tourAt, refusal, walkOf}
+use Rattle.walk_rules.specs.Walk.{Tour, visit, ends, stops, unless, andThen, walkFault, tourAt, refusal, walkOf}
 use Rattle.walk_rules.specs.Step.{handedNumber, opens, walkStep}
 
 -- what n steps from w hand out
@@ -37,7 +37,7 @@ due n t = cond (eqb (refusal t) 0) (take n (told n t)) (replicate n (handed.Refu
 
 -- document 01: from the call that opens it, the step walk hands out exactly the items of the recursive walk in order
 abbrev pub InOrder : Type 0
-InOrder = (w : Repeats) (s l : List ℕ) (n : ℕ) → handsOut n s l (opens w s l) ≡ due n (walkOf w s l)
+InOrder = (word : Repeats) (s l : List ℕ) (n : ℕ) → handsOut n s l (opens word s l) ≡ due n (walkOf word s l)
 
 -- no second answer fits: document 01's number and values tell what was handed out
 abbrev pub OneHanded : Type 0
@@ -60,7 +60,7 @@ pub data Visits (P : ℕ → Item → Type 0) : Tour → Type 0 where
 
 -- document 01, "a value is shown as a part of the caller's bytes": each item that a walk comes to, refused later or not, lies in the packet,
 abbrev pub WalkInside : Type 0
-WalkInside = (w : Repeats) (s l : List ℕ) → Visits (Within s) (walkOf w s l)
+WalkInside = (word : Repeats) (s l : List ℕ) → Visits (Within s) (walkOf word s l)
 
 -- and each that a step hands out, whatever the walker is
 abbrev pub StepInside : Type 0
@@ -75,13 +75,13 @@ outerOf (padding p) = ends p
 outerOf (refused n) = stops n
 
 -- document 01, "A packet is a run of items": with no container names a walk is refused as a reader's check is, and is else the packet's run
-pub record Plain (w : Repeats) (s : List ℕ) : Type 0 where
-  pub number : refusal (walkOf w s []) ≡ faultsOf w [] (runOf s 0 (length s))
-  pub items : faultsOf w [] (runOf s 0 (length s)) ≡ 0 → walkOf w s [] ≡ outerOf (runOf s 0 (length s))
+pub record Plain (word : Repeats) (s : List ℕ) : Type 0 where
+  pub number : refusal (walkOf word s []) ≡ faultsOf word [] (runOf s 0 (length s))
+  pub items : faultsOf word [] (runOf s 0 (length s)) ≡ 0 → walkOf word s [] ≡ outerOf (runOf s 0 (length s))
 
 -- so it is of every packet
 abbrev pub NoNames : Type 0
-NoNames = (w : Repeats) (s : List ℕ) → Plain w s
+NoNames = (word : Repeats) (s : List ℕ) → Plain word s
 
 -- ---- "a container's value is again a packet"
 
@@ -108,18 +108,19 @@ ValueAsPacket = (s : List ℕ) (i : Item) → nextOf i ≤ length s
 
 -- and so it is of all that the containers among them hold: the walk inside is the value's own
 abbrev pub ValueWalked : Type 0
-ValueWalked = (w : Repeats) (s cs : List ℕ) (levels d : ℕ) (i : Item) → nextOf i ≤ length s
+ValueWalked = (word : Repeats) (s cs : List ℕ) (levels d : ℕ) (i : Item) → nextOf i ≤ length s
     → (let v = take (i .len .0) (drop (i .from) s) in
-    tourAt w levels s cs d [] (runOf s (i .from) (nextOf i)) ≡ movedTour (i .from) (tourAt w levels v cs d [] (runOf v 0 (length v))))
+    tourAt word levels s cs d [] (runOf s (i .from) (nextOf i)) ≡ movedTour (i .from) (tourAt word levels v cs d [] (runOf v 0 (length v))))
 
--- ---- document 02, Item 1: where names may repeat, on every level
+-- ---- document 02, Item 1: whether names may repeat, on every level
 
--- "Where they may not, all stays as it was": a walk of a run goes on as document 01 has it, 31 for a name seen
+-- "Where they may not, all stays as it was": on each level a walk goes on as document 01 has it, 31 for a name seen, and in a container likewise
 abbrev pub AsItWas : Type 0
-AsItWas = (inner : Item → Tour) (cs : List ℕ) (d : ℕ) (seen : List ℕ) (i : Item) (r : Run)
-    → tourBy Forbidden inner cs d seen (item i r)
+AsItWas = (s cs : List ℕ) (levels d : ℕ) (seen : List ℕ) (i : Item) (r : Run)
+    → tourAt Forbidden (suc levels) s cs d seen (item i r)
     ≡ unless (walkFault cs d (among (i .name) seen) i)
-    (visit d i (andThen (cond (among (i .name) cs) (inner i) (ends 0)) (tourBy Forbidden inner cs d (i .name ∷ seen) r)))
+    (visit d i (andThen (cond (among (i .name) cs) (tourAt Forbidden levels s cs (d + 1) [] (runOf s (i .from) (nextOf i))) (ends 0))
+    (tourAt Forbidden (suc levels) s cs d (i .name ∷ seen) r)))
 
 -- "31 only when repeats are forbidden": where they may, no walk is refused with 31
 abbrev pub NoTwice : Type 0

@@ -25,7 +25,7 @@ handedNumber (handed.Refused n) = refused n
 
 -- document 01: opening a walk checks the whole packet; the walk begins at the outer packet's start, or is refused
 unfoldable pub opens : Repeats → List ℕ → List ℕ → Walker
-opens w s l = record { refusal = refusal (walkOf w s l); at = 0; depth = 0; ends = length s ∷ 0 ∷ 0 ∷ 0 ∷ 0 ∷ [] }
+opens word s l = record { refusal = refusal (walkOf word s l); at = 0; depth = 0; ends = length s ∷ 0 ∷ 0 ∷ 0 ∷ 0 ∷ [] }
 
 -- where a walk goes on after an item at depth d: in a container's value, or behind the item
 unfoldable pub goesOn : List ℕ → ℕ → List ℕ → Item → Walker

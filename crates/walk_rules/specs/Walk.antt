@@ -33,16 +33,16 @@ walkFault cs d before i =
 
 -- the walk of a run at depth d, after items of the names seen, where `inner` walks a container's value; document 02, Item 1: by the caller's word
 unfoldable pub tourBy : Repeats → (Item → Tour) → List ℕ → ℕ → List ℕ → Run → Tour
-tourBy w inner cs d seen (item i r) =
-    unless (walkFault cs d (forbids w && among (i .name) seen) i)
-    (visit d i (andThen (cond (among (i .name) cs) (inner i) (ends 0)) (tourBy w inner cs d (i .name ∷ seen) r)))
-tourBy w inner cs d seen (padding p) = ends p
-tourBy w inner cs d seen (refused n) = stops n
+tourBy word inner cs d seen (item i r) =
+    unless (walkFault cs d (forbids word && among (i .name) seen) i)
+    (visit d i (andThen (cond (among (i .name) cs) (inner i) (ends 0)) (tourBy word inner cs d (i .name ∷ seen) r)))
+tourBy word inner cs d seen (padding p) = ends p
+tourBy word inner cs d seen (refused n) = stops n
 
 -- the walk of a run of s at depth d, with so many levels left below it
 unfoldable pub tourAt : Repeats → ℕ → List ℕ → List ℕ → ℕ → List ℕ → Run → Tour
-tourAt w zero s cs d seen r = tourBy w (λ i. ends 0) cs d seen r
-tourAt w (suc levels) s cs d seen r = tourBy w (λ i. tourAt w levels s cs (d + 1) [] (runOf s (i .from) (nextOf i))) cs d seen r
+tourAt word zero s cs d seen r = tourBy word (λ i. ends 0) cs d seen r
+tourAt word (suc levels) s cs d seen r = tourBy word (λ i. tourAt word levels s cs (d + 1) [] (runOf s (i .from) (nextOf i))) cs d seen r
 
 -- the number with which a walk is refused, 0 where it is not
 unfoldable pub refusal : Tour → ℕ
@@ -52,4 +52,4 @@ refusal (stops n) = n
 
 -- document 01: the walk of a whole packet checks the list of names first
 unfoldable pub walkOf : Repeats → List ℕ → List ℕ → Tour
-walkOf w s l = unless (namesFault l) (tourAt w (deepest + 1) s (namesOf l) 0 [] (runOf s 0 (length s)))
+walkOf word s l = unless (namesFault l) (tourAt word (deepest + 1) s (namesOf l) 0 [] (runOf s 0 (length s)))

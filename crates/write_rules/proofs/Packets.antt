@@ -106,7 +106,7 @@ faults-again seen at (b ∷ before) after e n fit apart h d q =
     simp (no-fault seen at b before (fit .0) h) (faults-again (b .name ∷ seen) (nextOf (itemOf at b)) before after e n (fit .1) (apart .1)
     (unseen-next seen b before apart h) d (either-way (eqb (b .name) (e .name)) (among (e .name) (namesOf before)) (among (e .name) seen) q))
 
--- where names may repeat, whichever they are
+-- where names may repeat, of items that fit none is at fault, whatever their names are
 pub faults-repeated : (seen : List ℕ) (at : ℕ) (es : List Entry) (n : ℕ) → AllFit es → faultsOf Allowed seen (entriesRun at es n) ≡ 0
 unfolding entriesRun faultsOf forbids
 faults-repeated seen at [] n fit = refl
@@ -128,7 +128,7 @@ pub fits-at : (before after : List Entry) (e : Entry) → AllFit (before ++ (e �
 fits-at [] after e fit = fit .0
 fits-at (b ∷ before) after e fit = fits-at before after e (fit .1)
 
--- where no item of a name was written, none is of those before
+-- where none of the items has a name, none is written under it
 pub none-written : (name : ℕ) (es : List Entry) → among name (namesOf es) ≡ false → writtenAs name es ≡ []
 unfolding among namesOf writtenAs
 none-written name [] new = refl

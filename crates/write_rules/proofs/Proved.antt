@@ -40,6 +40,11 @@ sound-repeated : (es : List Entry) (pad : List ℕ) → AllFit es → length pad
 unfolding checkOf
 sound-repeated es pad fit few = ap (faultsOf Allowed []) (run-written [] es pad fit few) ∙ faults-repeated [] 0 es (length pad) fit
 
+-- so it is with either word, where it is so with what it asks of the names
+sound-by : (w : Repeats) (es : List Entry) (pad : List ℕ) → AllFit es → (w ≡ Forbidden → Apart es) → length pad ≤ 7 → checkOf w (packetOf es pad) ≡ 0
+sound-by Forbidden es pad fit apart few = sound es pad fit (apart refl) few
+sound-by Allowed es pad fit apart few = sound-repeated es pad fit few
+
 pub opens : Opens
 unfolding openCall answered
 opens es pad fit apart few = simp (sound es pad fit apart few)
@@ -97,18 +102,18 @@ finds-repeated before after e pad standing fit few =
     found-first before after e pad fit few Allowed standing (sound-repeated (before ++ (e ∷ after)) pad fit few)
 
 pub finds-nth : FindsNth
-finds-nth before after e pad fit few =
+finds-nth w before after e pad fit apart few =
     let here =
-    nth-found Allowed (packetOf (before ++ (e ∷ after)) pad) (e .name) (length (writtenAs (e .name) before)) (itemOf (length (packetOf before [])) e)
-    (sound-repeated (before ++ (e ∷ after)) pad fit few) (nth before after e pad fit few) in
+    nth-found w (packetOf (before ++ (e ∷ after)) pad) (e .name) (length (writtenAs (e .name) before)) (itemOf (length (packetOf before [])) e)
+    (sound-by w (before ++ (e ∷ after)) pad fit apart few) (nth before after e pad fit few) in
     record { bits = here .0; value = here .1 ∙ value before after e pad fit few }
 
 pub no-more : NoMore
 unfolding searchNthCall searchAnswer
-no-more es name number pad fit few beyond =
+no-more w es name number pad fit apart few beyond =
     let count : length (namedIn name (wholeRun (packetOf es pad))) ≡ length (writtenAs name es) =
     ap (λ (r : Run). length (namedIn name r)) (run-written [] es pad fit few) ∙ as-many name 0 es (length pad) in
-    ap searchAnswer (nth-beyond Allowed (packetOf es pad) name number (sound-repeated es pad fit few) .beyond (omega (arith, count)))
+    ap searchAnswer (nth-beyond w (packetOf es pad) name number (sound-by w es pad fit apart few) .beyond (omega (arith, count)))
 
 pub unused-zero : UnusedZero
 unfolding trimmed

@@ -1,4 +1,4 @@
--- The theorems of writing, W1 to W3, as they can be held against document 01. Each is proved in proofs/Proved.antt.
+-- The theorems of writing, W1 to W3, as they can be held against document 01 and document 02, Item 1. Each is proved in proofs/Proved.antt.
 use mathlib.Core.Path.{_≡_}
 use mathlib.Core.Bool.{true, false}
 use mathlib.Core.List.{List, [], _∷_, _++_}
@@ -28,11 +28,11 @@ ReadsBack = (pre rest : List ℕ) (end name bits : ℕ) (v : List ℕ) → name 
     → length pre + (head + bytesFor bits) ≤ end
     → ReadAs (pre ++ (itemBytes name bits v ++ rest)) (length pre) end name bits (trimmed bits v)
 
--- W2: a packet of written items opens,
+-- W2: where repeats are forbidden, a packet of written items with no name but "*dmy" twice opens,
 abbrev pub Opens : Type 0
 Opens = (es : List Entry) (pad : List ℕ) → AllFit es → Apart es → length pad ≤ 7 → openCall Forbidden (packetOf es pad) ≡ granted (0 ∷ [])
 
--- document 01, 31 TWICE: and one with an item behind them whose name, not "*dmy", one of them has, is refused
+-- document 01, 31 TWICE: and one in which such items are followed by an item with a name of theirs, not "*dmy", is refused
 abbrev pub RefusesTwice : Type 0
 RefusesTwice = (before after : List Entry) (e : Entry) (pad : List ℕ) → AllFit (before ++ (e ∷ after)) → Apart before → length pad ≤ 7
     → (e .name ≡ dmy → ⊥) → among (e .name) (namesOf before) ≡ true → openCall Forbidden (packetOf (before ++ (e ∷ after)) pad) ≡ refused 31
@@ -59,19 +59,21 @@ FindsRepeated = (before after : List Entry) (e : Entry) (pad standing : List ℕ
     → FoundAs Allowed (packetOf (before ++ (e ∷ after)) pad) standing e
 
 -- the occurrence of a number in p is the item that e was written as: the search answers its bits, and its value is shown
-pub record NthAs (p : List ℕ) (number : ℕ) (e : Entry) : Type 0 where
-  pub bits : searchNthCall Allowed p (e .name) number ≡ granted (e .bits ∷ [])
-  pub value : shownBy p p (locateNthOf Allowed p (e .name) number) ≡ trimmed (e .bits) (e .value)
+pub record NthAs (w : Repeats) (p : List ℕ) (number : ℕ) (e : Entry) : Type 0 where
+  pub bits : searchNthCall w p (e .name) number ≡ granted (e .bits ∷ [])
+  pub value : shownBy p p (locateNthOf w p (e .name) number) ≡ trimmed (e .bits) (e .value)
 
--- document 02, Item 1, "counted from 0": each item is the occurrence with the number of those that were written under its name before it,
+-- document 02, Item 1, "counted from 0": each item is the occurrence with the number of those that were written under its name before it; where
+-- repeats are forbidden too, since "*dmy" may stand twice,
 abbrev pub FindsNth : Type 0
-FindsNth = (before after : List Entry) (e : Entry) (pad : List ℕ) → AllFit (before ++ (e ∷ after)) → length pad ≤ 7
-    → NthAs (packetOf (before ++ (e ∷ after)) pad) (length (writtenAs (e .name) before)) e
+FindsNth = (w : Repeats) (before after : List Entry) (e : Entry) (pad : List ℕ) → AllFit (before ++ (e ∷ after))
+    → (w ≡ Forbidden → Apart (before ++ (e ∷ after))) → length pad ≤ 7
+    → NthAs w (packetOf (before ++ (e ∷ after)) pad) (length (writtenAs (e .name) before)) e
 
 -- and beyond the last that was written there is none
 abbrev pub NoMore : Type 0
-NoMore = (es : List Entry) (name number : ℕ) (pad : List ℕ) → AllFit es → length pad ≤ 7 → length (writtenAs name es) ≤ number
-    → searchNthCall Allowed (packetOf es pad) name number ≡ refused 34
+NoMore = (w : Repeats) (es : List Entry) (name number : ℕ) (pad : List ℕ) → AllFit es → (w ≡ Forbidden → Apart es) → length pad ≤ 7
+    → length (writtenAs name es) ≤ number → searchNthCall w (packetOf es pad) name number ≡ refused 34
 
 -- W3: "Unused low bits of the last byte: the sender writes zeros": it is a multiple of their power of two,
 abbrev pub UnusedZero : Type 0

@@ -17,7 +17,7 @@ enum-told-2 c = search needs
 returns : tie.Need-returns
 returns c =
     let k = c .before .before in
-    let e = sym (k .at .given .1) ∙ k .before .before .locate-nth .ensures .0 in
+    let e = sym (k .shown .given .1) ∙ k .before .before .locate-nth .ensures .0 in
     let inside = nth-in _ _ _ _ _ .0 (sym e) .inside in
     (c .value .ensures .0 ∙ ap (shownBy _ _) e, c .value .ensures .1 ∙ sym (place-inside _ _ (omega arith)) ∙ ap (placeBy _ _) e)
 
@@ -32,8 +32,8 @@ returns-3 c =
 locate-nth-requires : tie.Need-locate-nth-requires
 locate-nth-requires c κs = search needs
 
-enum-known-at : tie.Need-enum-known-at
-enum-known-at c = search needs
+enum-known-shown : tie.Need-enum-known-shown
+enum-known-shown c = search needs
 
 value-requires : tie.Need-value-requires
 value-requires c κs = search needs
@@ -49,7 +49,7 @@ find-nth-spec =
     tie.close
     (tie.spec
     locate-nth-requires
-    enum-known-at
+    enum-known-shown
     value-requires
     enum-told
     slice-aggregate-result

@@ -1,14 +1,16 @@
--- `occurrence::nth_in` meets its contract. The invariant: the occurrence looked for is the one with the number left, from `at` on. The measure is what is left.
+-- `occurrence::nth_in` meets its contract. The invariant: the occurrence looked for is the one with the number left, from `at` on. The measure is what
+-- is left of the packet.
 use borrow.Author.Needs.{needs}
 use native.Mathlib.Omega.{arith}
 use Prim.Native.Nat.{_-_}
 use mathlib.Core.Path.{_≡_, refl, sym, _∙_}
 use lib.ListN.{length}
 use Rattle.item_rules.specs.Run.{runOf, nthOf}
-use Rattle.tag_rules.specs.Find.{wholeRun}
 use Rattle.item_rules.proofs.Steps.{item-fits}
-use Rattle.item_rules.proofs.Runs.{item-begins, falls}
-use Rattle.item_rules.proofs.Occurrences.{nth-here, nth-past, nth-next, nth-end, nth-refused}
+use Rattle.item_rules.proofs.Runs.{item-begins}
+use Rattle.item_rules.proofs.Occurrences.{first-falls, nth-here, nth-past, nth-none}
+use Rattle.item_rules.proofs.Finds.{found-stands}
+use Rattle.tag_rules.specs.Find.{wholeRun}
 use Rattle.occurrence.proofs.nth_in.Statement.{statement}
 use Rattle.occurrence.proofs.nth_in.Tie as tie
 
@@ -23,62 +25,43 @@ loop-holds c = refl
 
 returns : tie.Need-returns Inv-loop μ-loop
 returns c =
-    let k = c .before .before .before .before .before in
-    let e = sym (k .before .before .step-in .ensures .0) ∙ k .step .given .1 in
-    sym (k .before .before .before .loop .inv ∙ nth-here _ _ _ _ _ _ e (c .before .if1 .taken) (c .if2 .taken))
+    let k = c .before .before in
+    let q = sym (k .before .before .first-in .ensures .0) ∙ k .f .given .1 in
+    sym (k .before .before .before .loop .inv ∙ nth-here _ _ _ _ _ _ q (c .if1 .taken))
 
 add-at : tie.Need-add-at Inv-loop μ-loop
 add-at c =
-    let k = c .before .before in
-    let e = sym (k .before .before .step-in .ensures .0) ∙ k .step .given .1 in
-    omega (arith, item-begins _ _ _ _ e, item-fits _ _ _ _ e)
-
-sub-left : tie.Need-sub-left Inv-loop μ-loop
-sub-left c = search needs
+    let k = c .before .before .before in
+    let here = found-stands _ _ _ _ _ (sym (k .before .before .first-in .ensures .0) ∙ k .f .given .1) .here in
+    omega (arith, item-begins _ _ _ _ here, item-fits _ _ _ _ here)
 
 loop-less : tie.Need-loop-less Inv-loop μ-loop
 loop-less c =
-    let k = c .before .before .before .before .before in
-    omega (arith, falls _ _ _ _ (sym (k .before .before .step-in .ensures .0) ∙ k .step .given .1))
+    let k = c .before .before .before in
+    omega (arith, first-falls _ _ _ _ _ (sym (k .before .before .first-in .ensures .0) ∙ k .f .given .1))
 
 loop-again : tie.Need-loop-again Inv-loop μ-loop
 loop-again c =
-    let k = c .before .before .before .before .before in
-    let e = sym (k .before .before .step-in .ensures .0) ∙ k .step .given .1 in
-    k .before .before .before .loop .inv ∙ nth-past _ _ _ _ _ _ e (c .before .if1 .taken) (c .if2 .left)
-
-loop-less-2 : tie.Need-loop-less-2 Inv-loop μ-loop
-loop-less-2 c =
-    let k = c .before .before .before .before in
-    omega (arith, falls _ _ _ _ (sym (k .before .before .step-in .ensures .0) ∙ k .step .given .1))
-
-loop-again-2 : tie.Need-loop-again-2 Inv-loop μ-loop
-loop-again-2 c =
-    let k = c .before .before .before .before in
-    let e = sym (k .before .before .step-in .ensures .0) ∙ k .step .given .1 in
-    k .before .before .before .loop .inv ∙ nth-next _ _ _ _ _ _ e (c .if1 .left)
-
-returns-2 : tie.Need-returns-2 Inv-loop μ-loop
-returns-2 c =
-    let e = sym (c .before .before .step-in .ensures .0) ∙ c .enum-told .given .1 in
-    sym (c .before .before .before .loop .inv ∙ nth-end _ _ _ _ _ _ e)
-
-returns-3 : tie.Need-returns-3 Inv-loop μ-loop
-returns-3 c =
-    let e = sym (c .before .before .step-in .ensures .0) ∙ c .enum-told2 .given .1 in
-    sym (c .before .before .before .loop .inv ∙ nth-refused _ _ _ _ _ _ e)
-
-step-in-requires : tie.Need-step-in-requires Inv-loop μ-loop
-step-in-requires c κs = search needs
-
-enum-known-step : tie.Need-enum-known-step Inv-loop μ-loop
-enum-known-step c = search needs
+    let k = c .before .before .before in
+    let q = sym (k .before .before .first-in .ensures .0) ∙ k .f .given .1 in
+    k .before .before .before .loop .inv ∙ nth-past _ _ _ _ _ _ q (c .before .if1 .left)
 
 enum-told : tie.Need-enum-told Inv-loop μ-loop
 enum-told c = search needs
 
-enum-told-2 : tie.Need-enum-told-2 Inv-loop μ-loop
-enum-told-2 c = search needs
+returns-2 : tie.Need-returns-2 Inv-loop μ-loop
+returns-2 c =
+    let q = sym (c .before .before .first-in .ensures .0) ∙ c .enum-told .given .1 in
+    sym (c .before .before .before .loop .inv ∙ nth-none _ _ _ _ _ q)
+
+sub-left : tie.Need-sub-left Inv-loop μ-loop
+sub-left c = search needs
+
+first-in-requires : tie.Need-first-in-requires Inv-loop μ-loop
+first-in-requires c κs = search needs
+
+enum-known-f : tie.Need-enum-known-f Inv-loop μ-loop
+enum-known-f c = search needs
 
 pub nth-in-spec : {M : Type 1} → statement M
 nth-in-spec =
@@ -87,16 +70,12 @@ nth-in-spec =
     Inv-loop
     μ-loop
     loop-holds
-    step-in-requires
-    enum-known-step
-    add-at
+    first-in-requires
+    enum-known-f
     returns
     sub-left
+    add-at
     loop-less
     loop-again
-    loop-less-2
-    loop-again-2
     enum-told
-    returns-2
-    enum-told-2
-    returns-3)
+    returns-2)

@@ -71,7 +71,7 @@ module _ {M : Type 1} (𝓤 : URA M) (H : Heap 𝓤) (A : Atoms 𝓤) (mem : Mem
   Steps = tripleOf 𝓤 H A step.signature (step.spec 𝓤 H A mem run)
 
 module _ {M : Type 1} (𝓤 : URA M) (H : Heap 𝓤) (A : Atoms 𝓤) (W : Given 𝓤 H A) (mem : Memory → SProp 𝓤) (run : Routine → Fun 𝓤)
-    (κ : Lft) (q : Share) (s : RefT (List ℕ)) (w : Repeats) (word : Is R.the-row w (wordVal w ∷ [])) where
+    (κ : Lft) (q : Share) (s : RefT (List ℕ)) (w : Repeats) (is-word : Is R.the-row w (wordVal w ∷ [])) where
   -- a local's lifetime has no name in MIR
   abbrev unnamed : NamedLft
   unnamed = record { mir = erased; lft = κ }
@@ -101,7 +101,7 @@ module _ {M : Type 1} (𝓤 : URA M) (H : Heap 𝓤) (A : Atoms 𝓤) (W : Given
       (((κ, tt), (q, tt), tt, (s, (w, tt)), (lentVal s ∷ [], (wordVal w ∷ [], tt))), tt) u t (tt, (tt, tt)) (tt, (tt, tt))) $
       says ! (first-told w (now s) t e) $
       move ! (1 ∷ []) $ frame ! $ nothing ! $
-      owned ! R.the-row (Is R.the-row) (EL.makes R.the-type R′.the-plain 𝓤 H A) w _ word $ fjoin ! $ move ! (2 ∷ 0 ∷ []) $ fjoin ! $ frame ! $ done !
+      owned ! R.the-row (Is R.the-row) (EL.makes R.the-type R′.the-plain 𝓤 H A) w _ is-word $ fjoin ! $ move ! (2 ∷ 0 ∷ []) $ fjoin ! $ frame ! $ done !
 
   module _ (C : Calls 𝓤 H) (Λ : Loops 𝓤 H) (fm : FmC 𝓤 H (W .laws) C)
       (opens : Triple 𝓤 (C #reader·open) (Opens 𝓤 H A mem run)) (steps : Triple 𝓤 (C #reader·step) (Steps 𝓤 H A mem run)) where
@@ -111,7 +111,7 @@ module _ {M : Type 1} (𝓤 : URA M) (H : Heap 𝓤) (A : Atoms 𝓤) (W : Given
         qed W (raw (With 𝓤 H A W κ q s w) ∷ []) ∵ enter ! C Λ code.function (lentVal s ∷ wordVal w ∷ []) _ $
         alloc1 ! (λ l₀. alloc1 ! (λ l₁. alloc1 ! (λ l₂. alloc1 ! (λ l₃. alloc0 ! $ params1 ! $
         pass1 ! (init ! 4 refl (shr-slice-lawful 𝓤 H A W (named 0) κ u8 .typed s (lentVal s ∷ []) p .0)) $
-        pass1 ! (init ! 2 refl (EL.lawful R.the-type R′.the-laws 𝓤 H A W tt .typed w (wordVal w ∷ []) word .0)) $ pass0 ! $
+        pass1 ! (init ! 2 refl (EL.lawful R.the-type R′.the-laws 𝓤 H A W tt .typed w (wordVal w ∷ []) is-word .0)) $ pass0 ! $
         -- opening
         move ! (8 ∷ []) $ use1 W (raw (Opens 𝓤 H A mem run .pre to-open) ⊛ ‵ (Own κ s)) (again 𝓤 H A W κ q s w) $ split ! $
         calls-at ! fm (Opens 𝓤 H A mem run) opens to-open

@@ -63,7 +63,7 @@ module _ {M : Type 1} (𝓤 : URA M) (H : Heap 𝓤) (A : Atoms 𝓤) (mem : Mem
   RefusalOf = tripleOf 𝓤 H A refusal.signature (refusal.spec 𝓤 H A mem run)
 
 module _ {M : Type 1} (𝓤 : URA M) (H : Heap 𝓤) (A : Atoms 𝓤) (W : Given 𝓤 H A) (mem : Memory → SProp 𝓤) (run : Routine → Fun 𝓤)
-    (κ : Lft) (q : Share) (s : RefT (List ℕ)) (w : Repeats) (word : Is R.the-row w (wordVal w ∷ [])) where
+    (κ : Lft) (q : Share) (s : RefT (List ℕ)) (w : Repeats) (is-word : Is R.the-row w (wordVal w ∷ [])) where
   -- the reader with the refusal n
   abbrev made : ℕ → Reader
   made n = record { packet = s; at = 0; refusal = n }
@@ -82,7 +82,7 @@ module _ {M : Type 1} (𝓤 : URA M) (H : Heap 𝓤) (A : Atoms 𝓤) (W : Given
       suffices ! _ (ends-at 𝓤 H A opening.ended stayed (opening.clauses 𝓤 H A mem run) W
       (((κ, tt), (q, tt), tt, (s, (w, tt)), (lentVal s ∷ [], (wordVal w ∷ [], tt))), tt) (T′.lowered (made n)) (made n) (tt, (tt, tt)) (tt, (tt, tt))) $
       says ! (ap made e) $ drop ! $ frame ! $ use1 W (‵ (Own κ s) ⊛ ‵ (Own κ s)) (twice 𝓤 H A W κ q s) $ split ! $ nothing ! $
-      owned ! R.the-row (Is R.the-row) (EL.makes R.the-type R′.the-plain 𝓤 H A) w _ word $ fjoin ! $ move ! (1 ∷ 0 ∷ []) $ fjoin ! $ frame ! $
+      owned ! R.the-row (Is R.the-row) (EL.makes R.the-type R′.the-plain 𝓤 H A) w _ is-word $ fjoin ! $ move ! (1 ∷ 0 ∷ []) $ fjoin ! $ frame ! $
       -- [what the packet owns]: with the facts of the two numbers it is what the reader owns
       nothing ! $ owned ! u8 (Is u8) (uint-makes 𝓤 H A W w8) n _ (refl, fits) $ fjoin ! $ owned ! usize (Is usize) (uint-makes 𝓤 H A W w64) 0 _
       (refl, lit< tt) $ fjoin ! $
@@ -96,7 +96,7 @@ module _ {M : Type 1} (𝓤 : URA M) (H : Heap 𝓤) (A : Atoms 𝓤) (W : Given
         let typed = shr-slice-lawful 𝓤 H A W (named 0) κ u8 .typed s (lentVal s ∷ []) p .0 in
         qed W (raw (With 𝓤 H A W κ q s w) ∷ []) ∵ enter ! C Λ code.function (lentVal s ∷ wordVal w ∷ []) _ $
         alloc1 ! (λ l₀. alloc1 ! (λ l₁. alloc1 ! (λ l₂. alloc1 ! (λ l₃. alloc0 ! $ params1 ! $ pass1 ! (init ! 4 refl typed) $
-        pass1 ! (init ! 2 refl (EL.lawful R.the-type R′.the-laws 𝓤 H A W tt .typed w (wordVal w ∷ []) word .0)) $ pass0 ! $
+        pass1 ! (init ! 2 refl (EL.lawful R.the-type R′.the-laws 𝓤 H A W tt .typed w (wordVal w ∷ []) is-word .0)) $ pass0 ! $
         -- the call
         move ! (8 ∷ []) $ use1 W (raw (RefusalOf 𝓤 H A mem run .pre to) ⊛ ‵ (Own κ s)) (again 𝓤 H A W κ q s w) $ split ! $
         calls-at ! fm (RefusalOf 𝓤 H A mem run) known to

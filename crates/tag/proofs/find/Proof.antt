@@ -62,7 +62,7 @@ module _ {M : Type 1} (𝓤 : URA M) (H : Heap 𝓤) (A : Atoms 𝓤) (mem : Mem
 
 module _ {M : Type 1} (𝓤 : URA M) (H : Heap 𝓤) (A : Atoms 𝓤) (W : Given 𝓤 H A) (mem : Memory → SProp 𝓤) (run : Routine → Fun 𝓤)
     (κ κ′ κ″ : Lft) (within : κ″ ⊑ κ) (within′ : κ″ ⊑ κ′) (q q′ q″ : Share) (s t : RefT (List ℕ)) (w : Repeats)
-    (word : Is R.the-row w (wordVal w ∷ [])) (n : ℕ) (fits : n < 2 ^ 32) where
+    (is-word : Is R.the-row w (wordVal w ∷ [])) (n : ℕ) (fits : n < 2 ^ 32) where
   -- the lifetimes of the packet, of the standing packet and of the part
   abbrev κs : Lfts 3
   κs = (κ, (κ′, (κ″, tt)))
@@ -94,13 +94,13 @@ module _ {M : Type 1} (𝓤 : URA M) (H : Heap 𝓤) (A : Atoms 𝓤) (W : Given
       -- [t; t; s; s; the tokens]: one of each for the shorter lifetime
       use1 W (‵ (Own κ″ t)) (shorter 𝓤 H A W κ′ q′ t κ″ within′) $ move ! (2 ∷ []) $ use1 W (‵ (Own κ″ s)) (shorter 𝓤 H A W κ q s κ″ within) $
       nothing ! $ owned ! u32 (Is u32) (uint-makes 𝓤 H A W w32) n _ (refl, fits) $ fjoin ! $
-      owned ! R.the-row (Is R.the-row) (EL.makes R.the-type R′.the-plain 𝓤 H A) w _ word $ fjoin ! $ move ! (2 ∷ 0 ∷ []) $ fjoin ! $
+      owned ! R.the-row (Is R.the-row) (EL.makes R.the-type R′.the-plain 𝓤 H A) w _ is-word $ fjoin ! $ move ! (2 ∷ 0 ∷ []) $ fjoin ! $
       move ! (1 ∷ 0 ∷ []) $ fjoin ! $
       -- [what is passed; t; s; the tokens]
       move ! (3 ∷ []) $ split ! $ move ! (1 ∷ []) $ split ! $ move ! (1 ∷ 3 ∷ []) $ join ! $ nothing ! $ move ! (1 ∷ 0 ∷ []) $ join ! $ frame ! $
       move ! (1 ∷ 0 ∷ []) $ join ! $ frame ! $
       nothing ! $ owned ! u32 (Is u32) (uint-makes 𝓤 H A W w32) n _ (refl, fits) $ fjoin ! $
-      owned ! R.the-row (Is R.the-row) (EL.makes R.the-type R′.the-plain 𝓤 H A) w _ word $ fjoin ! $ move ! (1 ∷ 0 ∷ []) $ fjoin ! $
+      owned ! R.the-row (Is R.the-row) (EL.makes R.the-type R′.the-plain 𝓤 H A) w _ is-word $ fjoin ! $ move ! (1 ∷ 0 ∷ []) $ fjoin ! $
       move ! (1 ∷ 0 ∷ []) $ fjoin ! $ done !
 
   exits : (r : RefT (List ℕ)) (u : Val) → PartShown w s t n r
@@ -122,7 +122,7 @@ module _ {M : Type 1} (𝓤 : URA M) (H : Heap 𝓤) (A : Atoms 𝓤) (W : Given
         alloc1 ! (λ l₀. alloc1 ! (λ l₁. alloc1 ! (λ l₂. alloc1 ! (λ l₃. alloc1 ! (λ l₄. alloc0 ! $ params1 ! $
         pass1 ! (init ! 6 refl (shr-slice-lawful 𝓤 H A W (named 0) κ u8 .typed s (lentVal s ∷ []) p .0)) $
         pass1 ! (init ! 4 refl (shr-slice-lawful 𝓤 H A W (named 1) κ′ u8 .typed t (lentVal t ∷ []) p′ .0)) $
-        pass1 ! (init ! 2 refl (EL.lawful R.the-type R′.the-laws 𝓤 H A W tt .typed w (wordVal w ∷ []) word .0)) $
+        pass1 ! (init ! 2 refl (EL.lawful R.the-type R′.the-laws 𝓤 H A W tt .typed w (wordVal w ∷ []) is-word .0)) $
         pass1 ! (init ! 0 refl (tt, record { fits = fits })) $ pass0 ! $
         move ! (10 ∷ []) $ use1 W (raw (Shows 𝓤 H A mem run .pre to) ⊛ ((‵ (flft κ q) ⊛ ‵ (flft κ′ q′)) ⊛ ‵ Kept)) goes $ split ! $
         calls-at ! fm (Shows 𝓤 H A mem run) known to

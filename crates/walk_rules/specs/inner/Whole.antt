@@ -10,6 +10,6 @@ use Rattle.walk_rules.specs.Walk.{walkFault, tourAt, refusal}
 
 -- an item's part in a walk's refusal: its own fault, else that of its contents, with so many levels left
 unfoldable pub itemRefusal : Repeats → ℕ → List ℕ → List ℕ → ℕ → Bool → Item → ℕ
-itemRefusal w zero s cs d before i = walkFault cs d before i
-itemRefusal w (suc levels) s cs d before i =
-    orElse (walkFault cs d before i) (cond (among (i .name) cs) (refusal (tourAt w levels s cs (d + 1) [] (runOf s (i .from) (nextOf i)))) 0)
+itemRefusal word zero s cs d before i = walkFault cs d before i
+itemRefusal word (suc levels) s cs d before i =
+    orElse (walkFault cs d before i) (cond (among (i .name) cs) (refusal (tourAt word levels s cs (d + 1) [] (runOf s (i .from) (nextOf i)))) 0)

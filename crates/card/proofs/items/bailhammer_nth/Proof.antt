@@ -12,9 +12,9 @@ returns : tie.Need-returns
 returns c =
     let told = c .before .before in
     let found = told .before .before in
-    let word = found .before in
-    let a = word .before .before .before .args in
-    let is = found .locate-nth .ensures .1 ∙ ap (λ (r : Repeats). locateNthCall r (a .packet .now) (a .name) (a .number)) (word .repeats-of .ensures) in
+    let asked = found .before in
+    let a = asked .before .before .before .args in
+    let is = found .locate-nth .ensures .1 ∙ ap (λ (r : Repeats). locateNthCall r (a .packet .now) (a .name) (a .number)) (asked .repeats-of .ensures) in
     told-as found-widths (a .told .now) is (told .tell-found .ensures)
 
 repeats-of-requires : tie.Need-repeats-of-requires

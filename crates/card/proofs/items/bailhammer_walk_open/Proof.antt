@@ -13,9 +13,9 @@ returns : tie.Need-returns
 unfolding refusalIn
 returns c =
     let opened = c .before in
-    let word = opened .before in
-    let a = word .before .before .before .before .args in
-    let is = opened .open-walk .ensures ∙ ap (λ (r : Repeats). opens r (a .packet .now) (a .names .now)) (word .repeats-of .ensures) in
+    let asked = opened .before in
+    let a = asked .before .before .before .before .args in
+    let is = opened .open-walk .ensures ∙ ap (λ (r : Repeats). opens r (a .packet .now) (a .names .now)) (asked .repeats-of .ensures) in
     handed-on
     (open-refused _ (a .packet .now) (a .names .now) (a .walker .now) (opened .open-walk .result) is (c .if1 .taken))
     refl
@@ -24,9 +24,9 @@ returns-2 : tie.Need-returns-2
 unfolding refusalIn
 returns-2 c =
     let opened = c .before .before in
-    let word = opened .before in
-    let a = word .before .before .before .before .args in
-    let is = opened .open-walk .ensures ∙ ap (λ (r : Repeats). opens r (a .packet .now) (a .names .now)) (word .repeats-of .ensures) in
+    let asked = opened .before in
+    let a = asked .before .before .before .before .args in
+    let is = opened .open-walk .ensures ∙ ap (λ (r : Repeats). opens r (a .packet .now) (a .names .now)) (asked .repeats-of .ensures) in
     handed-on
     (open-short _ (a .packet .now) (a .names .now) (a .walker .now) (opened .open-walk .result) is (c .before .if1 .left)
     (c .if2 .taken))
@@ -38,9 +38,9 @@ returns-3 c =
     let written = c .before .before in
     let sized = written .before .before in
     let opened = sized .before .before in
-    let word = opened .before in
-    let a = word .before .before .before .before .args in
-    let is = opened .open-walk .ensures ∙ ap (λ (r : Repeats). opens r (a .packet .now) (a .names .now)) (word .repeats-of .ensures) in
+    let asked = opened .before in
+    let a = asked .before .before .before .before .args in
+    let is = opened .open-walk .ensures ∙ ap (λ (r : Repeats). opens r (a .packet .now) (a .names .now)) (asked .repeats-of .ensures) in
     handed-on
     (open-done _ (a .packet .now) (a .names .now) (a .walker .now) (opened .open-walk .result) is (sized .before .if1 .left)
     (sized .if2 .left)

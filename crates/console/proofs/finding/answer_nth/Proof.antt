@@ -49,8 +49,8 @@ enum-told-3 c = search needs
 returns-3 : tie.Need-returns-3
 returns-3 c = search needs
 
-word-at-requires : tie.Need-word-at-requires
-word-at-requires c κs = search needs
+repeats-at-requires : tie.Need-repeats-at-requires
+repeats-at-requires c κs = search needs
 
 enum-known-repeats : tie.Need-enum-known-repeats
 enum-known-repeats c = search needs
@@ -94,7 +94,7 @@ answer-nth-spec =
     enum-known-n
     enum-told-3
     returns-3
-    word-at-requires
+    repeats-at-requires
     enum-known-repeats
     enum-told-4
     returns-4

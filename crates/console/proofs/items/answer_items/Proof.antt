@@ -31,8 +31,8 @@ enum-told c = search needs
 returns : tie.Need-returns
 returns c = search needs
 
-word-at-requires : tie.Need-word-at-requires
-word-at-requires c κs = search needs
+repeats-at-requires : tie.Need-repeats-at-requires
+repeats-at-requires c κs = search needs
 
 enum-known-repeats : tie.Need-enum-known-repeats
 enum-known-repeats c = search needs
@@ -62,7 +62,7 @@ answer-items-spec =
     enum-known-n
     enum-told
     returns
-    word-at-requires
+    repeats-at-requires
     enum-known-repeats
     enum-told-2
     returns-2

@@ -57,8 +57,8 @@ enum-told-2 c = search needs
 returns-2 : tie.Need-returns-2
 returns-2 c = search needs
 
-word-at-requires : tie.Need-word-at-requires
-word-at-requires c κs = search needs
+repeats-at-requires : tie.Need-repeats-at-requires
+repeats-at-requires c κs = search needs
 
 enum-known-repeats : tie.Need-enum-known-repeats
 enum-known-repeats c = search needs
@@ -94,7 +94,7 @@ answer-walk-spec =
     enum-known-n
     enum-told-2
     returns-2
-    word-at-requires
+    repeats-at-requires
     enum-known-repeats
     enum-told-3
     returns-3
