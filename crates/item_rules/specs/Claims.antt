@@ -39,6 +39,6 @@ AsItWas = (seen : List ℕ) → Before seen
 abbrev pub Twice : Type 0
 Twice = (seen : List ℕ) (i : Item) (r : Run) → (i .name ≡ dmy → ⊥) → among (i .name) seen ≡ true → faultsOf Forbidden seen (item i r) ≡ 31
 
--- document 02, Item 1, "31 only when repeats are forbidden": where they may, no run of a packet has that number
+-- document 02, Item 1, "31 only when repeats are forbidden": where names may repeat, no run of a packet has that number
 abbrev pub NeverTwice : Type 0
 NeverTwice = (s : List ℕ) (at end : ℕ) (seen : List ℕ) → faultsOf Allowed seen (runOf s at end) ≡ 31 → ⊥

@@ -101,7 +101,7 @@ faultOf before i = first ((not (eqb (i .name) dmy) && before, 31) ∷ (badPtr (i
 abbrev pub orElse : ℕ → ℕ → ℕ
 orElse m n = cond (eqb m 0) n m
 
--- document 02, Item 1: "31 only when repeats are forbidden": then it counts that a name has stood before
+-- document 02, Item 1, "31 only when repeats are forbidden": only then does it count that a name has stood before
 unfoldable pub forbids : Repeats → Bool
 forbids Forbidden = true
 forbids Allowed = false

@@ -63,7 +63,7 @@ refusedLine n = refused ++ (decimalOf n ++ newline)
 unfoldable pub payloadLines : List ℕ → Tour → List ℕ
 payloadLines front t = cond (eqb (refusal t) 0) (front ++ linesOf t) (refusedLine (refusal t))
 
--- document 01: the listing of an AF packet; names may not repeat in it, as they might not
+-- document 01: the listing of an AF packet; names may not repeat in it
 unfoldable pub listingOf : List ℕ → List ℕ
 listingOf s = cond (eqb (afFault s) 0) (payloadLines (headLine (seqOf s) (minorOf s) (lenOf s)) (walkOf Forbidden (payloadOf s) containers))
     (refusedLine (afFault s))

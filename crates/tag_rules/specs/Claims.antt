@@ -76,7 +76,7 @@ FoundShown = (w : Repeats) (s t : List ℕ) (name : ℕ) (i : Item)
 
 -- ---- document 02, Item 1: whether names may repeat
 
--- "31 only when repeats are forbidden": where they may, no packet is refused with 31
+-- "31 only when repeats are forbidden": where names may repeat, no packet is refused with 31
 abbrev pub NoTwice : Type 0
 NoTwice = (s : List ℕ) → checkOf Allowed s ≡ 31 → ⊥
 
@@ -99,7 +99,7 @@ abbrev pub StandingRefused : Type 0
 StandingRefused = (w : Repeats) (s t : List ℕ) (name : ℕ) → checkOf w s ≡ 0 → (checkOf w t ≡ 0 → ⊥)
     → locateOf w s t name ≡ located.Refused (checkOf w t)
 
--- where names may repeat no finding is refused with 31, whichever packet repeats one,
+-- where names may repeat, no finding is refused with 31, whichever packet repeats one,
 abbrev pub FoundNotTwice : Type 0
 FoundNotTwice = (s t : List ℕ) (name : ℕ) → locateOf Allowed s t name ≡ located.Refused 31 → ⊥
 

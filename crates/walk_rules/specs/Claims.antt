@@ -122,7 +122,7 @@ AsItWas = (s cs : List ℕ) (levels d : ℕ) (seen : List ℕ) (i : Item) (r : R
     (visit d i (andThen (cond (among (i .name) cs) (tourAt Forbidden levels s cs (d + 1) [] (runOf s (i .from) (nextOf i))) (ends 0))
     (tourAt Forbidden (suc levels) s cs d (i .name ∷ seen) r)))
 
--- "31 only when repeats are forbidden": where they may, no walk is refused with 31
+-- "31 only when repeats are forbidden": where names may repeat, no walk is refused with 31
 abbrev pub NoTwice : Type 0
 NoTwice = (s l : List ℕ) → refusal (walkOf Allowed s l) ≡ 31 → ⊥
 
