@@ -1,7 +1,7 @@
 /* Holds every call of bailhammer.h against the call of card.h that it stands for: the number, every lent byte, and what is told, which is
  * written again from the struct's fields. Each struct is filled before its call, so that a field left out shows. c/run faces makes and runs it;
  * exit 1 at the first difference. It is C99 and C++11. */
-#include "faces.h"
+#include "faces_packet.h"
 
 enum { ROUNDS = 200 };
 

@@ -7,9 +7,9 @@ The answers come from crc.txt (made by a peer), from plans.py and fields.py (com
 01 and 02), from chunks.py (of parity.txt, made by a peer), from packets.py (written out beside the
 sentence of document 01 that gives it, or by its own reader), from fragments.py (by its own sender),
 from receiving.py (by hand and by its own receiver), from editions.py (both rules of sizes, by hand
-and by all of these), from endurance.py (losses, counted), from repeats.py (repeated names, by hand
-and by its own reader) and from the lists below. None is taken from the program. Running this again
-gives the same bytes.
+and by all of these), from endurance.py (losses, counted), from repeats.py and starts.py (repeated
+names, and where items start, by hand and by their own reader) and from the lists below. None is
+taken from the program. Running this again gives the same bytes.
 """
 import pathlib
 import sys
@@ -25,6 +25,7 @@ import plans
 import receiver
 import receiving
 import repeats
+import starts
 import usage
 
 HERE = pathlib.Path(__file__).resolve().parent
@@ -254,6 +255,8 @@ def change_requests():
     ask_parts(endurance.PARTS)
     silent("")
     ask_parts(repeats.PARTS)
+    silent("")
+    ask_parts(starts.PARTS)
 
 
 MALFORMED = """\

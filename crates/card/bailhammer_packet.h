@@ -115,6 +115,8 @@ struct bailhammer_found {
     uint32_t bits;        /* the bits of its value */
     const uint8_t *value; /* the value, a part of the packet that holds it */
     size_t value_len;     /* the bytes that hold the bits */
+    size_t start;         /* the byte at which it begins, with its name, in the packet that holds it */
+    uint8_t unused;       /* the low bits of its last byte that are not part of the value: 0 to 7 */
 };
 
 /* The item that the bytes of a finding tell, in a packet or in the standing packet beside it. */
@@ -125,6 +127,8 @@ static inline struct bailhammer_found bailhammer_found_in(const uint8_t *packet,
     found.bits = (uint32_t)bailhammer_told(told + 1, 4);
     found.value = (found.standing ? standing : packet) + bailhammer_told(told + 5, 8);
     found.value_len = bailhammer_told(told + 13, 4);
+    found.start = bailhammer_told(told + 17, 8);
+    found.unused = told[25];
     return found;
 }
 
@@ -179,6 +183,8 @@ struct bailhammer_step {
     uint32_t bits;        /* the bits of its value */
     const uint8_t *value; /* the value, a part of the packet */
     size_t value_len;     /* the bytes that hold the bits */
+    size_t start;         /* the byte at which it begins, with its name, in the packet walked through, at every depth */
+    uint8_t unused;       /* the low bits of its last byte that are not part of the value: 0 to 7 */
     size_t padding;       /* at the end, the bytes of padding behind the last item */
 };
 
@@ -201,11 +207,13 @@ static inline size_t bailhammer_tag_walk_open(struct bailhammer_walk *walk, cons
     return number;
 }
 
-/* Hands out the next item of a walk, or the end.
+/* Hands out the next item of a walk, or the end. What a display marks is the whole item: from start on, BAILHAMMER_ITEM_HEAD + value_len bytes.
  *
  *     struct bailhammer_step step;
- *     while (bailhammer_tag_walk_step(&walk, &step) == BAILHAMMER_DONE && step.item)
+ *     while (bailhammer_tag_walk_step(&walk, &step) == BAILHAMMER_DONE && step.item) {
  *         use(step.depth, step.name, step.value, step.value_len);
+ *         mark(step.start, BAILHAMMER_ITEM_HEAD + step.value_len);
+ *     }
  */
 static inline size_t bailhammer_tag_walk_step(struct bailhammer_walk *walk, struct bailhammer_step *step)
 {
@@ -219,6 +227,8 @@ static inline size_t bailhammer_tag_walk_step(struct bailhammer_walk *walk, stru
     step->bits = (uint32_t)bailhammer_told(told + 6, 4);
     step->value = walk->packet + bailhammer_told(told + 10, 8);
     step->value_len = step->item ? last : 0;
+    step->start = bailhammer_told(told + 22, 8);
+    step->unused = told[30];
     step->padding = step->item ? 0 : last;
     return number;
 }

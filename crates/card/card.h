@@ -23,7 +23,7 @@
 extern "C" {
 #endif
 
-#define BAILHAMMER_VERSION 3       /* one more where a call, a number or a size is another than before */
+#define BAILHAMMER_VERSION 4       /* one more where a call, a number or a size is another than before */
 #define BAILHAMMER_RECORD_LAYOUT 1 /* one more where a receiver's record or lent bytes that were kept mean something else than before */
 
 /* Bytes that the calls ask for. */
@@ -33,10 +33,11 @@ extern "C" {
 #define BAILHAMMER_WALKER 56   /* a walk through a packet's items */
 #define BAILHAMMER_SENT 17408  /* no packet's fragments take more: 12,288 bytes and 256 headers of 20 */
 
-/* Bytes that each call tells, and the least of its `told`. */
+/* Bytes that each call tells, and the least of its `told`. Up to version 3 those of a finding were 17 and those of a step 22: a call that is lent
+ * no more gives 1 now, where it gave 0. */
 #define BAILHAMMER_TOLD_CHECK 8
-#define BAILHAMMER_TOLD_FIND 17 /* bailhammer_nth tells as many */
-#define BAILHAMMER_TOLD_STEP 22 /* bailhammer_walk_step */
+#define BAILHAMMER_TOLD_FIND 26 /* bailhammer_nth tells as many */
+#define BAILHAMMER_TOLD_STEP 31 /* bailhammer_walk_step */
 #define BAILHAMMER_TOLD_PLAN 20
 #define BAILHAMMER_TOLD_ENDURE 260
 #define BAILHAMMER_TOLD_FRAGMENT 2
@@ -163,7 +164,11 @@ size_t bailhammer_check(const uint8_t *packet, size_t packet_len, uint8_t *told,
  *
  * repeats says whether a name may stand more than once on one level of a packet; filler, "*dmy", always may. Where it is no, repeats are
  * forbidden, and any other name that stands twice gives 31. Where it is yes, 31 is given at no depth of a walk and of neither packet of a
- * finding, and all else is checked the same. A second "*ptr" that has not 64 bits gives 31 where repeats is no, and 33 where it is yes. */
+ * finding, and all else is checked the same. A second "*ptr" that has not 64 bits gives 31 where repeats is no, and 33 where it is yes.
+ *
+ * An item begins with its name, 8 bytes before its value, and its bytes are those 8 and the value's. Where it begins, and where its value does, is
+ * counted in bytes from the front of the packet handed in; in the AF packet both are BAILHAMMER_AF_HEADER further on. The unused bits of its last
+ * byte are the low ones, which are not part of the value: 0 to 7 of them, and none in an item of 0 bits, whose value has no byte. */
 
 /* Writes an item at the front of out: 8 bytes and the value's, which are as many as its bits take; unused bits are written as zeros. Gives
  * 0; else the first of 43, 33 and 1 that is due.
@@ -174,9 +179,10 @@ size_t bailhammer_check(const uint8_t *packet, size_t packet_len, uint8_t *told,
  */
 size_t bailhammer_item(uint32_t name, uint32_t bits, const uint8_t *value, size_t value_len, uint8_t *out, size_t out_len);
 
-/* Finds the first item of a name in a packet, else in the standing packet beside it, which may be empty. Tells 17 bytes: 0 where it is in the
- * packet, 1 where in the standing packet (1), its bits (4), where its value begins there (8), the value's bytes (4). Gives 0; else 30, 31
- * or 33 of the packet, then of the standing packet; 34; or 1.
+/* Finds the first item of a name in a packet, else in the standing packet beside it, which may be empty. Tells 26 bytes: 0 where it is in the
+ * packet, 1 where in the standing packet (1), its bits (4), where its value begins there (8), the value's bytes (4), where the item itself begins
+ * there, with its name (8), and how many unused bits its last byte has (1). Gives 0; else 30, 31 or 33 of the packet, then of the standing packet;
+ * 34; or 1.
  *
  *     uint8_t told[BAILHAMMER_TOLD_FIND];      // with no standing packet, and repeats forbidden:
  *     number = bailhammer_find(payload, payload_len, payload, 0, BAILHAMMER_NAME('d', 'e', 'm', 'o'), 0, told, sizeof told);
@@ -184,7 +190,7 @@ size_t bailhammer_item(uint32_t name, uint32_t bits, const uint8_t *value, size_
 size_t bailhammer_find(const uint8_t *packet, size_t packet_len, const uint8_t *standing, size_t standing_len, uint32_t name, size_t repeats,
                        uint8_t *told, size_t told_len);
 
-/* Finds occurrence `number` of a name, counted from 0 on, in the packet alone: no standing packet is looked at. Tells the 17 bytes that
+/* Finds occurrence `number` of a name, counted from 0 on, in the packet alone: no standing packet is looked at. Tells the 26 bytes that
  * bailhammer_find tells, and the first of them is 0. Where repeats is no, "*dmy" alone can have occurrences beyond 0. Gives 0; else 30, 31 or 33
  * of the packet; 34 where it has no such occurrence; or 1. Each call checks the whole packet: who wants all items of a name takes a walk.
  *
@@ -203,11 +209,12 @@ size_t bailhammer_nth(const uint8_t *packet, size_t packet_len, uint32_t name, s
 size_t bailhammer_walk_open(const uint8_t *packet, size_t packet_len, const uint8_t *names, size_t names_len, size_t repeats, uint8_t *walker,
                             size_t walker_len);
 
-/* Hands out the next item of a walk over the same packet and names. Tells 22 bytes: 1 (1), the item's depth (1), its name (4), its bits
- * (4), where its value begins (8), the value's bytes (4); or, behind the last item, zeros and the bytes of padding in the last 4: so it
- * does then at each step. Gives 0; else the first that is due: 1 where walker has not 56 bytes or told under 22; 43 for a list of names that
- * opening refuses. Where walker is not as a call left it, a step may tell an item that is none or the end, and gives 30 where what stands there
- * would pass the end of its packet.
+/* Hands out the next item of a walk over the same packet and names. Tells 31 bytes: 1 (1), the item's depth (1), its name (4), its bits
+ * (4), where its value begins (8), the value's bytes (4), where the item itself begins, with its name (8), and how many unused bits its last byte
+ * has (1); or, behind the last item, zeros and, in told[18] to told[21], the bytes of padding: so it does then at each step. At every depth, where
+ * an item and its value begin is counted in packet, and not in the container. Gives 0; else the first that is due: 1 where walker has not 56 bytes
+ * or told under 31; 43 for a list of names that opening refuses. Where walker is not as a call left it, a step may tell an item that is none or the
+ * end, and gives 30 where what stands there would pass the end of its packet.
  *
  *     while (bailhammer_walk_step(payload, payload_len, names, sizeof names, walker, sizeof walker, told, sizeof told) == 0 && told[0])
  *         show(told);

@@ -20,14 +20,14 @@ ghost use Rattle.card_rules.specs.Items.{step-widths, steppedNumber, CardSteppe
 const WALKER: usize = 8 * (LEVELS + 2);
 
 // The bytes that finding tells, and their widths; card_rules/specs/Items.antt says of what.
-const TOLD_FIND: usize = 17;
+const TOLD_FIND: usize = 26;
 
-const FOUND_WIDTHS: [usize; 5] = [1, 0, 4, 8, 4];
+const FOUND_WIDTHS: [usize; 7] = [1, 0, 4, 8, 4, 8, 1];
 
 // Those of a step.
-const TOLD_STEP: usize = 22;
+const TOLD_STEP: usize = 31;
 
-const STEP_WIDTHS: [usize; 6] = [1, 1, 4, 4, 8, 4];
+const STEP_WIDTHS: [usize; 8] = [1, 1, 4, 4, 8, 4, 8, 1];
 
 // What C says of repeats: 0 forbids them.
 fn repeats_of(repeats: usize) -> Repeats
@@ -41,10 +41,18 @@ fn repeats_of(repeats: usize) -> Repeats
 }
 
 // What is told of an item found: the packet that it is in, and its values.
-fn found_values(which: usize, i: Item) -> [usize; 5]
+fn found_values(which: usize, i: Item) -> [usize; 7]
     ensures { λ r. ⌜ r ≡ which ∷ valuesOf i ⌝ }
 {
-    [which, i.name as usize, i.bits.0 as usize, i.from, i.len.0]
+    [
+        which,
+        i.name as usize,
+        i.bits.0 as usize,
+        i.from,
+        i.len.0,
+        i.start,
+        i.unused.0 as usize,
+    ]
 }
 
 // Tells where a name was found, and gives the number of the answer.
@@ -169,10 +177,12 @@ fn tell_step(h: Handed, told: &mut [u8]) -> usize
                 i.bits.0 as usize,
                 i.from,
                 i.len.0,
+                i.start,
+                i.unused.0 as usize,
             ];
             tell(told, TOLD_STEP, &STEP_WIDTHS, &values)
         }
-        Handed::End(p) => tell(told, TOLD_STEP, &STEP_WIDTHS, &[0, 0, 0, 0, 0, p.0]),
+        Handed::End(p) => tell(told, TOLD_STEP, &STEP_WIDTHS, &[0, 0, 0, 0, 0, p.0, 0, 0]),
         Handed::Refused(n) => n as usize,
     }
 }

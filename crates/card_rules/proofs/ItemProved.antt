@@ -6,7 +6,7 @@ use Prim.Native.Nat.{ℕ, _+_, _^_, _<_, _≤_, min}
 use native.Mathlib.Omega.{arith}
 use lib.Dec.{eqb, lit<}
 use lib.ListN.{length}
-use Rattle.base_rules.specs.Bytes.{Bytes}
+use Rattle.base_rules.specs.Bytes.{Bytes, numberAt}
 use Rattle.base_rules.proofs.Ceil as ceils
 use Rattle.base_rules.proofs.Numbers.{number-lt}
 use Rattle.item_rules.specs.declared.Found.{Found}
@@ -17,6 +17,7 @@ use Rattle.item_rules.specs.Item.{bytesFor, itemAt, stepIn}
 use Rattle.item_rules.specs.Run.{firstOf, nthOf}
 use Rattle.item_rules.proofs.Finds.{found-stands, nth-stands}
 use Rattle.item_rules.proofs.Runs.{item-begins}
+use Rattle.item_rules.proofs.Starts.{item-starts, unused-few}
 use Rattle.item_rules.proofs.Steps.{item-fits, item-at, end-few}
 use Rattle.tag_rules.specs.declared.Located.the-variants as located
 use Rattle.tag_rules.specs.Find.{wholeRun, checkOf, inPacket, inStanding, locateOf, locateNthOf}
@@ -43,6 +44,8 @@ module _ (s : List ℕ) (bytes : Bytes s) (at end : ℕ) (within : end < 2 ^ 64)
         bits = subst (λ (j : Item). j .bits .0 < 2 ^ 32) is (number-lt 4 s (at + 4) bytes);
         from = omega (arith, item-fits s at end i e, item-begins s at end i e);
         len = subst (λ (j : Item). j .len .0 < 2 ^ 32) is (few-bytes _ (number-lt 4 s (at + 4) bytes));
+        start = omega (arith, item-fits s at end i e, item-starts s at end i e);
+        unused = subst (λ (j : Item). j .unused .0 < 2 ^ 8) is (omega (arith, unused-few (numberAt 4 s (at + 4))));
       }
 
 -- ---- one that is found

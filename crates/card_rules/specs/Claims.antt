@@ -194,12 +194,15 @@ StepNumbers =
 
 -- ---- items: what is told of them
 
--- no figure of an item is cut off where its name, its bits and its value's bytes are told in four bytes each, and its value's place in eight
+-- no figure of an item is cut off where its name, its bits and its value's bytes are told in four bytes each, its value's place and its start in eight,
+-- and its unused bits in one
 pub record ItemWhole (i : Item) : Type 0 where
   pub name : i .name < 2 ^ 32
   pub bits : i .bits .0 < 2 ^ 32
   pub from : i .from < 2 ^ 64
   pub len : i .len .0 < 2 ^ 32
+  pub start : i .start < 2 ^ 64
+  pub unused : i .unused .0 < 2 ^ 8
 
 -- so it is of an item that was found, wherever,
 abbrev pub LocatedWhole : Located → Type 0

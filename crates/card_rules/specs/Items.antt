@@ -24,9 +24,9 @@ unfoldable pub repeatsOf : ℕ → Repeats
 repeatsOf repeats = cond (eqb repeats 0) Forbidden Allowed
 
 -- the widths of what finding tells, an occurrence too: which packet 1 byte; the name, which was given, none; the bits 4, the value's place 8 and
--- its bytes 4
+-- its bytes 4; document 02, Item 11: the start 8, the unused bits 1
 abbrev pub found-widths : List ℕ
-found-widths = 1 ∷ 0 ∷ 4 ∷ 8 ∷ 4 ∷ []
+found-widths = 1 ∷ 0 ∷ 4 ∷ 8 ∷ 4 ∷ 8 ∷ 1 ∷ []
 
 -- ---- a walk as bytes
 
@@ -67,12 +67,13 @@ walkOpenCall word packet names walker = settled (walkOpenFault word packet names
 -- what a step tells C: 1 and the item's depth and values; at the end zeros, and the bytes of padding in the place of the value's
 unfoldable pub steppedNumber : Handed → Answer
 steppedNumber (handed.Item v) = granted (1 ∷ v .depth ∷ valuesOf (v .item))
-steppedNumber (handed.End p) = granted (0 ∷ 0 ∷ 0 ∷ 0 ∷ 0 ∷ p .0 ∷ [])
+steppedNumber (handed.End p) = granted (0 ∷ 0 ∷ 0 ∷ 0 ∷ 0 ∷ p .0 ∷ 0 ∷ 0 ∷ [])
 steppedNumber (handed.Refused n) = refused n
 
--- the widths of that: 1 byte and 1 of depth, the name 4, the bits 4, the value's place 8 and its bytes 4
+-- the widths of that: 1 byte and 1 of depth, the name 4, the bits 4, the value's place 8 and its bytes 4; document 02, Item 11: the start 8, the unused
+-- bits 1
 abbrev pub step-widths : List ℕ
-step-widths = 1 ∷ 1 ∷ 4 ∷ 4 ∷ 8 ∷ 4 ∷ []
+step-widths = 1 ∷ 1 ∷ 4 ∷ 4 ∷ 8 ∷ 4 ∷ 8 ∷ 1 ∷ []
 
 -- the step of the walk that the bytes are
 abbrev pub stepped : List ℕ → List ℕ → List ℕ → Walked

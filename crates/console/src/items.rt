@@ -17,10 +17,16 @@ pub(crate) fn answer(line: &[u8], out: &mut [u8]) -> usize
         return answer_item(line, out);
     }
     if words::asks_or_more(line, b"items", 1) {
-        return answer_items(line, out);
+        return answer_items(line, out, false);
+    }
+    if words::asks_or_more(line, b"itemsat", 1) {
+        return answer_items(line, out, true);
     }
     if words::asks_or_more(line, b"walk", 2) {
-        return answer_walk(line, out);
+        return answer_walk(line, out, false);
+    }
+    if words::asks_or_more(line, b"walkat", 2) {
+        return answer_walk(line, out, true);
     }
     finding::answer(line, out)
 }
@@ -52,8 +58,9 @@ fn answer_item(line: &[u8], out: &mut [u8]) -> usize
     )
 }
 
-// `items PACKET [once|repeat]` is answered `items NAME:BITS:VALUE .. end PADDING`, or `refused N`.
-fn answer_items(line: &[u8], out: &mut [u8]) -> usize
+// `items PACKET [once|repeat]` is answered `items NAME:BITS:VALUE .. end PADDING`, or `refused N`; `itemsat`, with `placed`, has
+// `START:UNUSED:` before each NAME.
+fn answer_items(line: &[u8], out: &mut [u8], placed: bool) -> usize
     ensures { λ r. ⌜ Wrote (now (out .entry)) 0 r (now (out .exit)) ⌝ }
 {
     let mut packet = [0u8; words::BYTES];
@@ -63,11 +70,11 @@ fn answer_items(line: &[u8], out: &mut [u8]) -> usize
     let Repeating::Of(repeats) = words::repeats_at(line, 2) else {
         return 0;
     };
-    write_items(out, &packet[..n], repeats)
+    write_items(out, &packet[..n], repeats, placed)
 }
 
-// `walk NAMES PACKET [once|repeat]` is answered `walk DEPTH:NAME:BITS .. end PADDING`, or `refused N`.
-fn answer_walk(line: &[u8], out: &mut [u8]) -> usize
+// `walk NAMES PACKET [once|repeat]` is answered `walk DEPTH:NAME:BITS .. end PADDING`, or `refused N`; `walkat` likewise.
+fn answer_walk(line: &[u8], out: &mut [u8], placed: bool) -> usize
     ensures { λ r. ⌜ Wrote (now (out .entry)) 0 r (now (out .exit)) ⌝ }
 {
     let mut names = [0u8; words::BYTES];
@@ -81,7 +88,7 @@ fn answer_walk(line: &[u8], out: &mut [u8]) -> usize
     let Repeating::Of(repeats) = words::repeats_at(line, 3) else {
         return 0;
     };
-    write_walk(out, &packet[..n], &names[..m], repeats)
+    write_walk(out, &packet[..n], &names[..m], repeats, placed)
 }
 
 // The item of a value in the buffer that is lent for it.
@@ -100,18 +107,24 @@ fn make_and_write(
 }
 
 // The items of a packet, or the refusal.
-fn write_items(out: &mut [u8], packet: &[u8], repeats: item::Repeats) -> usize
+fn write_items(out: &mut [u8], packet: &[u8], repeats: item::Repeats, placed: bool) -> usize
     ensures { λ r. ⌜ Wrote (now (out .entry)) 0 r (now (out .exit)) ⌝ }
 {
     let first = reader::first(packet, repeats);
     let item::Step::Refused(by) = first else {
-        return write_steps(out, packet);
+        return write_steps(out, packet, placed);
     };
     replies::refused(out, by)
 }
 
 // The items of a walk, or the refusal.
-fn write_walk(out: &mut [u8], packet: &[u8], names: &[u8], repeats: item::Repeats) -> usize
+fn write_walk(
+    out: &mut [u8],
+    packet: &[u8],
+    names: &[u8],
+    repeats: item::Repeats,
+    placed: bool,
+) -> usize
     ensures { λ r. ⌜ Wrote (now (out .entry)) 0 r (now (out .exit)) ⌝ }
 {
     let opened = walk::open_walk(packet, names, repeats);
@@ -119,7 +132,7 @@ fn write_walk(out: &mut [u8], packet: &[u8], names: &[u8], repeats: item::Repeat
     if by != 0 {
         return replies::refused(out, by);
     }
-    write_visits(out, packet, names, opened)
+    write_visits(out, packet, names, opened, placed)
 }
 
 // How often a reader or a walk can step: each item has a head, and the end comes behind the last. A
@@ -129,7 +142,7 @@ fn turns(packet: &[u8]) -> usize {
 }
 
 // The items of a packet that is not refused, as a reader steps over it, and its padding.
-fn write_steps(out: &mut [u8], packet: &[u8]) -> usize
+fn write_steps(out: &mut [u8], packet: &[u8], placed: bool) -> usize
     ensures { λ r. ⌜ Wrote (now (out .entry)) 0 r (now (out .exit)) ⌝ }
 {
     let mut to = replies::word(out, b"items");
@@ -140,7 +153,7 @@ fn write_steps(out: &mut [u8], packet: &[u8]) -> usize
         let item::Step::Item(i) = step else {
             return write_end(out, to, step);
         };
-        to = write_item(out, to, packet, i);
+        to = write_item(out, to, packet, i, placed);
         at = reader::place_after(packet, at, 0);
         left -= 1;
     }
@@ -148,7 +161,13 @@ fn write_steps(out: &mut [u8], packet: &[u8]) -> usize
 }
 
 // The items of a walk, and the padding of the outer packet.
-fn write_visits(out: &mut [u8], packet: &[u8], names: &[u8], opened: walk::Walker) -> usize
+fn write_visits(
+    out: &mut [u8],
+    packet: &[u8],
+    names: &[u8],
+    opened: walk::Walker,
+    placed: bool,
+) -> usize
     ensures { λ r. ⌜ Wrote (now (out .entry)) 0 r (now (out .exit)) ⌝ }
 {
     let mut to = replies::word(out, b"walk");
@@ -159,7 +178,7 @@ fn write_visits(out: &mut [u8], packet: &[u8], names: &[u8], opened: walk::Walke
         let handed = walked.handed;
         match handed {
             walk::Handed::Item(visit) => {
-                to = write_visit(out, to, visit);
+                to = write_visit(out, to, visit, placed);
             }
             walk::Handed::End(p) => {
                 return replies::labelled(out, to, b" end ", p.0);
@@ -175,33 +194,55 @@ fn write_visits(out: &mut [u8], packet: &[u8], names: &[u8], opened: walk::Walke
 }
 
 // An item behind a blank, with its value.
-fn write_item(out: &mut [u8], at: usize, packet: &[u8], i: item::Item) -> usize
+fn write_item(out: &mut [u8], at: usize, packet: &[u8], i: item::Item, placed: bool) -> usize
     requires { ⌜ at ≤ length (now out) ⌝ }
     ensures { λ r. ⌜ Wrote (now (out .entry)) at r (now (out .exit)) ⌝ }
 {
-    let to = write_head(out, at, b" ", i);
+    let to = write_head(out, at, b" ", i, placed);
     replies::value(out, to, b":", tag::value(packet, i))
 }
 
 // An item of a walk behind a blank and its depth.
-fn write_visit(out: &mut [u8], at: usize, visit: walk::Visit) -> usize
+fn write_visit(out: &mut [u8], at: usize, visit: walk::Visit, placed: bool) -> usize
     requires { ⌜ at ≤ length (now out) ⌝ }
     ensures { λ r. ⌜ Wrote (now (out .entry)) at r (now (out .exit)) ⌝ }
 {
     let to = replies::labelled(out, at, b" ", visit.depth);
     let i = visit.item;
-    write_head(out, to, b":", i)
+    write_head(out, to, b":", i, placed)
 }
 
-// The name and the bits of an item behind a label.
-fn write_head(out: &mut [u8], at: usize, label: &[u8], i: item::Item) -> usize
+// The name and the bits of an item behind a label, and where it is asked for its place before them.
+fn write_head(out: &mut [u8], at: usize, label: &[u8], i: item::Item, placed: bool) -> usize
     requires { ⌜ at ≤ length (now out) ⌝ }
     ensures { λ r. ⌜ Wrote (now (out .entry)) at r (now (out .exit)) ⌝ }
 {
     let name = base::bytes4(i.name);
-    let mut to = text::plain(out, at, label);
+    let mut to = write_label(out, at, label, i, placed);
     to = text::hex(out, to, &name);
     replies::labelled(out, to, b":", i.bits.0 as usize)
+}
+
+// A label, and where it is asked for an item's place behind it.
+fn write_label(out: &mut [u8], at: usize, label: &[u8], i: item::Item, placed: bool) -> usize
+    requires { ⌜ at ≤ length (now out) ⌝ }
+    ensures { λ r. ⌜ Wrote (now (out .entry)) at r (now (out .exit)) ⌝ }
+{
+    let to = text::plain(out, at, label);
+    if placed {
+        return write_place(out, to, i, b":");
+    }
+    to
+}
+
+// Where an item began: its start and its unused bits, each with a gap behind it.
+pub(crate) fn write_place(out: &mut [u8], at: usize, i: item::Item, gap: &[u8]) -> usize
+    requires { ⌜ at ≤ length (now out) ⌝ }
+    ensures { λ r. ⌜ Wrote (now (out .entry)) at r (now (out .exit)) ⌝ }
+{
+    let mut to = text::decimal(out, at, i.start);
+    to = replies::labelled(out, to, gap, i.unused.0 as usize);
+    text::plain(out, to, gap)
 }
 
 // The padding behind the last item; a packet that was opened has no other end.

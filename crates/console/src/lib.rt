@@ -22,14 +22,15 @@ ghost use Rattle.text_rules.specs.Wrote.{Wrote};
 pub const LINE: usize = 2 * words::BYTES + 512;
 
 // A buffer as long as this holds every answer, and a program lends one. Of an answer that does not fit
-// a shorter buffer, what fits is written. The answer to `walk` has `walk`, for each item at most 18
-// letters, as in ` 0:6162635f:262080`, and ` end 0`, and each item has a head of 8 bytes of its own. No
-// other answer may be as long: that to `items` has at most 2 letters for each byte of the packet and 13
-// more, which are `items`, ` end 0`, and one for each item of over 99,999 bits, of which there are two at
-// most (with 5 digits, a head of 8 bytes has 16 letters, as in ` 6162635f:80000:`). That to `endure` has
-// at most 4 letters for each of 256 fragments. The rest have 2 letters for each byte that they tell of,
-// and fewer than 100 more, or list a packet of at most 8,192 bytes.
-pub const ANSWER: usize = 18 * (words::BYTES / 8) + 10;
+// a shorter buffer, what fits is written. The answer to `walkat` has `walk`, for each item at most 26
+// letters, as in ` 0:32760:7:6162635f:262080`, and ` end 0`, and each item has a head of 8 bytes of its
+// own. No other answer may be as long: that to `itemsat` has `items`, ` end 0`, for each head at most 25
+// letters, as in ` 32760:7:6162635f:262080:`, and for each byte of a value at most 2, where 26 for each 8
+// bytes are more than 3; `items` is a letter longer than `walk`, and a head without a value has 5 fewer
+// than 26. Those to `walk` and `items` have no more. That to `endure` has at most 4 letters for each of
+// 256 fragments. The rest have 2 letters for each byte that they tell of, and fewer than 100 more, or
+// list a packet of at most 8,192 bytes.
+pub const ANSWER: usize = 26 * (words::BYTES / 8) + 10;
 
 // A seat: what the receiver's questions leave for the next line. One of zeros holds a fresh table. With a seat of
 // another length the receiver's questions are unknown.

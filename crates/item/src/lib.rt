@@ -10,7 +10,7 @@ ghost use mathlib.Core.Bool.{false, _&&_};
 ghost use Prim.Native.Nat.{_%_, _<_};
 ghost use lib.ListN.{replicate};
 ghost use Rattle.base_rules.specs.Answer.{granted};
-ghost use Rattle.item_rules.specs.Item.{bytesFor, stepIn, numberOf, stepCall};
+ghost use Rattle.item_rules.specs.Item.{bytesFor, unusedOf, stepIn, numberOf, stepCall};
 ghost use Rattle.item_rules.specs.Run.{runOf, firstOf, firstValues, foundNumber, badPtr, faultOf, forbids, isBefore, slots};
 
 // The bytes before a value.
@@ -34,6 +34,14 @@ pub fn bytes_of(bits: Bits) -> Bytes
     Bytes((bits.0 as usize + 7) / 8)
 }
 
+// The bits of its last byte that a value of so many bits leaves unused; one of no bits has no last byte, and leaves none.
+pub fn unused_of(bits: Bits) -> Bits
+    ensures { λ r. ⌜ r .0 ≡ unusedOf (bits .0) ⌝ }
+{
+    let n = bytes_of(bits);
+    Bits((8 * n.0 - bits.0 as usize) as u32)
+}
+
 // What stands at `at` in the packet that ends before `end`.
 pub fn step_in(s: &[u8], at: usize, end: usize) -> Step
     ensures { λ r. ⌜ (r ≡ stepIn (now (s .entry)) at end) × (numberOf r ≡ stepCall (now (s .entry)) at end) ⌝ }
@@ -51,11 +59,15 @@ pub fn step_in(s: &[u8], at: usize, end: usize) -> Step
     if left - HEAD < len.0 {
         return Step::Refused(30);
     }
+    let unused = unused_of(bits);
+    let from = at + HEAD;
     Step::Item(Item {
         name,
         bits,
-        from: at + HEAD,
+        from,
         len,
+        start: at,
+        unused,
     })
 }
 

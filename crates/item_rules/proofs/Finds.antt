@@ -31,7 +31,7 @@ module _ (s : List ℕ) (name end : ℕ) where
   nth-stands k at =
       every-run s end Stand
       (λ b j e behind. item-by (eqb (j .name) name) j (namedIn name (runOf s (nextOf j) end)) (record { at = b; here = e }) behind)
-      (λ b p few k i q. absurd (zero-one (cc))) (λ b k i q. absurd (zero-one (cc))) at k
+      (λ b p few left k i q. absurd (zero-one (cc))) (λ b k i q. absurd (zero-one (cc))) at k
 
   -- so is the first
   pub found-stands : (i : Item) (at : ℕ) → firstOf name (runOf s at end) ≡ found.At i → Stands s end i

@@ -82,7 +82,7 @@ module _ (s : List ℕ) (name end : ℕ) where
   leads : (at : ℕ) → Leads at (runOf s at end)
   unfolding firstOf namedIn
   leads =
-      every-run s end Leads (λ at j e behind. item-by (eqb (j .name) name) at j e behind) (λ at p few i q. absurd (zero-one (cc)))
+      every-run s end Leads (λ at j e behind. item-by (eqb (j .name) name) at j e behind) (λ at p few left i q. absurd (zero-one (cc)))
       (λ at i q. absurd (zero-one (cc)))
 
   -- fewer bytes are left behind it

@@ -7,19 +7,30 @@ use Rattle.item_rules.specs.declared.Found.the-variants as found
 use Rattle.item_rules.specs.Item.{valuesOf, numberOf}
 use Rattle.item_rules.specs.Run.{foundNumber}
 use Rattle.item_rules.specs.Claims.{OneStep, OneFound, FirstIsNth, AsItWas, Twice, NeverTwice}
+use Rattle.item_rules.specs.Claims.{StartsAt, RawItem, UnusedIs}
 use Rattle.item_rules.proofs.Occurrences as occurrences
 use Rattle.item_rules.proofs.Repeated as repeated
+use Rattle.item_rules.proofs.Starts as starts
 
 -- an item is what it tells
-abbrev made : ℕ → ℕ → ℕ → ℕ → Item
-made name bits from len = record { name = name; bits = record { 0 = bits }; from = from; len = record { 0 = len } }
+abbrev made : ℕ → ℕ → ℕ → ℕ → ℕ → ℕ → Item
+made name bits from len start unused = record {
+  name = name;
+  bits = record { 0 = bits };
+  from = from;
+  len = record { 0 = len };
+  start = start;
+  unused = record { 0 = unused };
+}
 
-same : (n n′ b b′ f f′ l l′ : ℕ) → n ≡ n′ → b ≡ b′ → f ≡ f′ → l ≡ l′ → made n b f l ≡ made n′ b′ f′ l′
-same n n′ b b′ f f′ l l′ p q r s = cc
+same : (n n′ b b′ f f′ l l′ s s′ u u′ : ℕ) → n ≡ n′ → b ≡ b′ → f ≡ f′ → l ≡ l′ → s ≡ s′ → u ≡ u′ → made n b f l s u ≡ made n′ b′ f′ l′ s′ u′
+same n n′ b b′ f f′ l l′ s s′ u u′ p q r t v w = cc
 
-one-item : (i j : Item) → valuesOf i ≡ valuesOf j → i ≡ j
+-- so no two items tell the same
+pub one-item : (i j : Item) → valuesOf i ≡ valuesOf j → i ≡ j
 one-item i j e =
-    same (i .name) (j .name) (i .bits .0) (j .bits .0) (i .from) (j .from) (i .len .0) (j .len .0) (cc) (cc) (cc) (cc)
+    same (i .name) (j .name) (i .bits .0) (j .bits .0) (i .from) (j .from) (i .len .0) (j .len .0) (i .start) (j .start) (i .unused .0) (j .unused .0)
+    (cc) (cc) (cc) (cc) (cc) (cc)
 
 -- no two answers of a step have the same number and values
 pub one-step : OneStep
@@ -57,3 +68,15 @@ twice = repeated.faults-twice
 -- and none where they may
 pub never-twice : NeverTwice
 never-twice = repeated.faults-never
+
+-- an item that a step hands out starts where the step was made, spelt by the bytes from there on,
+pub starts-at : StartsAt
+starts-at = starts.starts-at
+
+-- which are its name, its bits and its value,
+pub raw-item : RawItem
+raw-item = starts.raw-item
+
+-- and its unused bits fill the last of them
+pub unused-is : UnusedIs
+unused-is = starts.unused-is

@@ -42,7 +42,7 @@ pub faults-never : NeverTwice
 unfolding faultsOf forbids
 faults-never s at end =
     every-run s end (λ (at : ℕ) (r : Run). (seen : List ℕ) → faultsOf Allowed seen r ≡ 31 → ⊥)
-    (λ at i e behind seen. or-never 31 (faultOf false i) _ (fault-never i) (behind (i .name ∷ seen))) (λ at p few seen q. omega arith)
+    (λ at i e behind seen. or-never 31 (faultOf false i) _ (fault-never i) (behind (i .name ∷ seen))) (λ at p few left seen q. omega arith)
     (λ at seen q. omega arith) at
 
 -- where the leftmost item at fault is not so for its name, it is so with either word

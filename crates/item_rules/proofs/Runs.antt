@@ -12,7 +12,7 @@ use Rattle.item_rules.specs.declared.Step.the-variants as step
 use Rattle.item_rules.specs.declared.Found.the-variants as found
 use Rattle.item_rules.specs.Item.{head, stepIn, itemAt}
 use Rattle.item_rules.specs.Run.{Run, item, padding, refused, onStep, nextOf, runIn, runOf, firstOf}
-use Rattle.item_rules.proofs.Steps.{item-fits, item-at, end-few, step-none, refused-is}
+use Rattle.item_rules.proofs.Steps.{item-fits, item-at, end-left, end-few, step-none, refused-is}
 
 -- an item's value begins behind its head, and what is left after it is less
 pub item-begins : (s : List ℕ) (at end : ℕ) (i : Item) → stepIn s at end ≡ step.Item i → i .from ≡ at + head
@@ -65,13 +65,13 @@ pub record Stands (s : List ℕ) (end : ℕ) (i : Item) : Type 0 where
   pub at : ℕ
   pub here : stepIn s at end ≡ step.Item i
 
--- what holds wherever padding of 7 or fewer bytes stands, or an item that passes the end, and at an item where it holds behind it,
+-- what holds wherever padding of 7 or fewer bytes stands, all that is left, or an item that passes the end, and at an item where it holds behind it,
 module _ (s : List ℕ) (end : ℕ) (P : ℕ → Run → Type 0)
     (more : (at : ℕ) (i : Item) → stepIn s at end ≡ step.Item i → P (nextOf i) (runOf s (nextOf i) end) → P at (item i (runOf s (nextOf i) end)))
-    (ends : (at p : ℕ) → p < head → P at (padding p)) (overrun : (at : ℕ) → P at (refused 30)) where
+    (ends : (at p : ℕ) → p < head → p ≡ end - at → P at (padding p)) (overrun : (at : ℕ) → P at (refused 30)) where
   step-by : (at : ℕ) → ((b : ℕ) → end - b < end - at → P b (runOf s b end)) → (t : Step) → stepIn s at end ≡ t → P at (runOf s at end)
   step-by at behind (step.Item i) e = subst (P at) (sym (run-item s at end i e)) (more at i e (behind (nextOf i) (falls s at end i e)))
-  step-by at behind (step.End p) e = subst (P at) (sym (run-end s at end p e)) (ends at (p .0) (end-few s at end p e))
+  step-by at behind (step.End p) e = subst (P at) (sym (run-end s at end p e)) (ends at (p .0) (end-few s at end p e) (end-left s at end p e))
   step-by at behind (step.Refused n) e =
       subst (P at) (sym (run-refused s at end n e ∙ ap refused (refused-is s at end n e))) (overrun at)
 

@@ -1,7 +1,7 @@
 -- What `stepIn` is, by what the tests say.
 use Prim.Native.Nat.{ℕ, _+_, _-_, _≤_, _<_}
 use mathlib.Core.List.{List}
-use mathlib.Core.Path.{_≡_, refl}
+use mathlib.Core.Path.{_≡_, refl, sym, ap}
 use native.Mathlib.Omega.{arith}
 use mathlib.Core.Bool.{Bool, true, false, cond}
 use lib.Dec.{ltb, leb}
@@ -10,14 +10,26 @@ use Rattle.item_rules.specs.declared.Bytes.{Bytes}
 use Rattle.item_rules.specs.declared.Item.{Item}
 use Rattle.item_rules.specs.declared.Step.the-variants as step
 use Rattle.base_rules.specs.Bytes.{numberAt}
-use Rattle.item_rules.specs.Item.{head, bytesFor, itemAt, stepIn}
+use Rattle.item_rules.specs.Item.{head, bytesFor, unusedOf, itemAt, stepIn}
+
+-- where 8 bytes or more are left, and as many as the item takes, it stands there
+pub stands-item : (s : List ℕ) (at end : ℕ) → 8 ≤ end - at → 8 + bytesFor (numberAt 4 s (at + 4)) ≤ end - at → stepIn s at end ≡ step.Item (itemAt s at)
+unfolding stepIn
+stands-item s at end h f = simp (le-ltb _ _ h, le-leb _ _ f)
 
 -- an item of these fields is what stands there
-pub is-item : (s : List ℕ) (at end name bits len : ℕ) → 8 ≤ end - at → name ≡ numberAt 4 s at → bits ≡ numberAt 4 s (at + 4)
-    → len ≡ bytesFor bits → 8 + len ≤ end - at
-    → step.Item (record { name = name; bits = record { 0 = bits }; from = at + head; len = record { 0 = len } }) ≡ stepIn s at end
-unfolding stepIn itemAt
-is-item s at end name bits len h n b l f = rw (n, l, b) (simp (le-ltb _ _ h, le-leb _ _ (rw (l, b) at f)))
+pub is-item : (s : List ℕ) (at end name bits len unused : ℕ) → 8 ≤ end - at → name ≡ numberAt 4 s at → bits ≡ numberAt 4 s (at + 4)
+    → len ≡ bytesFor bits → unused ≡ unusedOf bits → 8 + len ≤ end - at
+    → step.Item (record {
+      name = name;
+      bits = record { 0 = bits };
+      from = at + head;
+      len = record { 0 = len };
+      start = at;
+      unused = record { 0 = unused };
+    }) ≡ stepIn s at end
+unfolding itemAt
+is-item s at end name bits len unused h n b l u f = rw (n, l, u, b) (sym (stands-item s at end h (rw (l, b) at f)))
 
 -- where 8 bytes or more are left, but fewer than the item takes, it is refused as 30 OVERRUN
 pub is-overrun : (s : List ℕ) (at end bits len : ℕ) → 8 ≤ end - at → bits ≡ numberAt 4 s (at + 4) → len ≡ bytesFor bits → end - at < 8 + len
@@ -54,7 +66,14 @@ few-by true b′ j p q e = (refl, cc)
 few-by false true j p q e = absurd (zero-one (cc))
 few-by false false j p q e = absurd (zero-one (cc))
 
--- padding has 7 bytes or fewer, less than an item's head
+-- padding is what is left,
+pub end-left : (s : List ℕ) (at end : ℕ) (p : Bytes) → stepIn s at end ≡ step.End p → p .0 ≡ end - at
+unfolding stepIn
+end-left s at end p e =
+    ap (λ (q : Bytes). q .0)
+    (few-by (ltb (end - at) 8) (leb (8 + bytesFor (numberAt 4 s (at + 4))) (end - at)) (itemAt s at) (record { 0 = end - at }) p e .1)
+
+-- and has 7 bytes or fewer, less than an item's head
 pub end-few : (s : List ℕ) (at end : ℕ) (p : Bytes) → stepIn s at end ≡ step.End p → p .0 < head
 unfolding stepIn
 end-few s at end p e =

@@ -6,12 +6,15 @@ pub struct Bits(pub u32);
 // A length in bytes, as a value is counted.
 pub struct Bytes(pub usize);
 
-// An item of a packet: its name as a big-endian number, its length, and the place of its value in the lent packet.
+// An item of a packet: its name as a big-endian number, its length, and the place of its value in the lent packet; the byte of that packet at which
+// it starts, with its name, and the bits of its last byte that are unused.
 pub struct Item {
     pub name: u32,
     pub bits: Bits,
     pub from: usize,
     pub len: Bytes,
+    pub start: usize,
+    pub unused: Bits,
 }
 
 // What stands at a position: an item, the end with so many bytes of padding, or an item that is refused.

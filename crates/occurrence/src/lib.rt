@@ -7,7 +7,7 @@ use tag::Sought;
 ghost use mathlib.Core.Path.{_≡_};
 ghost use Rattle.item_rules.specs.Run.{nthOf};
 ghost use Rattle.tag_rules.specs.Find.{wholeRun, locateNthOf, NthPartShown};
-ghost use Rattle.tag_rules.specs.Calls.{soughtNumber, searchNthCall, locatedNumber, locateNthCall};
+ghost use Rattle.tag_rules.specs.Calls.{soughtNumber, locatedNumber, locateNthCall};
 
 // The occurrence of that name and number in a packet: one pass, in which the number is counted down.
 fn nth_in(packet: &[u8], name: u32, number: usize) -> Found
@@ -52,9 +52,9 @@ pub fn locate_nth(packet: &[u8], repeats: Repeats, name: u32, number: usize) -> 
     }
 }
 
-// Searches for an occurrence of a name in the packet alone, and answers its bits or the refusal.
+// Searches for an occurrence of a name in the packet alone, and answers it, which is never one of a standing packet, or the refusal.
 pub fn search_nth(packet: &[u8], repeats: Repeats, name: u32, number: usize) -> Sought
-    ensures { λ r. ⌜ soughtNumber r ≡ searchNthCall repeats (now (packet .entry)) name number ⌝ }
+    ensures { λ r. ⌜ soughtNumber r ≡ locateNthCall repeats (now (packet .entry)) name number ⌝ }
 {
     let l = locate_nth(packet, repeats, name, number);
     tag::sought(l)

@@ -3,17 +3,15 @@ use item::Found;
 use item::Item;
 use item::Repeats;
 use item::Step;
+pub use tag_rules::Hit;
 pub use tag_rules::Located;
 pub use tag_rules::Opened;
 pub use tag_rules::Sought;
 ghost use mathlib.Core.Path.{_≡_};
-ghost use mathlib.Core.List.{[], _∷_};
 ghost use denote.Ref.{ptr};
-ghost use Rattle.base_rules.specs.Answer.{granted};
 ghost use Rattle.item_rules.specs.Item.{numberOf};
 ghost use Rattle.tag_rules.specs.Find.{checkOf, locateOf, valueOf, valuePlace, PartShown};
-ghost use Rattle.tag_rules.specs.Calls.{openedNumber, openCall, readOf, readCall, afterOf, soughtNumber, searchCall, locatedNumber, locateCall};
-ghost use Rattle.tag_rules.specs.Calls.{searchAnswer};
+ghost use Rattle.tag_rules.specs.Calls.{openedNumber, openCall, readOf, readCall, afterOf, soughtNumber, locatedNumber, locateCall};
 
 // The number of the leftmost item at fault of a whole packet, or 0. A name whose slot has no mark has not stood before, so that few names are
 // searched for; where names may repeat none is.
@@ -121,28 +119,26 @@ pub fn value(packet: &[u8], i: Item) -> &[u8]
     &packet[from..end]
 }
 
-// What is told of an item found.
-fn found(i: Item) -> Sought
-    ensures { λ r. ⌜ soughtNumber r ≡ granted (i .bits .0 ∷ []) ⌝ }
-{
-    let bits = i.bits;
-    Sought::Found(bits)
-}
-
-// What a search tells of where a name is: the bits of the item there, or the refusal.
+// What a search answers where a name is there: which packet, and the item; or the refusal.
 pub fn sought(l: Located) -> Sought
-    ensures { λ r. ⌜ soughtNumber r ≡ searchAnswer l ⌝ }
+    ensures { λ r. ⌜ soughtNumber r ≡ locatedNumber l ⌝ }
 {
     match l {
-        Located::Packet(i) => found(i),
-        Located::Standing(i) => found(i),
+        Located::Packet(item) => Sought::Found(Hit {
+            standing: false,
+            item,
+        }),
+        Located::Standing(item) => Sought::Found(Hit {
+            standing: true,
+            item,
+        }),
         Located::Refused(n) => Sought::Refused(n),
     }
 }
 
-// Searches for a name in the packet, then in the standing packet, and answers its bits or the refusal.
+// Searches for a name in the packet, then in the standing packet, and answers which has it and the item there, or the refusal.
 pub fn search(packet: &[u8], standing: &[u8], repeats: Repeats, name: u32) -> Sought
-    ensures { λ r. ⌜ soughtNumber r ≡ searchCall repeats (now (packet .entry)) (now (standing .entry)) name ⌝ }
+    ensures { λ r. ⌜ soughtNumber r ≡ locateCall repeats (now (packet .entry)) (now (standing .entry)) name ⌝ }
 {
     let l = locate(packet, standing, repeats, name);
     sought(l)

@@ -3,6 +3,7 @@ use Prim.Native.Nat.{ℕ, _≤_}
 use mathlib.Core.List.{List}
 use mathlib.Core.Path.{_≡_, refl, _∙_}
 use mathlib.Core.Bool.{Bool, true, false, cond}
+use native.Mathlib.Nat.{le-refl}
 use native.Mathlib.Omega.{arith}
 use lib.Dec.{eqb}
 use lib.ListN.{length, drop, length-drop}
@@ -16,6 +17,7 @@ use Rattle.item_rules.specs.Run.{nextOf, firstOf, nthOf}
 use Rattle.item_rules.proofs.Steps.{item-fits, item-at, zero-one}
 use Rattle.item_rules.proofs.Runs.{item-begins}
 use Rattle.item_rules.proofs.Finds.{found-stands, nth-stands}
+use Rattle.item_rules.proofs.Proved.{starts-at}
 use Rattle.tag_rules.specs.declared.Located.the-variants as located
 use Rattle.tag_rules.specs.Find.{wholeRun, checkOf, inPacket, inStanding, locateOf, locateNthOf, valueOf}
 use Rattle.tag_rules.specs.Claims.{Shown, FoundShown, NthShown}
@@ -26,7 +28,11 @@ unfolding valueOf itemAt
 shown s at i e =
     let fits : nextOf i ≤ length s = omega (arith, item-begins _ _ _ _ e, item-fits _ _ _ _ e) in
     let sized : i .len .0 ≡ bytesFor (i .bits .0) = rw (item-at s at (length s) i e) refl in
-    record { inside = fits; whole = length-take-le (i .len .0) (drop (i .from) s) (omega (arith, length-drop (i .from) s)) ∙ sized }
+    record {
+      starts = starts-at s at (length s) i (le-refl (length s)) e .0;
+      inside = fits;
+      whole = length-take-le (i .len .0) (drop (i .from) s) (omega (arith, length-drop (i .from) s)) ∙ sized;
+    }
 
 -- one that a search by name finds
 found-shown : (s : List ℕ) (name : ℕ) (i : Item) → firstOf name (wholeRun s) ≡ found.At i → Shown s i

@@ -145,7 +145,7 @@ occurs-by (i ∷ l) (suc k) = simp (one-more (length l) k) (occurs-by l k)
 
 module _ (w : Repeats) (s : List ℕ) (name number : ℕ) where
   -- the number of where an occurrence is is the fault of the packet, or else 34
-  nth-number : locatedNumber (locateNthOf w s name number) ≡ locateNthCall w s name number
+  pub nth-number : locatedNumber (locateNthOf w s name number) ≡ locateNthCall w s name number
   unfolding locateNthOf locateNthCall nthFault nthOf nthValues locatedNumber
   nth-number = else-number locatedNumber _ (located.Refused (checkOf w s)) (checkOf w s) _ _ (occurs-by (namedIn name (wholeRun s)) number) refl
 

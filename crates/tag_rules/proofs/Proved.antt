@@ -1,18 +1,22 @@
 -- The claims of specs/Claims.antt, each by citation. Assumes nothing.
 use Prim.Native.Nat.{ℕ, zero, suc}
 use mathlib.Core.Path.{_≡_, refl, sym, ap, _∙_}
+use mathlib.Core.Bool.{Bool}
 use mathlib.Core.List.{[], _∷_}
 use native.Mathlib.Nat.{le-refl}
 use lib.Dec.{eqb}
 use lib.ListN.{take, replicate}
 use borrow.Author.Tests.{eqb-true, eqb-false}
-use Rattle.base_rules.specs.Answer.{granted, answered}
-use Rattle.base_rules.proofs.Logic.{either}
+use Rattle.base_rules.specs.Answer.{answered}
+use Rattle.base_rules.specs.Tests.{bit}
+use Rattle.base_rules.proofs.Logic.{either, bit-one}
 use Rattle.item_rules.specs.declared.Item.{Item}
 use Rattle.item_rules.specs.declared.Step.{Step}
 use Rattle.item_rules.specs.declared.Step.the-variants as step
-use Rattle.item_rules.specs.Item.{valuesOf, numberOf}
-use Rattle.item_rules.proofs.Proved.{one-step}
+use Rattle.item_rules.specs.Item.{valuesOf}
+use Rattle.item_rules.proofs.Proved.{one-item}
+use Rattle.item_rules.proofs.Starts.{item-starts}
+use Rattle.tag_rules.specs.declared.Hit.{Hit}
 use Rattle.tag_rules.specs.declared.Located.the-variants as located
 use Rattle.tag_rules.specs.declared.Opened.{Opened}
 use Rattle.tag_rules.specs.declared.Opened.the-variants as opened
@@ -22,7 +26,7 @@ use Rattle.tag_rules.specs.Calls.{openedNumber, openCall, soughtNumber, 
 use Rattle.tag_rules.specs.Reading.{startOf, refusalOf, checkedRun, itemsOf, lastOf}
 use Rattle.tag_rules.specs.Claims.{OneOpened, OneSought, OneLocated, Opens, InOrder, Ends, StaysAtEnd, StaysRefused, ReadShown, FoundShown}
 use Rattle.tag_rules.specs.Claims.{NoTwice, AcceptedStill, FoundStill, NthStill, StandingRefused, FoundNotTwice, NthNotTwice}
-use Rattle.tag_rules.specs.Claims.{NthBeyond, NthRefused, FindsFirst, StandingAside, NthShown}
+use Rattle.tag_rules.specs.Claims.{NthBeyond, NthRefused, FindsFirst, StandingAside, NthShown, ReadStarts, InARow}
 use Rattle.tag_rules.proofs.Reading.{handed-stands, after-is, refused-reads, refused-after}
 use Rattle.tag_rules.proofs.HandedOut.{stays, repeats, hands-run}
 use Rattle.tag_rules.proofs.Endings as endings
@@ -36,17 +40,19 @@ one-opened (opened.At a) (opened.Refused m) e = cc
 one-opened (opened.Refused n) (opened.At b) e = cc
 one-opened (opened.Refused n) (opened.Refused m) e = cc
 
+-- a finding is which packet it names and what its item tells
+one-hit : (a b : Hit) → bit (a .standing) ≡ bit (b .standing) → valuesOf (a .item) ≡ valuesOf (b .item) → a ≡ b
+one-hit a b p q = same (bit-one (a .standing) (b .standing) p) (one-item (a .item) (b .item) q)
+  where
+    same : {s s′ : Bool} {i i′ : Item} → s ≡ s′ → i ≡ i′ → _≡_ {A = Hit} (record { standing = s; item = i }) (record { standing = s′; item = i′ })
+    same p q = cc
+
 pub one-sought : OneSought
 unfolding soughtNumber
-one-sought (sought.Found a) (sought.Found b) e = ap (λ (n : ℕ). sought.Found (record { 0 = n })) (let z : a .0 ≡ b .0 = cc in z)
+one-sought (sought.Found a) (sought.Found b) e = ap sought.Found (one-hit a b (cc) (cc))
 one-sought (sought.Found a) (sought.Refused m) e = cc
 one-sought (sought.Refused n) (sought.Found b) e = cc
 one-sought (sought.Refused n) (sought.Refused m) e = cc
-
--- an item is what it tells
-one-item : (i j : Item) → valuesOf i ≡ valuesOf j → i ≡ j
-unfolding numberOf
-one-item i j e = let steps : step.Item i ≡ step.Item j = one-step (step.Item i) (step.Item j) (ap granted e) in cc
 
 pub one-located : OneLocated
 unfolding locatedNumber
@@ -137,3 +143,11 @@ standing-aside = repeated.standing-aside
 
 pub nth-shown : NthShown
 nth-shown = inside.nth-in
+
+-- an item that is handed out starts where the reader stands,
+pub read-starts : ReadStarts
+read-starts s at refusal i e = item-starts s at _ i (handed-stands s at refusal i e)
+
+-- and those of a packet follow each other without a gap
+pub in-a-row : InARow
+in-a-row = endings.in-a-row

@@ -1,6 +1,6 @@
 -- Where a search ends, by what the checks and the two searches say. Assumes nothing.
 use Prim.Native.Nat.{ℕ}
-use mathlib.Core.List.{List, [], _∷_}
+use mathlib.Core.List.{List, _∷_}
 use mathlib.Core.Path.{_≡_, refl, sym, ap, _∙_}
 use borrow.Author.Tests.{eq-eqb, ne-eqb}
 use Rattle.base_rules.specs.Answer.{granted}
@@ -8,13 +8,14 @@ use Rattle.item_rules.specs.declared.Item.{Item}
 use Rattle.item_rules.specs.declared.Repeats.{Repeats}
 use Rattle.item_rules.specs.declared.Found.{Found}
 use Rattle.item_rules.specs.declared.Found.the-variants as found
+use Rattle.item_rules.specs.Item.{valuesOf}
 use Rattle.item_rules.specs.Run.{firstOf, nthOf}
 use Rattle.tag_rules.specs.declared.Located.the-variants as located
 use Rattle.tag_rules.specs.declared.Opened.{Opened}
 use Rattle.tag_rules.specs.declared.Opened.the-variants as opened
 use Rattle.tag_rules.specs.Find.{wholeRun, checkOf, inPacket, inStanding, locateOf, locateNthOf, valueOf, shownBy}
-use Rattle.tag_rules.specs.Calls.{openedNumber, openCall, searchAnswer, searchCall, searchNthCall}
-use Rattle.tag_rules.proofs.Numbers.{granted-by, refused-by}
+use Rattle.tag_rules.specs.Calls.{openedNumber, openCall, locatedNumber, locateCall, locateNthCall}
+use Rattle.tag_rules.proofs.Numbers.{granted-by, refused-by, locate-number, nth-number}
 
 module _ (w : Repeats) (s t : List ℕ) (name : ℕ) where
   -- the packet is refused,
@@ -34,13 +35,13 @@ module _ (w : Repeats) (s t : List ℕ) (name : ℕ) where
   unfolding locateOf
   is-located n m f g p z q y a b = simp (eq-eqb (checkOf w s) 0 (sym p ∙ z), eq-eqb (checkOf w t) 0 (sym q ∙ y), a, b)
 
-  -- so a search that finds the name in the packet answers its bits, and shows its value
+  -- so a search that finds the name in the packet answers what the item there tells, and shows its value
   pub found-here : (i : Item) → checkOf w s ≡ 0 → checkOf w t ≡ 0 → firstOf name (wholeRun s) ≡ found.At i
-      → (searchCall w s t name ≡ granted (i .bits .0 ∷ [])) × (shownBy s t (locateOf w s t name) ≡ valueOf s i)
-  unfolding searchCall searchAnswer
+      → (locateCall w s t name ≡ granted (0 ∷ valuesOf i)) × (shownBy s t (locateOf w s t name) ≡ valueOf s i)
+  unfolding locatedNumber
   found-here i z y a =
       let at = is-located 0 0 (found.At i) (firstOf name (wholeRun t)) (sym z) refl (sym y) refl a refl in
-      (ap searchAnswer at, ap (shownBy s t) at)
+      (sym (locate-number w s t name) ∙ ap locatedNumber at, ap (shownBy s t) at)
 
 -- ---- where a search for an occurrence ends
 
@@ -67,10 +68,10 @@ module _ (w : Repeats) (s : List ℕ) (name number : ℕ) where
   unfolding openedNumber openCall
   nth-opened o at f e q a = is-nth 0 f (sym (granted-by (checkOf w s) _ _ (sym (ap openedNumber q) ∙ e))) refl a
 
-  -- so a search that finds the occurrence answers its bits, and shows its value
+  -- so a search that finds the occurrence answers what it tells, and shows its value
   pub nth-found : (i : Item) → checkOf w s ≡ 0 → nthOf name number (wholeRun s) ≡ found.At i
-      → (searchNthCall w s name number ≡ granted (i .bits .0 ∷ [])) × (shownBy s s (locateNthOf w s name number) ≡ valueOf s i)
-  unfolding searchNthCall searchAnswer
+      → (locateNthCall w s name number ≡ granted (0 ∷ valuesOf i)) × (shownBy s s (locateNthOf w s name number) ≡ valueOf s i)
+  unfolding locatedNumber
   nth-found i z a =
       let at = is-nth 0 (found.At i) (sym z) refl a in
-      (ap searchAnswer at, ap (shownBy s s) at)
+      (sym (nth-number w s name number) ∙ ap locatedNumber at, ap (shownBy s s) at)

@@ -5,7 +5,7 @@ use Prim.Native.Nat.{ℕ}
 use lib.Dec.{eqb, leb}
 use lib.ListN.{length}
 use Rattle.base_rules.specs.Answer.{Answer, granted, refused, answered}
-use Rattle.base_rules.specs.Tests.{first}
+use Rattle.base_rules.specs.Tests.{first, bit}
 use Rattle.item_rules.specs.declared.Repeats.{Repeats}
 use Rattle.item_rules.specs.declared.Step.{Step}
 use Rattle.item_rules.specs.declared.Step.the-variants as step
@@ -17,7 +17,7 @@ use Rattle.tag_rules.specs.declared.Opened.{Opened}
 use Rattle.tag_rules.specs.declared.Opened.the-variants as opened
 use Rattle.tag_rules.specs.declared.Sought.{Sought}
 use Rattle.tag_rules.specs.declared.Sought.the-variants as sought
-use Rattle.tag_rules.specs.Find.{wholeRun, checkOf, locateOf, locateNthOf}
+use Rattle.tag_rules.specs.Find.{wholeRun, checkOf}
 
 -- document 01's number and values for each case: a reader opens at a position
 unfoldable pub openedNumber : Opened → Answer
@@ -44,24 +44,11 @@ firstCall w s = answered (checkOf w s) (stepValues s 0 (length s))
 unfoldable pub afterOf : List ℕ → ℕ → ℕ → ℕ
 afterOf s at refusal = onStep (readOf s at refusal) nextOf (λ p. at) (λ n. at)
 
--- document 01's number and values for each case: the bits of the item found
+-- document 01's number and values for each case; document 02, Item 11, "finding also says which": 0 for the packet and 1 for the standing packet, and
+-- what the item there tells
 unfoldable pub soughtNumber : Sought → Answer
-soughtNumber (sought.Found bits) = granted (bits .0 ∷ [])
+soughtNumber (sought.Found h) = granted (bit (h .standing) ∷ valuesOf (h .item))
 soughtNumber (sought.Refused n) = refused n
-
--- document 01: what a search answers, wherever it finds the name
-unfoldable pub searchAnswer : Located → Answer
-searchAnswer (located.Packet i) = granted (i .bits .0 ∷ [])
-searchAnswer (located.Standing i) = granted (i .bits .0 ∷ [])
-searchAnswer (located.Refused n) = refused n
-
--- what a search is answered: the packet first, then the standing packet
-unfoldable pub searchCall : Repeats → List ℕ → List ℕ → ℕ → Answer
-searchCall w s t name = searchAnswer (locateOf w s t name)
-
--- document 02, Item 1: what a search for an occurrence is answered
-unfoldable pub searchNthCall : Repeats → List ℕ → ℕ → ℕ → Answer
-searchNthCall w s name number = searchAnswer (locateNthOf w s name number)
 
 -- document 01's number and values for each case: 0 for the packet and 1 for the standing packet, and what the item there tells
 unfoldable pub locatedNumber : Located → Answer

@@ -1,8 +1,8 @@
--- What document 01 and document 02, Item 1, say of a reader and of a search, as claims: each is proved in proofs/Proved.antt.
+-- What document 01 and document 02, Items 1 and 11, say of a reader and of a search, as claims: each is proved in proofs/Proved.antt.
 use mathlib.Core.Bool.{true, false}
 use mathlib.Core.Path.{_≡_}
 use mathlib.Core.List.{List, _++_}
-use Prim.Native.Nat.{ℕ, _≤_, _<_}
+use Prim.Native.Nat.{ℕ, _+_, _≤_, _<_}
 use lib.ListN.{length, getD, take, replicate}
 use Rattle.item_rules.specs.declared.Bytes.{Bytes}
 use Rattle.item_rules.specs.declared.Item.{Item}
@@ -10,7 +10,8 @@ use Rattle.item_rules.specs.declared.Repeats.{Repeats}
 use Rattle.item_rules.specs.declared.Repeats.the-variants.{Forbidden, Allowed}
 use Rattle.item_rules.specs.declared.Step.the-variants as step
 use Rattle.item_rules.specs.Item.{head, bytesFor}
-use Rattle.item_rules.specs.Run.{Run, nextOf, hasName, namedIn}
+use Rattle.item_rules.specs.Run.{Run, item, padding, nextOf, hasName, namedIn}
+use Rattle.item_rules.specs.Claims.{StartsIn}
 use Rattle.tag_rules.specs.declared.Located.{Located}
 use Rattle.tag_rules.specs.declared.Located.the-variants as located
 use Rattle.tag_rules.specs.declared.Opened.{Opened}
@@ -60,8 +61,10 @@ abbrev pub StaysRefused : Type 0
 StaysRefused = (s : List ℕ) (at refusal : ℕ) → (refusal ≡ 0 → ⊥) → (n : ℕ)
     → (standsAfter n s at refusal ≡ at) × (readOf s (standsAfter n s at refusal) refusal ≡ step.Refused refusal)
 
--- "a value is shown as a part of the caller's bytes": the item lies in s, and its value is shown whole, ceil(bits / 8) bytes
+-- "a value is shown as a part of the caller's bytes": the item lies in s, and its value is shown whole, ceil(bits / 8) bytes; document 02, Item 11:
+-- the byte of s at which it starts is the one that it tells
 pub record Shown (s : List ℕ) (i : Item) : Type 0 where
+  pub starts : StartsIn s i
   pub inside : nextOf i ≤ length s
   pub whole : length (valueOf s i) ≡ bytesFor (i .bits .0)
 
@@ -135,3 +138,19 @@ StandingAside = (w : Repeats) (s : List ℕ) (name number : ℕ) → checkOf w s
 abbrev pub NthShown : Type 0
 NthShown = (w : Repeats) (s : List ℕ) (name number : ℕ) (i : Item)
     → (locateNthOf w s name number ≡ located.Packet i → Shown s i) × (locateNthOf w s name number ≡ located.Standing i → ⊥)
+
+-- ---- document 02, Item 11: where an item began, beside what `Shown` says of it
+
+-- "Stepping to the next item shall also give the byte at which it starts": an item that a reader hands out starts where the reader stands
+abbrev pub ReadStarts : Type 0
+ReadStarts = (s : List ℕ) (at refusal : ℕ) (i : Item) → readOf s at refusal ≡ step.Item i → i .start ≡ at
+
+-- a run from byte `at` to byte `end` without a gap: the first item starts at `at`, each next where the one before ends, and what is left behind the
+-- last is the padding, 7 bytes or fewer
+pub data Row (end : ℕ) : ℕ → Run → Type 0 where
+  next : {at : ℕ} {i : Item} {r : Run} → i .start ≡ at → Row end (nextOf i) r → Row end at (item i r)
+  rest : {at p : ℕ} → at + p ≡ end → p < head → Row end at (padding p)
+
+-- such is every packet that is not refused, from its first byte to its last
+abbrev pub InARow : Type 0
+InARow = (w : Repeats) (s : List ℕ) → checkOf w s ≡ 0 → Row (length s) 0 (wholeRun s)

@@ -1,5 +1,4 @@
 // Clause 5 as definitions: a packet checked whole, read item by item, and searched by name. No functions: crate `tag` has them.
-use item_rules::Bits;
 use item_rules::Found;
 use item_rules::Item;
 
@@ -9,9 +8,15 @@ pub enum Opened {
     Refused(u8),
 }
 
-// What a search answers: the bits of the item found, or the number of the refusal.
+// What a search finds: the item, and whether it stands in the standing packet or in the packet.
+pub struct Hit {
+    pub standing: bool,
+    pub item: Item,
+}
+
+// What a search answers: what it found, or the number of the refusal.
 pub enum Sought {
-    Found(Bits),
+    Found(Hit),
     Refused(u8),
 }
 

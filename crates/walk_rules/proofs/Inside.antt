@@ -15,8 +15,7 @@ use Rattle.item_rules.specs.declared.Step.{Step}
 use Rattle.item_rules.specs.declared.Step.the-variants as step
 use Rattle.item_rules.specs.Item.{stepIn}
 use Rattle.item_rules.specs.Run.{Run, item, padding, refused, nextOf, onStep, runIn, runOf, forbids}
-use Rattle.item_rules.proofs.Steps.{item-fits, item-at}
-use Rattle.item_rules.proofs.Runs.{item-begins}
+use Rattle.item_rules.proofs.Starts.{starts-at, starts-inside}
 use Rattle.walk_rules.specs.declared.Handed.{Handed}
 use Rattle.walk_rules.specs.declared.Handed.the-variants as handed
 use Rattle.walk_rules.specs.declared.Walked.{Walked}
@@ -30,12 +29,11 @@ use Rattle.walk_rules.proofs.PlainWalks.{not-too-deep}
 module _ (s : List ℕ) where
   -- an item that stands before an end within s
   stands : (at b d : ℕ) (i : Item) → b ≤ length s → d ≤ deepest → stepIn s at b ≡ step.Item i → Within s d i
-  stands at b d i h k e = record {
-    at = at;
-    spelt = item-at s at b i e;
-    inside = omega (arith, item-fits s at b i e, item-begins s at b i e);
-    shallow = k;
-  }
+  stands at b d i h k e = record { starts = starts-at s at b i h e .0; shallow = k }
+
+  -- one that is within s ends within it
+  pub ends-within : {d : ℕ} (i : Item) → Within s d i → nextOf i ≤ length s
+  ends-within i w = starts-inside s i (w .starts)
 
   -- ---- a whole walk
 
@@ -85,8 +83,8 @@ module _ (s : List ℕ) where
     visits-by seen (item i r) (more-items p v) =
         visits-unless (walkFault cs d (forbids word && among (i .name) seen) i) _ (λ z.
         let shallow = not-too-deep cs d (forbids word && among (i .name) seen) i z in
-        more (record { at = p .at; spelt = p .spelt; inside = p .inside; shallow = shallow })
-        (visits-then _ _ (contents (among (i .name) cs) i (p .inside)) (visits-by (i .name ∷ seen) r v)))
+        more (record { starts = p .starts; shallow = shallow })
+        (visits-then _ _ (contents (among (i .name) cs) i (ends-within i p)) (visits-by (i .name ∷ seen) r v)))
     visits-by seen (padding p) v = end
     visits-by seen (refused n) v = stop
 

@@ -13,4 +13,5 @@ pub mod NoContainers
 pub mod Values
 pub mod ValueWalks
 pub mod Repeated
+pub mod Rows
 pub mod Proved

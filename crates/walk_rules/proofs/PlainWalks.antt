@@ -82,7 +82,7 @@ not-too-deep cs d b i q =
 
 module _ (word : Repeats) (s cs : List ℕ) where
   -- where a run is walked with no refusal, its items have no fault, and their contents and what is behind them none
-  parts : (inner : Item → Tour) (d : ℕ) (seen : List ℕ) (i : Item) (r : Run) → refusal (tourBy word inner cs d seen (item i r)) ≡ 0
+  pub parts : (inner : Item → Tour) (d : ℕ) (seen : List ℕ) (i : Item) (r : Run) → refusal (tourBy word inner cs d seen (item i r)) ≡ 0
       → (walkFault cs d (forbids word && among (i .name) seen) i ≡ 0) × (refusal (cond (among (i .name) cs) (inner i) (ends 0)) ≡ 0)
       × (refusal (tourBy word inner cs d (i .name ∷ seen) r) ≡ 0)
   unfolding tourBy refusal

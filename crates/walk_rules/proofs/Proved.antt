@@ -1,5 +1,6 @@
 -- The claims of specs/Claims.antt, each by citation.
 use Rattle.walk_rules.specs.Claims.{InOrder, OneHanded, WalkInside, StepInside, NoNames, ValueAsPacket, ValueWalked, AsItWas, NoTwice, AcceptedStill}
+use Rattle.walk_rules.specs.Claims.{InARow}
 use Rattle.walk_rules.proofs.Order.{ordered}
 use Rattle.walk_rules.proofs.HandedNumbers.{number-tells}
 use Rattle.walk_rules.proofs.Inside as inside
@@ -7,6 +8,7 @@ use Rattle.walk_rules.proofs.NoContainers as without
 use Rattle.walk_rules.proofs.Values as values
 use Rattle.walk_rules.proofs.ValueWalks as walks
 use Rattle.walk_rules.proofs.Repeated as repeated
+use Rattle.walk_rules.proofs.Rows as rows
 
 -- the step walk hands out what the recursive walk does: its items in order and its end, or its refusal
 pub in-order : InOrder
@@ -46,3 +48,7 @@ no-twice = repeated.no-twice
 -- and nothing else changes
 pub accepted-still : AcceptedStill
 accepted-still = repeated.accepted-still
+
+-- the items of a walk that is not refused follow each other without a gap
+pub in-a-row : InARow
+in-a-row = rows.in-a-row

@@ -56,7 +56,7 @@ module _ (s cs : List ℕ) where
       let r : Run = runOf s (nextOf i) end in
       let own = or-never 31 (walkFault cs d false i) _ (walk-fault-never cs d i) (within-never (among (i .name) cs) (refusal (inner i)) (none i)) in
       or-never 31 _ (refusal (tourBy Allowed inner cs d (i .name ∷ seen) r)) own (behind (i .name ∷ seen)) (sym (by-item Allowed inner cs d seen i r) ∙ q))
-      (λ at p few seen q. let z : _≡_ {A = ℕ} 0 31 = q in omega arith)
+      (λ at p few left seen q. let z : _≡_ {A = ℕ} 0 31 = q in omega arith)
       (λ at seen q. let z : _≡_ {A = ℕ} 30 31 = q in omega arith) at
 
   never-at : (k d at end : ℕ) (seen : List ℕ) → refusal (tourAt Allowed k s cs d seen (runOf s at end)) ≡ 31 → ⊥

@@ -13,7 +13,7 @@ use Rattle.item_rules.specs.declared.Repeats.{Repeats}
 use Rattle.item_rules.specs.Run.{Run, item, padding, refused, nextOf, runOf, faultOf, forbids}
 use Rattle.walk_rules.specs.Walk.{Tour, visit, ends, stops, unless, andThen, walkFault, tourBy, tourAt}
 use Rattle.walk_rules.specs.Claims.{movedItem, movedRun, movedTour, ValueWalked}
-use Rattle.walk_rules.proofs.Inside.{Items, more-items, no-items, bad-item, run-items}
+use Rattle.walk_rules.proofs.Inside.{ends-within, Items, more-items, no-items, bad-item, run-items}
 use Rattle.walk_rules.proofs.Values.{part, run-moved, value-as-packet}
 
 -- a walk that is put together of two is moved with both
@@ -59,7 +59,7 @@ module _ (word : Repeats) (s : List ℕ) (k n : ℕ) where
         let behind : u′ ≡ movedTour k u = moved-by (i .name ∷ seen) r rest in
         ap (λ (m : ℕ). unless m (visit d (movedItem k i) (andThen (cond (among (i .name) cs) (inner′ (movedItem k i)) (ends 0)) u′)))
         (fault-moved k cs d (forbids word && among (i .name) seen) i)
-        ∙ ap (λ (x : Tour). unless w (visit d (movedItem k i) (andThen x u′))) (contents (among (i .name) cs) i (p .inside))
+        ∙ ap (λ (x : Tour). unless w (visit d (movedItem k i) (andThen x u′))) (contents (among (i .name) cs) i (ends-within v i p))
         ∙ ap (λ (x : Tour). unless w (visit d (movedItem k i) (andThen (movedTour k t) x))) behind
         ∙ ap (λ (x : Tour). unless w (visit d (movedItem k i) x)) (sym (moved-then k t u))
         ∙ sym (moved-unless k w (visit d i (andThen t u)))

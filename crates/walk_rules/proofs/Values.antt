@@ -14,41 +14,51 @@ use Rattle.base_rules.proofs.Logic.{either}
 use Rattle.item_rules.specs.declared.Item.{Item}
 use Rattle.item_rules.specs.declared.Step.{Step}
 use Rattle.item_rules.specs.declared.Step.the-variants as step
-use Rattle.item_rules.specs.Item.{head, bytesFor, itemAt, stepIn}
+use Rattle.item_rules.specs.Item.{head, bytesFor, unusedOf, itemAt, stepIn}
 use Rattle.item_rules.specs.Run.{item, padding, refused, nextOf, onStep, runIn, runOf}
 use Rattle.walk_rules.specs.Claims.{movedItem, movedRun, ValueAsPacket}
 
--- a step by what it reads: the bytes left, the name, the bits, and where the value begins
-stepOf : ℕ → ℕ → ℕ → ℕ → Step
-stepOf left name bits from =
-    cond (ltb left head) (step.End (record { 0 = left }))
-    (cond (leb (head + bytesFor bits) left)
-    (step.Item (record { name = name; bits = record { 0 = bits }; from = from; len = record { 0 = bytesFor bits } })) (step.Refused 30))
+-- an item by what is read of it, where its value begins and where it starts
+abbrev itemOf : ℕ → ℕ → ℕ → ℕ → Item
+itemOf name bits from start = record {
+  name = name;
+  bits = record { 0 = bits };
+  from = from;
+  len = record { 0 = bytesFor bits };
+  start = start;
+  unused = record { 0 = unusedOf bits };
+}
 
-step-is : (s : List ℕ) (at b : ℕ) → stepIn s at b ≡ stepOf (b - at) (numberAt 4 s at) (numberAt 4 s (at + 4)) (at + head)
+-- a step by what it reads: the bytes left, the name, the bits, and these two places
+stepOf : ℕ → ℕ → ℕ → ℕ → ℕ → Step
+stepOf left name bits from start =
+    cond (ltb left head) (step.End (record { 0 = left }))
+    (cond (leb (head + bytesFor bits) left) (step.Item (itemOf name bits from start)) (step.Refused 30))
+
+step-is : (s : List ℕ) (at b : ℕ) → stepIn s at b ≡ stepOf (b - at) (numberAt 4 s at) (numberAt 4 s (at + 4)) (at + head) at
 unfolding stepIn itemAt stepOf
 step-is s at b = refl
 
 -- name and bits count only where a head is left
-step-read : (left name name′ bits bits′ from : ℕ) → (head ≤ left → name ≡ name′) → (head ≤ left → bits ≡ bits′)
-    → stepOf left name bits from ≡ stepOf left name′ bits′ from
+step-read : (left name name′ bits bits′ from start : ℕ) → (head ≤ left → name ≡ name′) → (head ≤ left → bits ≡ bits′)
+    → stepOf left name bits from start ≡ stepOf left name′ bits′ from start
 unfolding stepOf
-step-read left name name′ bits bits′ from p q =
+step-read left name name′ bits bits′ from start p q =
     either (ltb left head) (λ e. simp e)
-    (λ e. let h = ltb-false left head e in ap (λ (x : ℕ). stepOf left x bits from) (p h) ∙ ap (λ (x : ℕ). stepOf left name′ x from) (q h))
+    (λ e. let h = ltb-false left head e in ap (λ (x : ℕ). stepOf left x bits from start) (p h) ∙ ap (λ (x : ℕ). stepOf left name′ x from start) (q h))
 
--- a step with an item's place k bytes further on
+-- a step with an item k bytes further on
 movedStep : ℕ → Step → Step
 movedStep k (step.Item i) = step.Item (movedItem k i)
 movedStep k (step.End p) = step.End p
 movedStep k (step.Refused m) = step.Refused m
 
-step-from : (k left name bits from : ℕ) → movedStep k (stepOf left name bits from) ≡ stepOf left name bits (k + from)
+step-from : (k left name bits from start : ℕ) → movedStep k (stepOf left name bits from start) ≡ stepOf left name bits (k + from) (k + start)
 unfolding movedStep stepOf
-step-from k left name bits from = go (ltb left head) (leb (head + bytesFor bits) left)
+step-from k left name bits from start = go (ltb left head) (leb (head + bytesFor bits) left)
   where
     i : Item
-    i = record { name = name; bits = record { 0 = bits }; from = from; len = record { 0 = bytesFor bits } }
+    i = itemOf name bits from start
 
     go : (x y : Bool) → movedStep k (cond x (step.End (record { 0 = left })) (cond y (step.Item i) (step.Refused 30)))
         ≡ cond x (step.End (record { 0 = left })) (cond y (step.Item (movedItem k i)) (step.Refused 30))
@@ -78,12 +88,12 @@ module _ (s : List ℕ) (k n : ℕ) where
       let from : k + at + head ≡ k + (at + head) = omega arith in
       let second : k + (at + 4) ≡ k + at + 4 = omega arith in
       step-is s (k + at) (k + b)
-      ∙ ap (λ (x : ℕ). stepOf x (numberAt 4 s (k + at)) (numberAt 4 s (k + at + 4)) (k + at + head)) left
-      ∙ ap (stepOf (b - at) (numberAt 4 s (k + at)) (numberAt 4 s (k + at + 4))) from
-      ∙ step-read (b - at) _ _ _ _ (k + (at + head))
+      ∙ ap (λ (x : ℕ). stepOf x (numberAt 4 s (k + at)) (numberAt 4 s (k + at + 4)) (k + at + head) (k + at)) left
+      ∙ ap (λ (x : ℕ). stepOf (b - at) (numberAt 4 s (k + at)) (numberAt 4 s (k + at + 4)) x (k + at)) from
+      ∙ step-read (b - at) _ _ _ _ (k + (at + head)) (k + at)
       (λ l. sym (number-moved 4 at (omega arith)))
       (λ l. sym (number-moved 4 (at + 4) (omega arith) ∙ ap (numberAt 4 s) second))
-      ∙ sym (step-from k (b - at) (numberAt 4 part at) (numberAt 4 part (at + 4)) (at + head))
+      ∙ sym (step-from k (b - at) (numberAt 4 part at) (numberAt 4 part (at + 4)) (at + head) at)
       ∙ ap (movedStep k) (sym (step-is part at b))
 
   -- so is a run

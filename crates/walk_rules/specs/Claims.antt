@@ -1,22 +1,23 @@
 -- What document 01 says of the two walks together and of the items that they come to, and that an answer tells what was handed out, as claims:
 -- the proofs are in proofs/Proved.antt.
-use mathlib.Core.Bool.{cond}
+use mathlib.Core.Bool.{true, false, cond}
 use mathlib.Core.List.{List, [], _∷_}
 use mathlib.Core.Path.{_≡_}
-use Prim.Native.Nat.{ℕ, zero, suc, _+_, _≤_}
+use Prim.Native.Nat.{ℕ, zero, suc, _+_, _≤_, _<_}
 use lib.Dec.{eqb}
 use lib.ListN.{length, take, drop, replicate}
 use Rattle.base_rules.specs.Tests.{among}
 use Rattle.item_rules.specs.declared.Item.{Item}
 use Rattle.item_rules.specs.declared.Repeats.{Repeats}
 use Rattle.item_rules.specs.declared.Repeats.the-variants.{Forbidden, Allowed}
-use Rattle.item_rules.specs.Item.{itemAt}
+use Rattle.item_rules.specs.Item.{head}
 use Rattle.item_rules.specs.Run.{Run, item, padding, refused, nextOf, runOf, faultsOf}
+use Rattle.item_rules.specs.Claims.{StartsIn}
 use Rattle.walk_rules.specs.declared.Visit.{Visit}
 use Rattle.walk_rules.specs.declared.Handed.{Handed}
 use Rattle.walk_rules.specs.declared.Handed.the-variants as handed
 use Rattle.walk_rules.specs.declared.Walker.{Walker}
-use Rattle.walk_rules.specs.Names.{deepest}
+use Rattle.walk_rules.specs.Names.{deepest, namesOf}
 use Rattle.walk_rules.specs.Walk.{Tour, visit, ends, stops, unless, andThen, walkFault, tourAt, refusal, walkOf}
 use Rattle.walk_rules.specs.Step.{handedNumber, opens, walkStep}
 
@@ -45,11 +46,10 @@ OneHanded = (a b : Handed) → handedNumber a ≡ handedNumber b → a ≡ b
 
 -- ---- what is handed out lies in the packet
 
--- an item of the packet s at depth d: the one that the bytes of s spell from `at` on, whose head and value are bytes of s
+-- an item at depth d; document 02, Item 11, "Nested walks give the start within the outermost packet": it is the one that the bytes of s, the
+-- packet walked through, spell from its start on, and its head and value are bytes of s
 pub record Within (s : List ℕ) (d : ℕ) (i : Item) : Type 0 where
-  pub at : ℕ
-  pub spelt : i ≡ itemAt s at
-  pub inside : nextOf i ≤ length s
+  pub starts : StartsIn s i
   pub shallow : d ≤ deepest
 
 -- each item of a walk is so
@@ -85,9 +85,9 @@ NoNames = (word : Repeats) (s : List ℕ) → Plain word s
 
 -- ---- "a container's value is again a packet"
 
--- an item whose place is k bytes further on
+-- an item that stands k bytes further on
 abbrev pub movedItem : ℕ → Item → Item
-movedItem k i = record { name = i .name; bits = i .bits; from = k + i .from; len = i .len }
+movedItem k i = record { name = i .name; bits = i .bits; from = k + i .from; len = i .len; start = k + i .start; unused = i .unused }
 
 -- a run with each item's place so
 unfoldable pub movedRun : ℕ → Run → Run
@@ -129,3 +129,17 @@ NoTwice = (s l : List ℕ) → refusal (walkOf Allowed s l) ≡ 31 → ⊥
 -- only 31 goes: a walk that is not refused with it is the same with either word, its items and how it ends
 abbrev pub AcceptedStill : Type 0
 AcceptedStill = (s l : List ℕ) → (refusal (walkOf Forbidden s l) ≡ 31 → ⊥) → walkOf Allowed s l ≡ walkOf Forbidden s l
+
+-- ---- document 02, Item 11: where an item began, beside what `Within` says of it
+
+-- the walk of a packet at depth d, which goes from byte `at` to byte `end` of s, without a gap: the first item starts at `at`, each next where the one
+-- before ends, and what is left behind the last is padding; the first item inside a container starts behind the container's head, 8 bytes from its start
+pub data Laid (cs : List ℕ) : ℕ → ℕ → ℕ → Tour → Type 0 where
+  plain : {d at end : ℕ} {i : Item} {t : Tour} → i .start ≡ at → among (i .name) cs ≡ false → Laid cs d (nextOf i) end t → Laid cs d at end (visit d i t)
+  container : {d at end : ℕ} {i : Item} {inner t : Tour} → i .start ≡ at → among (i .name) cs ≡ true
+      → Laid cs (d + 1) (i .start + head) (nextOf i) inner → Laid cs d (nextOf i) end t → Laid cs d at end (visit d i (andThen inner t))
+  rest : {d at end p : ℕ} → at + p ≡ end → p < head → Laid cs d at end (ends p)
+
+-- such is every walk that is not refused, from the first byte of its packet to the last
+abbrev pub InARow : Type 0
+InARow = (word : Repeats) (s l : List ℕ) → refusal (walkOf word s l) ≡ 0 → Laid (namesOf l) 0 0 (length s) (walkOf word s l)

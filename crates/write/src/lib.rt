@@ -10,7 +10,7 @@ ghost use Rattle.base_rules.specs.Answer.{outcome};
 ghost use Rattle.base_rules.specs.Bytes.{splice, bytesOf};
 ghost use Rattle.base_rules.specs.Written.{numberOf};
 ghost use Rattle.item_rules.specs.Item.{head};
-ghost use Rattle.write_rules.specs.Write.{unusedOf, trimmedBy, writeFault, writeCall};
+ghost use Rattle.write_rules.specs.Write.{trimmedBy, writeFault, writeCall};
 
 // The number with which writing is refused, or 0.
 fn fault(name: u32, bits: Bits, len: usize, room: usize) -> u8
@@ -26,16 +26,8 @@ fn fault(name: u32, bits: Bits, len: usize, room: usize) -> u8
     if room < HEAD + n.0 { 1 } else { 0 }
 }
 
-// The bits of the last byte that a value of so many bits leaves unused.
-fn unused(bits: Bits) -> usize
-    ensures { λ r. ⌜ (r ≡ unusedOf (bits .0)) × (r < 8) ⌝ }
-{
-    let n = item::bytes_of(bits);
-    8 * n.0 - bits.0 as usize
-}
-
 // 2 to the power of u.
-fn power(u: usize) -> u8
+fn power(u: u32) -> u8
     requires { ⌜ u < 8 ⌝ }
     ensures { λ r. ⌜ r ≡ 2 ^ u ⌝ }
 {
@@ -75,7 +67,8 @@ pub fn write(name: u32, bits: Bits, value: &[u8], out: &mut [u8]) -> Written
     if n != 0 {
         return Written::Refused(n);
     }
-    let p = power(unused(bits));
+    let unused = item::unused_of(bits);
+    let p = power(unused.0);
     put_head(out, name, bits.0);
     put_value(out, value, p);
     Written::Done

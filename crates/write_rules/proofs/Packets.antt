@@ -10,7 +10,7 @@ use lib.ListN.{length, length-append}
 use borrow.Author.Tests.{lt-ltb, eq-eqb, eqb-true, eqb-false}
 use Rattle.base_rules.specs.Tests.{among}
 use Rattle.base_rules.proofs.Logic.{either, clash, or-left, or-right}
-use Rattle.item_rules.specs.Item.{head, bytesFor, stepIn}
+use Rattle.item_rules.specs.Item.{head, bytesFor, unusedOf, itemAt, stepIn}
 use Rattle.item_rules.specs.Run.{Run, item, padding, nextOf, runOf, namedIn, nthOf, forbids, faultsOf, faultOf, dmy}
 use Rattle.item_rules.specs.declared.Item.{Item}
 use Rattle.item_rules.specs.declared.Repeats.the-variants.{Forbidden, Allowed}
@@ -18,16 +18,29 @@ use Rattle.item_rules.specs.declared.Step.the-variants as step
 use Rattle.item_rules.specs.declared.Found.the-variants as found
 use Rattle.item_rules.proofs.Runs.{run-item, run-end}
 use Rattle.item_rules.proofs.Faults.{fault-dmy, fault-none}
-use Rattle.item_rules.proofs.Proved.{twice}
-use Rattle.write_rules.specs.Write.{itemBytes}
+use Rattle.item_rules.proofs.Proved.{one-item, twice}
+use Rattle.write_rules.specs.Write.{itemBytes, writtenValues}
 use Rattle.write_rules.specs.Packet.{Entry, packetOf, namesOf, writtenAs, Fits, AllFit, Apart}
+use Rattle.write_rules.specs.Claims.{ReadAs}
 use Rattle.write_rules.proofs.Back.{length-item, reads-back}
 
--- the item that is read where e was written at `at`,
+-- the item that is read where e was written at `at`
 abbrev pub itemOf : ℕ → Entry → Item
-itemOf at e = record { name = e .name; bits = record { 0 = e .bits }; from = at + head; len = record { 0 = bytesFor (e .bits) } }
+itemOf at e = record {
+  name = e .name;
+  bits = record { 0 = e .bits };
+  from = at + head;
+  len = record { 0 = bytesFor (e .bits) };
+  start = at;
+  unused = record { 0 = unusedOf (e .bits) };
+}
 
--- and those of all entries
+-- since it tells what was written
+is-written : (s : List ℕ) (at end : ℕ) (e : Entry) {value : List ℕ} → ReadAs s at end (e .name) (e .bits) value → stepIn s at end ≡ step.Item (itemOf at e)
+unfolding writtenValues
+is-written s at end e read = read .item ∙ ap step.Item (one-item (itemAt s at) (itemOf at e) (read .tells))
+
+-- those of all entries
 unfoldable pub entriesRun : ℕ → List Entry → ℕ → Run
 entriesRun at [] n = padding n
 entriesRun at (e ∷ es) n = item (itemOf at e) (entriesRun (nextOf (itemOf at e)) es n)
@@ -56,7 +69,7 @@ run-written pre (e ∷ es) pad fit few =
     let next : length (pre ++ it) ≡ nextOf (itemOf (length pre) e) = length-append pre it ∙ omega (arith, long) in
     let on : runOf s (length (pre ++ it)) (length s) ≡ entriesRun (length (pre ++ it)) es (length pad) =
     ap (λ (l : List ℕ). runOf l (length (pre ++ it)) (length l)) (sym (append-assoc pre it rest)) ∙ run-written (pre ++ it) es pad (fit .1) few in
-    run-item s (length pre) (length s) (itemOf (length pre) e) (read .item)
+    run-item s (length pre) (length s) (itemOf (length pre) e) (is-written s (length pre) (length s) e read)
     ∙ ap (item (itemOf (length pre) e))
     (ap (λ (k : ℕ). runOf s k (length s)) (sym next) ∙ on ∙ ap (λ (k : ℕ). entriesRun k es (length pad)) next)
 

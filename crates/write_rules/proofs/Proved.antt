@@ -6,7 +6,7 @@ use Prim.Native.Nat.{ℕ, _+_, _^_, _≤_}
 use native.Mathlib.Nat.{zero-add, mod-one}
 use native.Mathlib.Omega.{arith}
 use lib.ListN.{length, take, drop}
-use Rattle.item_rules.specs.Item.{head, bytesFor}
+use Rattle.item_rules.specs.Item.{head, bytesFor, unusedOf}
 use Rattle.item_rules.specs.Run.{Run, firstOf, namedIn, nthOf, faultsOf}
 use Rattle.item_rules.specs.declared.Repeats.{Repeats}
 use Rattle.item_rules.specs.declared.Repeats.the-variants.{Forbidden, Allowed}
@@ -15,10 +15,11 @@ use Rattle.item_rules.proofs.Proved.{first-is-nth}
 use Rattle.base_rules.specs.Answer.{answered}
 use Rattle.base_rules.specs.Tests.{among}
 use Rattle.tag_rules.specs.Find.{wholeRun, checkOf, valueOf}
-use Rattle.tag_rules.specs.Calls.{openCall, searchAnswer, searchNthCall}
+use Rattle.tag_rules.specs.Calls.{openCall, locatedNumber}
+use Rattle.tag_rules.proofs.Numbers.{nth-number}
 use Rattle.tag_rules.proofs.Searches.{found-here, nth-found}
 use Rattle.tag_rules.proofs.Proved.{nth-beyond}
-use Rattle.write_rules.specs.Write.{trimmedBy, trimmed, unusedOf}
+use Rattle.write_rules.specs.Write.{trimmedBy, trimmed, writtenValues}
 use Rattle.write_rules.specs.Packet.{Entry, packetOf, namesOf, writtenAs, AllFit, Apart}
 use Rattle.write_rules.specs.Claims.{ReadsBack, Opens, RefusesTwice, FoundAs, Finds, OpensRepeated, FindsRepeated, FindsNth, NoMore}
 use Rattle.write_rules.specs.Claims.{UnusedZero, TrimmedOnce, WholeKept}
@@ -88,11 +89,12 @@ module _ (before after : List Entry) (e : Entry) (pad : List ℕ) (fit : AllFit 
 
   -- so it is found, with either word
   found-first : (w : Repeats) (standing : List ℕ) → checkOf w (packetOf (before ++ (e ∷ after)) pad) ≡ 0 → checkOf w standing ≡ 0
-      → among (e .name) (namesOf before) ≡ false → FoundAs w (packetOf (before ++ (e ∷ after)) pad) standing e
+      → among (e .name) (namesOf before) ≡ false → FoundAs w (packetOf (before ++ (e ∷ after)) pad) standing (length (packetOf before [])) e
+  unfolding writtenValues
   found-first w standing whole still new =
       let here =
       found-here w (packetOf (before ++ (e ∷ after)) pad) standing (e .name) (itemOf (length (packetOf before [])) e) whole still (first new) in
-      record { bits = here .0; value = here .1 ∙ value }
+      record { tells = here .0; value = here .1 ∙ value }
 
 pub finds : Finds
 finds before after e pad standing fit apart few = found-first before after e pad fit few Forbidden standing (sound (before ++ (e ∷ after)) pad fit apart few)
@@ -102,18 +104,20 @@ finds-repeated before after e pad standing fit few =
     found-first before after e pad fit few Allowed standing (sound-repeated (before ++ (e ∷ after)) pad fit few)
 
 pub finds-nth : FindsNth
+unfolding writtenValues
 finds-nth w before after e pad fit apart few =
     let here =
     nth-found w (packetOf (before ++ (e ∷ after)) pad) (e .name) (length (writtenAs (e .name) before)) (itemOf (length (packetOf before [])) e)
     (sound-by w (before ++ (e ∷ after)) pad fit apart few) (nth before after e pad fit few) in
-    record { bits = here .0; value = here .1 ∙ value before after e pad fit few }
+    record { tells = here .0; value = here .1 ∙ value before after e pad fit few }
 
 pub no-more : NoMore
-unfolding searchNthCall searchAnswer
+unfolding locatedNumber
 no-more w es name number pad fit apart few beyond =
     let count : length (namedIn name (wholeRun (packetOf es pad))) ≡ length (writtenAs name es) =
     ap (λ (r : Run). length (namedIn name r)) (run-written [] es pad fit few) ∙ as-many name 0 es (length pad) in
-    ap searchAnswer (nth-beyond w (packetOf es pad) name number (sound-by w es pad fit apart few) .beyond (omega (arith, count)))
+    sym (nth-number w (packetOf es pad) name number)
+    ∙ ap locatedNumber (nth-beyond w (packetOf es pad) name number (sound-by w es pad fit apart few) .beyond (omega (arith, count)))
 
 pub unused-zero : UnusedZero
 unfolding trimmed

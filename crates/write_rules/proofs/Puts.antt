@@ -13,8 +13,8 @@ use Rattle.base_rules.specs.declared.Written.{Written}
 use Rattle.base_rules.proofs.Answers.{put-is}
 use Rattle.base_rules.proofs.Numbers.{length-bytes}
 use Rattle.base_rules.proofs.Splice.{splice-next, splice-length}
-use Rattle.item_rules.specs.Item.{head}
-use Rattle.write_rules.specs.Write.{trimmedBy, trimmed, unusedOf, itemBytes}
+use Rattle.item_rules.specs.Item.{head, unusedOf}
+use Rattle.write_rules.specs.Write.{trimmedBy, trimmed, itemBytes}
 
 -- the head's two numbers, one behind the other
 pub head-put : (d n b x y : List ℕ) (name bits : ℕ) (r t : Written) → head ≤ length d → n ≡ bytesOf 4 name → b ≡ bytesOf 4 bits

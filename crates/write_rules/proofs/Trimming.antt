@@ -7,8 +7,8 @@ use native.Mathlib.Omega.{arith}
 use lib.ListN.{length, getD, set, length-set}
 use lib.Seq.{getD-set-same, set-getD}
 use Rattle.base_rules.specs.Round.{ceil}
-use Rattle.item_rules.specs.Item.{bytesFor}
-use Rattle.write_rules.specs.Write.{unusedOf, trimmedBy, trimmed}
+use Rattle.item_rules.specs.Item.{bytesFor, unusedOf}
+use Rattle.write_rules.specs.Write.{trimmedBy, trimmed}
 
 -- a number brought down to a multiple of p is one
 down : (p b : ℕ) → (b - b % p) % p ≡ 0

@@ -1,18 +1,14 @@
 -- Writing a TAG item (clause 5.2; document 01, "TAG layer" and "Numbers given back").
 use mathlib.Core.Bool.{not}
 use mathlib.Core.List.{List, [], _∷_, _++_}
-use Prim.Native.Nat.{ℕ, _+_, _-_, _*_, _%_, _^_}
+use Prim.Native.Nat.{ℕ, _+_, _-_, _%_, _^_}
 use lib.Dec.{eqb, ltb}
 use lib.ListN.{length, getD, set}
 use Rattle.base_rules.specs.Answer.{Outcome, settled}
 use Rattle.base_rules.specs.Bytes.{splice, bytesOf}
 use Rattle.base_rules.specs.Tests.{first}
-use Rattle.item_rules.specs.Item.{head, bytesFor}
+use Rattle.item_rules.specs.Item.{head, bytesFor, unusedOf}
 use Rattle.item_rules.specs.Run.{badPtr}
-
--- clause 5.2: the low bits of the last byte that a value of so many bits leaves unused
-unfoldable pub unusedOf : ℕ → ℕ
-unusedOf bits = 8 * bytesFor bits - bits
 
 -- a value whose last byte is brought down to a multiple of p
 unfoldable pub trimmedBy : ℕ → List ℕ → List ℕ
@@ -25,6 +21,11 @@ trimmed bits v = trimmedBy (2 ^ unusedOf bits) v
 -- clause 5.2: the item: its name, its length in bits, its value
 unfoldable pub itemBytes : ℕ → ℕ → List ℕ → List ℕ
 itemBytes name bits v = (bytesOf 4 name ++ bytesOf 4 bits) ++ trimmed bits v
+
+-- what an item tells that was written from byte `at` on: its name, its bits, its value's place and bytes; document 02, Item 11: its start and its unused
+-- bits
+unfoldable pub writtenValues : ℕ → ℕ → ℕ → List ℕ
+writtenValues at name bits = name ∷ bits ∷ (at + head) ∷ bytesFor bits ∷ at ∷ unusedOf bits ∷ []
 
 -- document 01: what writing a value of `len` bytes is refused for, with `room` bytes lent: 43 BITS, 33 PTR, 1 ROOM
 unfoldable pub writeFault : ℕ → ℕ → ℕ → ℕ → ℕ

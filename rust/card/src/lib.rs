@@ -27,7 +27,7 @@ pub use sender::{Address, Rule, Settings};
 pub use tag::{Repeats, Step, Walk};
 
 /// One more where a call, a number or a size is another than before.
-pub const VERSION: usize = 3;
+pub const VERSION: usize = 4;
 /// One more where a record or lent bytes that were kept mean something else than before.
 pub const RECORD_LAYOUT: usize = 1;
 

@@ -10,9 +10,9 @@ use crate::ffi;
 /// that is due before it, and does nothing.
 pub const TOLD_CHECK: usize = 8;
 /// The bytes that finding an item tells, by its name or by the number of its occurrence.
-pub const TOLD_FIND: usize = 17;
+pub const TOLD_FIND: usize = 26;
 /// The bytes that a step of a walk tells.
-pub const TOLD_STEP: usize = 22;
+pub const TOLD_STEP: usize = 31;
 /// The bytes that a plan tells.
 pub const TOLD_PLAN: usize = 20;
 /// The bytes that an endurance tells.

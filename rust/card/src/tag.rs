@@ -1,5 +1,6 @@
 //! The TAG layer: writing an item, finding one by its name, the first or the occurrence of a given
-//! number, going through the items of a packet and of the containers in it.
+//! number, going through the items of a packet and of the containers in it. An item that is handed
+//! out tells where it began, so that nobody has to search for its bytes again.
 
 use crate::{done, long, place, raw, Refused};
 
@@ -30,6 +31,20 @@ pub enum Repeats {
 }
 
 /// An item that was found; its value is a part of the packet that holds it.
+///
+/// A display marks the item's raw bytes there, its name and length and the value behind them:
+///
+/// ```
+/// use card::{tag, Repeats};
+/// let packet = *b"demo\0\0\0\x08!";
+/// let standing = *b"*dmy\0\0\0\x08.abc_\0\0\0\x0c\xab\xc0";
+/// let found = tag::find(&packet, &standing, *b"abc_", Repeats::Forbidden)?;
+/// let holder = if found.standing { &standing[..] } else { &packet };
+/// let end = found.start + tag::HEAD + found.value.len();
+/// assert_eq!(&holder[found.start..end], b"abc_\0\0\0\x0c\xab\xc0");
+/// assert_eq!((found.standing, found.start, found.unused), (true, 9, 4));
+/// # Ok::<(), card::Refused>(())
+/// ```
 #[derive(Clone, Copy, Debug, PartialEq, Eq)]
 pub struct Found<'a> {
     /// Whether the standing packet holds it.
@@ -38,6 +53,10 @@ pub struct Found<'a> {
     pub bits: u32,
     /// The bytes that hold them.
     pub value: &'a [u8],
+    /// The byte at which it begins, with its name, in the packet that holds it.
+    pub start: usize,
+    /// The low bits of its last byte that are not part of the value, 0 to 7; 0 without a last byte.
+    pub unused: u8,
 }
 
 /// An item of a packet; its value is a part of the packet.
@@ -49,6 +68,10 @@ pub struct Item<'a> {
     pub bits: u32,
     /// The bytes that hold them.
     pub value: &'a [u8],
+    /// The byte at which it begins, with its name, in the packet.
+    pub start: usize,
+    /// The low bits of its last byte that are not part of the value, 0 to 7; 0 without a last byte.
+    pub unused: u8,
 }
 
 /// The items of a packet in their order, containers unopened: a walk with no names, which is proved
@@ -59,8 +82,10 @@ pub struct Items<'a>(Walk<'a>);
 /// What a step of a walk hands out.
 #[derive(Clone, Copy, Debug, PartialEq, Eq)]
 pub enum Step<'a> {
-    /// An item; its value is a part of the packet, and items of the outer packet have depth 0.
-    Item { depth: u8, name: Name, bits: u32, value: &'a [u8] },
+    /// An item; its value is a part of the packet, and items of the outer packet have depth 0. It
+    /// begins with its name at byte `start` of the packet walked through, at every depth; `unused`
+    /// are the low bits of its last byte that are not part of the value, 0 to 7, as of a [`Found`].
+    Item { depth: u8, name: Name, bits: u32, value: &'a [u8], start: usize, unused: u8 },
     /// There is no further item; so many bytes of padding end the packet.
     End { padding: usize },
 }
@@ -69,13 +94,16 @@ pub enum Step<'a> {
 /// over the packet and the names that were checked when it was opened.
 ///
 /// ```
-/// use card::{Repeats, Step, Walk};
+/// use card::{tag, Repeats, Step, Walk};
 /// let packet = *b"fio_\0\0\0\x48demo\0\0\0\x08!";
 /// let names = [*b"fio_"];
 /// let mut walk = Walk::open(&packet, &names, Repeats::Forbidden)?;
-/// while let Step::Item { depth, name, value, .. } = walk.step()? {
+/// let mut marked = Vec::new();
+/// while let Step::Item { depth, name, value, start, .. } = walk.step()? {
 ///     println!("{depth} {name:?} {} bytes", value.len());
+///     marked.push(start..start + tag::HEAD + value.len());
 /// }
+/// assert_eq!(marked, [0..17, 8..17]);
 /// # Ok::<(), card::Refused>(())
 /// ```
 #[derive(Clone, Debug)]
@@ -112,8 +140,7 @@ pub fn find<'a>(
     let mut told = [0; raw::TOLD_FIND];
     done(raw::find(packet, standing, u32::from_be_bytes(name), allowed(repeats), &mut told))?;
     let in_standing = told[0] != 0;
-    let holder = if in_standing { standing } else { packet };
-    Ok(Found { standing: in_standing, bits: long(&told, 1), value: part(holder, &told[5..]) })
+    Ok(found(in_standing, if in_standing { standing } else { packet }, &told))
 }
 
 /// Finds occurrence `number`, counted from 0, of a name in a packet alone, with no standing packet
@@ -135,7 +162,13 @@ pub fn nth(
 ) -> Result<Found<'_>, Refused> {
     let mut told = [0; raw::TOLD_FIND];
     done(raw::nth(packet, u32::from_be_bytes(name), number, allowed(repeats), &mut told))?;
-    Ok(Found { standing: false, bits: long(&told, 1), value: part(packet, &told[5..]) })
+    Ok(found(false, packet, &told))
+}
+
+/// The item that a finding told, in the packet that holds it.
+fn found<'a>(standing: bool, holder: &'a [u8], told: &[u8; raw::TOLD_FIND]) -> Found<'a> {
+    let (bits, value) = (long(told, 1), part(holder, &told[5..]));
+    Found { standing, bits, value, start: place(told, 17), unused: told[25] }
 }
 
 /// The word as the library takes it: whether repeats are allowed.
@@ -175,7 +208,8 @@ impl<'a> Walk<'a> {
             return Ok(Step::End { padding: long(&told, 18) as usize });
         }
         let (name, value) = (long(&told, 2).to_be_bytes(), part(self.packet, &told[10..]));
-        Ok(Step::Item { depth: told[1], name, bits: long(&told, 6), value })
+        let (depth, bits, start, unused) = (told[1], long(&told, 6), place(&told, 22), told[30]);
+        Ok(Step::Item { depth, name, bits, value, start, unused })
     }
 }
 
@@ -184,8 +218,9 @@ impl<'a> Walk<'a> {
 /// ```
 /// use card::{tag, Repeats};
 /// let packet = *b"demo\0\0\0\x08!*dmy\0\0\0\0";
-/// let names: Vec<_> = tag::items(&packet, Repeats::Forbidden)?.map(|item| item.name).collect();
-/// assert_eq!(names, [*b"demo", *b"*dmy"]);
+/// let items = tag::items(&packet, Repeats::Forbidden)?;
+/// let begun: Vec<_> = items.map(|item| (item.start, item.name)).collect();
+/// assert_eq!(begun, [(0, *b"demo"), (9, *b"*dmy")]);
 /// # Ok::<(), card::Refused>(())
 /// ```
 pub fn items(packet: &[u8], repeats: Repeats) -> Result<Items<'_>, Refused> {
@@ -197,7 +232,9 @@ impl<'a> Iterator for Items<'a> {
 
     fn next(&mut self) -> Option<Item<'a>> {
         match self.0.step() {
-            Ok(Step::Item { depth: _, name, bits, value }) => Some(Item { name, bits, value }),
+            Ok(Step::Item { depth: _, name, bits, value, start, unused }) => {
+                Some(Item { name, bits, value, start, unused })
+            }
             Ok(Step::End { padding: _ }) | Err(_) => None,
         }
     }

@@ -2,11 +2,11 @@
 
 use card::{raw, tag, Refused};
 use reference::tag as expected;
-use reference::tag::{Found, Name, Repeats, DUMMY};
+use reference::tag::{Found, Item, Name, Repeats, DUMMY};
 use reference::{number, Answer};
 
 use crate::rng::Rng;
-use crate::tag::{name, place, some_packet, typed_word, word, Style};
+use crate::tag::{name, part, place, some_packet, typed_word, word, Style};
 use crate::tally::{due, hex, number_of, told, Judge, Tally};
 
 /// The calls that show what the word on repeats is for.
@@ -22,6 +22,12 @@ const LATER: &str = "granted that show a later occurrence than the first";
 const LATER_FILLER: &str = "granted that show a later \"*dmy\" where repeats are forbidden";
 /// The occurrences beyond the last.
 const BEYOND: &str = "that give 34 though the packet has the name";
+/// The starts that tell the standing packet from the packet, and those that take over two bytes.
+const BEGUN_STANDING: &str = "granted that show an item behind the first of the standing packet";
+const BEGUN_FAR: &str = "granted that show an item which begins past byte 65,535";
+/// The items whose last byte has unused bits, and those that have no last byte.
+const UNUSED: &str = "granted that show an item with unused bits";
+const EMPTY: &str = "granted that show an item of 0 bits";
 
 /// A name that is mostly one of the packets'.
 fn wanted(rng: &mut Rng, packets: &[&[u8]]) -> Name {
@@ -51,19 +57,24 @@ fn note_first(tally: &mut Tally, number: usize, name: Name, packets: [&[u8]; 2])
     tally.note(FIRST_STANDING, granted && !here[0] && standing[1]);
 }
 
-/// Name, bits and value of each item of a packet, or the number with which it is refused.
-type Listed<'a> = Result<Vec<(Name, u32, &'a [u8])>, u8>;
-
-/// As the typed call gives them.
-fn in_order(packet: &[u8], repeats: Repeats) -> Listed<'_> {
-    let items = tag::items(packet, typed_word(repeats)).map_err(|refused| refused.0)?;
-    Ok(items.map(|item| (item.name, item.bits, item.value)).collect())
+/// Notes where the item that a call shows begins, and what its last byte is like.
+fn note_begun(tally: &mut Tally, number: usize, due: &Answer<Found>) {
+    let granted = |met: fn(&Found) -> bool| number == 0 && due.as_ref().is_ok_and(met);
+    tally.note(BEGUN_FAR, granted(|found| found.item.start > 65_535));
+    tally.note(UNUSED, granted(|found| found.item.unused > 0));
+    tally.note(EMPTY, granted(|found| found.item.bits == 0));
 }
 
-/// As the reference reads them.
-fn due_in_order(packet: &[u8], repeats: Repeats) -> Listed<'_> {
-    let (items, _) = expected::items(packet, repeats)?;
-    Ok(items.into_iter().map(|item| (item.name, item.bits, item.value)).collect())
+/// The items of a packet as the typed call gives them, or the number with which it is refused.
+fn in_order(packet: &[u8], repeats: Repeats) -> Answer<Vec<Item<'_>>> {
+    let items = tag::items(packet, typed_word(repeats)).map_err(|refused| refused.0)?;
+    Ok(items.map(as_read).collect())
+}
+
+/// An item of the typed call as the reference has them.
+fn as_read(item: tag::Item<'_>) -> Item<'_> {
+    let tag::Item { name, bits, value, start, unused } = item;
+    Item { name, bits, value, start, unused: unused.into() }
 }
 
 /// A finding over a packet and a standing packet: the number, what was lent for what it tells,
@@ -83,20 +94,25 @@ impl Finding<'_> {
         judge.same("number", self.number, number_of(&due));
         let line = due.map_or(self.before.to_vec(), |found| told(self.before, &self.shown(found)));
         judge.bytes("told", self.after, &line);
-        let typed = self.typed.map(|t| (t.standing, t.bits, t.value.as_ptr(), t.value.len()));
-        let value = |found: &Found| (found.item.value.as_ptr(), found.item.value.len());
-        let expected = expected.map(|e| (e.standing, e.item.bits, value(&e).0, value(&e).1));
+        let typed =
+            self.typed.map(|t| (t.standing, t.bits, part(t.value), t.start, t.unused.into()));
+        let expected = expected.map(|Found { standing, item: i }| {
+            (standing, i.bits, part(i.value), i.start, i.unused)
+        });
         judge.same("typed", typed.map_err(|refused| refused.0), expected);
         judge
     }
 
-    /// Which packet holds the item, its bits, where its value begins, its bytes.
+    /// Which packet holds the item, its bits, where its value begins, the value's bytes; where the
+    /// item begins, and the unused bits of its last byte.
     fn shown(&self, found: &Found) -> Vec<u8> {
         let holder = self.packets[usize::from(found.standing)];
         let mut bytes = vec![found.standing.into()];
         bytes.extend(found.item.bits.to_be_bytes());
         bytes.extend((place(holder, found.item.value) as u64).to_be_bytes());
         bytes.extend((found.item.value.len() as u32).to_be_bytes());
+        bytes.extend((found.item.start as u64).to_be_bytes());
+        bytes.push(found.item.unused as u8);
         bytes
     }
 }
@@ -114,8 +130,13 @@ pub fn find(rng: &mut Rng, tally: &mut Tally) {
     let packets = [&packet[..], &standing];
     let finding = Finding { packets, number, before: &before, after: &after, typed };
     let mut judge = finding.judged(&expected);
-    judge.same("items", in_order(&packet, repeats), due_in_order(&packet, repeats));
+    let items = expected::items(&packet, repeats).map(|(items, _)| items);
+    judge.same("items", in_order(&packet, repeats), items);
     note_first(tally, number, name, packets);
+    note_begun(tally, number, &expected);
+    let begun = expected.is_ok_and(|found| found.standing && found.item.start > 0);
+    tally.note(BEGUN_STANDING, number == 0 && begun);
+    tally.note_room(number, &before, raw::TOLD_FIND);
     note_word(tally, number, &expected::find(name, &packet, &standing, Repeats::Forbidden));
     tally.count(number, judge, || {
         let packets = format!("packet={} standing={}", hex(&packet), hex(&standing));
@@ -152,6 +173,8 @@ pub fn nth(rng: &mut Rng, tally: &mut Tally) {
     let finding =
         Finding { packets: [&packet, &[]], number, before: &before, after: &after, typed };
     let judge = finding.judged(&expected);
+    note_begun(tally, number, &expected);
+    tally.note_room(number, &before, raw::TOLD_FIND);
     let later = number == 0 && at > 0;
     tally.note(LATER, later && name != DUMMY);
     tally.note(LATER_FILLER, later && name == DUMMY && repeats == Repeats::Forbidden);

@@ -9,6 +9,8 @@ use crate::tally::{hex, number_of, Judge, Tally};
 
 /// The depth at which an item is refused.
 const TOO_DEEP: usize = 5;
+/// The least bytes of a long value: where the item behind it begins takes over two bytes to tell.
+const LONG: usize = 1 << 16;
 /// Names that come again and again, so that they are found, stand twice and are containers.
 pub const POOL: [Name; 10] = [
     POINTER,
@@ -146,7 +148,8 @@ impl Style {
             return rng.bytes(8);
         }
         if !contains {
-            let length = rng.length(300);
+            let long = rng.below(1_000) == 0;
+            let length = if long { LONG + rng.below(4_000) } else { rng.length(300) };
             return rng.bytes(length);
         }
         let deep = depth + 1 < TOO_DEEP || rng.chance(4 * self.slips) && depth < TOO_DEEP;
@@ -184,6 +187,13 @@ pub fn some_packet(rng: &mut Rng, style: &Style) -> Vec<u8> {
         packet.truncate(rng.within(0, packet.len()));
     }
     packet
+}
+
+/// Where a part of a packet stands in memory, and its bytes: a copy of the part stands elsewhere.
+pub type Part = (*const u8, usize);
+
+pub fn part(value: &[u8]) -> Part {
+    (value.as_ptr(), value.len())
 }
 
 /// Where a part of a packet begins in it.

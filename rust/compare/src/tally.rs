@@ -7,6 +7,9 @@ use reference::number;
 
 /// The differences of a kind that are printed whole.
 const SHOWN: usize = 3;
+/// The calls on either side of the bytes that they tell.
+const JUST: &str = "granted with just the bytes for what is told";
+const SHORT: &str = "that give 1 with a byte too few for what is told";
 
 /// The differences of one call.
 #[derive(Default)]
@@ -48,6 +51,12 @@ impl Tally {
     /// Counts a call as a case of its own where `met` holds; a case that none meets is a fault.
     pub fn note(&mut self, case: &'static str, met: bool) {
         *self.noted.entry(case).or_default() += usize::from(met);
+    }
+
+    /// Notes a call that was lent just the bytes that it tells, and one that was lent a byte less.
+    pub fn note_room(&mut self, number: usize, lent: &[u8], needed: usize) {
+        self.note(JUST, number == 0 && lent.len() == needed);
+        self.note(SHORT, number == number::ROOM.into() && lent.len() + 1 == needed);
     }
 
     /// How many calls met each case, one line each.

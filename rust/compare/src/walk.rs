@@ -7,12 +7,17 @@ use reference::tag::{Name, Repeats, Walked};
 
 use crate::find::note_word;
 use crate::rng::Rng;
-use crate::tag::{place, some_packet, typed_word, word, Style, POOL};
+use crate::tag::{part, place, some_packet, typed_word, word, Part, Style, POOL};
 use crate::tally::{hex, number_of, told, Judge, Tally};
 use crate::walker::{self, Walker};
 
 /// The walks that show that the word on repeats is for every level.
 const INNER: &str = "granted where names repeat in containers alone";
+/// The steps that tell a start in the outermost packet from one in the container.
+const DEEPEST: &str = "granted that hand out an item at depth 4";
+const INNER_UNUSED: &str = "granted that hand out an item of a container with unused bits";
+const INNER_EMPTY: &str = "granted that hand out an item of a container with 0 bits";
+const INNER_FAR: &str = "granted that hand out an item of a container past byte 65,535";
 /// Lengths that a walker has not.
 const OTHER_LENGTHS: [usize; 5] = [0, 8, 55, 57, 112];
 
@@ -75,24 +80,26 @@ fn inputs(packet: &[u8], list: &[u8], walker: &[u8]) -> String {
     format!("packet={} names={} walker={}", hex(packet), hex(list), hex(walker))
 }
 
-/// What a walk hands out by steps: depth, name, bits and value of each item, then the padding.
-type HandedOut<'a> = (Vec<(usize, Name, u32, *const u8, usize)>, usize);
+/// What a walk hands out by steps: depth, name, bits and value, start and unused bits of each item,
+/// then the padding.
+type HandedOut = (Vec<(usize, Name, u32, Part, usize, usize)>, usize);
 
-fn handed<'a>((items, padding): (Vec<Walked<'a>>, usize)) -> HandedOut<'a> {
-    let shown =
-        |w: &Walked| (w.depth, w.item.name, w.item.bits, w.item.value.as_ptr(), w.item.value.len());
+fn handed((items, padding): (Vec<Walked>, usize)) -> HandedOut {
+    let shown = |Walked { depth, item: i }: &Walked| {
+        (*depth, i.name, i.bits, part(i.value), i.start, i.unused)
+    };
     (items.iter().map(shown).collect(), padding)
 }
 
 /// The same by the typed calls.
-fn typed_walk<'a>(list: &[u8], packet: &'a [u8], repeats: Repeats) -> Result<HandedOut<'a>, u8> {
+fn typed_walk(list: &[u8], packet: &[u8], repeats: Repeats) -> Result<HandedOut, u8> {
     let (names, word) = (names_of(list), typed_word(repeats));
     let mut walk = Walk::open(packet, &names, word).map_err(|refused| refused.0)?;
     let mut items = Vec::new();
     loop {
         match walk.step().map_err(|refused| refused.0)? {
-            Step::Item { depth, name, bits, value } => {
-                items.push((depth.into(), name, bits, value.as_ptr(), value.len()));
+            Step::Item { depth, name, bits, value, start, unused } => {
+                items.push((depth.into(), name, bits, part(value), start, unused.into()));
             }
             Step::End { padding } => return Ok((items, padding)),
         }
@@ -142,10 +149,22 @@ fn one_step(
         judge.bytes("walker", &walker, &expected_walker.bytes());
         if let Some(whole) = whole {
             judge.bytes("told by the whole walk", &after, &told(&before, &whole));
+            note_step(tally, &whole);
         }
     }
+    tally.note_room(number, &before, raw::TOLD_STEP);
     tally.count(number, judge, || inputs(packet, list, &stands.bytes()) + " told=" + &hex(&before));
     expected_walker
+}
+
+/// Notes what a step of a walk that was opened has to tell of an item in a container.
+fn note_step(tally: &mut Tally, told: &[u8]) {
+    let (depth, bits, start, unused) = (told[1], &told[6..10], &told[22..30], told[30]);
+    let inner = depth > 0;
+    tally.note(DEEPEST, depth == 4);
+    tally.note(INNER_UNUSED, inner && unused > 0);
+    tally.note(INNER_EMPTY, inner && bits == [0; 4]);
+    tally.note(INNER_FAR, inner && start[..6] != [0; 6]);
 }
 
 /// A step with other than 56 bytes is refused, and changes nothing.
@@ -162,19 +181,22 @@ fn misfit_step(rng: &mut Rng, tally: &mut Tally, packet: &[u8], list: &[u8]) {
     tally.count(number, judge, || inputs(packet, list, &stood) + " told=" + &hex(&before));
 }
 
-/// 1, depth, name, bits, where the value begins, its bytes.
+/// 1, depth, name, bits, where the value begins, its bytes; where the item begins, and the unused
+/// bits of its last byte.
 fn step(packet: &[u8], walked: &Walked) -> Vec<u8> {
     let mut bytes = vec![1, walked.depth as u8];
     bytes.extend(walked.item.name);
     bytes.extend(walked.item.bits.to_be_bytes());
     bytes.extend((place(packet, walked.item.value) as u64).to_be_bytes());
     bytes.extend((walked.item.value.len() as u32).to_be_bytes());
+    bytes.extend((walked.item.start as u64).to_be_bytes());
+    bytes.push(walked.item.unused as u8);
     bytes
 }
 
-/// Zeros, and the bytes of padding.
+/// Zeros, but for the bytes of padding where an item has its value's.
 fn end(padding: usize) -> Vec<u8> {
-    let mut bytes = vec![0; 18];
-    bytes.extend((padding as u32).to_be_bytes());
+    let mut bytes = vec![0; raw::TOLD_STEP];
+    bytes[18..22].copy_from_slice(&(padding as u32).to_be_bytes());
     bytes
 }

@@ -46,8 +46,8 @@ impl Walker {
         figures.flat_map(|figure| (figure as u64).to_be_bytes()).collect()
     }
 
-    /// A step: what it tells, 22 bytes, and where the walk stands then. A list of names that
-    /// opening refuses is 43; 43 and 30 leave the walk.
+    /// A step: what it tells, and where the walk stands then. A list of names that opening refuses
+    /// is 43; 43 and 30 leave the walk.
     pub fn step(&mut self, packet: &[u8], list: &[u8]) -> Answer<Vec<u8>> {
         let containers = containers(list)?;
         let (mut at, mut depth) = (self.at, self.depth.min(LEVELS - 1));
@@ -59,7 +59,7 @@ impl Walker {
             }
             if depth == 0 {
                 (self.at, self.depth) = (at, depth);
-                return Ok(told(0, 0, &[0; HEAD], 0, left));
+                return Ok(told(0, 0, &[0; HEAD], [0, left, 0, 0]));
             }
             (at, depth) = (end, depth - 1);
         }
@@ -73,7 +73,8 @@ impl Walker {
         depth: usize,
         containers: &HashSet<Name>,
     ) -> Answer<Vec<u8>> {
-        let (from, length) = (at + HEAD, bytes_of(big_endian(&left[4..HEAD])));
+        let bits = big_endian(&left[4..HEAD]);
+        let (from, length) = (at + HEAD, bytes_of(bits));
         if length > left.len() - HEAD {
             return Err(number::OVERRUN);
         }
@@ -83,16 +84,21 @@ impl Walker {
         } else {
             (self.at, self.depth) = (from + length, depth);
         }
-        Ok(told(1, depth, &left[..HEAD], from, length))
+        let unused = (8 - bits as usize % 8) % 8;
+        Ok(told(1, depth, &left[..HEAD], [from, length, at, unused]))
     }
 }
 
-/// 1 for an item, its depth, name and bits, where its value begins and the value's bytes; or
-/// zeros, and the bytes of padding at the end.
-fn told(item: u8, depth: usize, head: &[u8], from: usize, length: usize) -> Vec<u8> {
+/// 1 for an item, its depth, name and bits, where its value begins and the value's bytes, where the
+/// item begins and the unused bits of its last byte; or zeros, with the bytes of padding in the
+/// place of the value's.
+fn told(item: u8, depth: usize, head: &[u8], figures: [usize; 4]) -> Vec<u8> {
+    let [from, length, start, unused] = figures;
     let mut bytes = vec![item, depth as u8];
     bytes.extend(head);
     bytes.extend((from as u64).to_be_bytes());
     bytes.extend((length as u32).to_be_bytes());
+    bytes.extend((start as u64).to_be_bytes());
+    bytes.push(unused as u8);
     bytes
 }

@@ -25,12 +25,15 @@ pub enum Repeats {
     Allowed,
 }
 
-/// An item, its value shown as a part of the packet.
+/// An item, its value shown as a part of the packet; and, by document 02, Item 11, the byte of the
+/// lent packet at which its name begins, and the bits that its last byte has beyond the value's.
 #[derive(Clone, Copy, Debug, PartialEq)]
 pub struct Item<'a> {
     pub name: Name,
     pub bits: u32,
     pub value: &'a [u8],
+    pub start: usize,
+    pub unused: usize,
 }
 
 /// An item of a nested walk, with the level it stands on.
@@ -40,7 +43,7 @@ pub struct Walked<'a> {
     pub item: Item<'a>,
 }
 
-/// An item that was found, and whether the standing packet holds it.
+/// An item that was found, and whether the standing packet holds it, in which it starts then.
 #[derive(Clone, Copy, Debug, PartialEq)]
 pub struct Found<'a> {
     pub standing: bool,
@@ -53,8 +56,8 @@ pub fn bytes_of(bits: u32) -> usize {
 }
 
 /// The first item of what is left of a packet, and what is left behind it; nothing where 7 or
-/// fewer bytes remain. An item that passes the end is 30.
-fn next(rest: &[u8]) -> Answer<Option<(Item<'_>, &[u8])>> {
+/// fewer bytes remain. `start` is the byte at which these begin. An item that passes the end is 30.
+fn next(rest: &[u8], start: usize) -> Answer<Option<(Item<'_>, &[u8])>> {
     if rest.len() < HEAD {
         return Ok(None);
     }
@@ -64,7 +67,8 @@ fn next(rest: &[u8]) -> Answer<Option<(Item<'_>, &[u8])>> {
     refuse(length > behind.len(), number::OVERRUN)?;
     let (value, left) = behind.split_at(length);
     let name = [head[0], head[1], head[2], head[3]];
-    Ok(Some((Item { name, bits, value }, left)))
+    let unused = 8 * length - bits as usize;
+    Ok(Some((Item { name, bits, value, start, unused }, left)))
 }
 
 /// What an item may be refused for behind 30 on every level: 31 where repeats are forbidden, 33.
@@ -81,7 +85,7 @@ pub fn items(packet: &[u8], repeats: Repeats) -> Answer<(Vec<Item<'_>>, usize)> 
     let mut items = Vec::new();
     let mut names = HashSet::new();
     let mut rest = packet;
-    while let Some((item, left)) = next(rest)? {
+    while let Some((item, left)) = next(rest, packet.len() - rest.len())? {
         check_item(&item, &mut names, repeats)?;
         items.push(item);
         rest = left;
@@ -119,14 +123,15 @@ pub fn containers(list: &[u8]) -> Answer<HashSet<Name>> {
 }
 
 /// All items of a packet and, behind each container, those of its value; and the count of padding
-/// bytes of the outer packet. What is said of repeats holds for each level by itself.
+/// bytes of the outer packet. What is said of repeats holds for each level by itself; starts count
+/// in the outer packet on every level.
 pub fn walk<'a>(
     list: &[u8],
     packet: &'a [u8],
     repeats: Repeats,
 ) -> Answer<(Vec<Walked<'a>>, usize)> {
     let mut walk = Walk { containers: containers(list)?, repeats, walked: Vec::new() };
-    let padding = walk.packet(packet, 0)?;
+    let padding = walk.packet(packet, 0, 0)?;
     Ok((walk.walked, padding))
 }
 
@@ -138,11 +143,12 @@ struct Walk<'a> {
 }
 
 impl<'a> Walk<'a> {
-    /// Walks the items of a packet on one level, and gives the count of its padding bytes.
-    fn packet(&mut self, packet: &'a [u8], depth: usize) -> Answer<usize> {
+    /// Walks the items of a packet on one level, which begins at byte `begin` of the outer packet,
+    /// and gives the count of its padding bytes.
+    fn packet(&mut self, packet: &'a [u8], begin: usize, depth: usize) -> Answer<usize> {
         let mut names = HashSet::new();
         let mut rest = packet;
-        while let Some((item, left)) = next(rest)? {
+        while let Some((item, left)) = next(rest, begin + packet.len() - rest.len())? {
             check_item(&item, &mut names, self.repeats)?;
             self.item(&item, depth)?;
             rest = left;
@@ -157,7 +163,7 @@ impl<'a> Walk<'a> {
         refuse(depth > DEEPEST, number::DEPTH)?;
         self.walked.push(Walked { depth, item: *item });
         if contains {
-            self.packet(item.value, depth + 1)?;
+            self.packet(item.value, item.start + HEAD, depth + 1)?;
         }
         Ok(())
     }

@@ -39,10 +39,16 @@ fn fault(row: &[&[u8]], repeats: Repeats) -> Option<u8> {
     })
 }
 
-/// A part as an item; its value is equal to the one in a packet, though not the same bytes.
-fn item<'a>(part: &&'a [u8]) -> Item<'a> {
+/// A part as an item that starts there; its value is equal to the one in a packet, though not the
+/// same bytes.
+fn item(part: &[u8], start: usize) -> Item<'_> {
     let (name, bits) = (part[..4].try_into().unwrap(), u32::from(part[7]));
-    Item { name, bits, value: &part[8..] }
+    Item { name, bits, value: &part[8..], start, unused: (8 - part[7] % 8) as usize % 8 }
+}
+
+/// The parts of a row as items, each where those before it end.
+fn items_of<'a>(row: &[&'a [u8]]) -> Vec<Item<'a>> {
+    (0..row.len()).map(|at| item(row[at], row[..at].concat().len())).collect()
 }
 
 #[test]
@@ -53,7 +59,7 @@ fn there_are_so_many_rows() {
 #[test]
 fn only_31_goes_where_repeats_are_allowed() {
     for (row, repeats) in rows().iter().flat_map(|row| WORDS.map(|word| (row, word))) {
-        let (packet, parts) = (row.concat(), row.iter().map(item).collect());
+        let (packet, parts) = (row.concat(), items_of(row));
         let due = fault(row, repeats).map_or(Ok((parts, 0)), Err);
         assert_eq!(items(&packet, repeats), due);
     }
@@ -74,8 +80,9 @@ fn an_item_that_passes_the_end_is_30_with_either_word() {
 fn occurrences_are_counted_from_0_over_the_packet() {
     for (row, repeats) in rows().iter().flat_map(|row| WORDS.map(|word| (row, word))) {
         let packet = row.concat();
-        for Item { name, .. } in PARTS.iter().map(item) {
-            let named: Vec<_> = row.iter().map(item).filter(|item| item.name == name).collect();
+        for Item { name, .. } in items_of(&PARTS) {
+            let items = items_of(row).into_iter();
+            let named: Vec<_> = items.filter(|item| item.name == name).collect();
             for number in [0, 1, 2, 3, 4, 1 << 32, usize::MAX] {
                 let there = named.get(number).copied().ok_or(number::ABSENT);
                 let due = fault(row, repeats).map_or(there, Err);

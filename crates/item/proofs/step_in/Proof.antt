@@ -11,6 +11,7 @@ use Rattle.item.proofs.step_in.Reads as reads
 use Rattle.item.proofs.step_in.Lts as lts
 use Rattle.base.proofs.read4.Reads as read4-reads
 use Rattle.item.proofs.bytes_of.Reads as bytes-of-reads
+use Rattle.item.proofs.unused_of.Reads as unused-of-reads
 
 returns : tie.Need-returns
 unfolding stepIn
@@ -27,9 +28,11 @@ returns-3 c =
 
 returns-4 : tie.Need-returns-4
 returns-4 c =
-    let h = c .before .before .before .before .before .if2 .left in let f = c .if3 .left in step-told _ _ _ _ (is-item _ _ _ _ _ _ h
-    (c .before .before .before .before .read4 .ensures) (c .before .before .before .read42 .ensures) (c .before .before .bytes-of .ensures)
-    (omega arith))
+    let k = c .before in
+    let h = k .before .before .before .before .before .if2 .left in
+    let f = k .if3 .left in
+    step-told _ _ _ _ (is-item _ _ _ _ _ _ _ h (k .before .before .before .before .read4 .ensures) (k .before .before .before .read42 .ensures)
+    (k .before .before .bytes-of .ensures) (c .unused-of .ensures) (omega arith))
 
 read4-requires : tie.Need-read4-requires
 read4-requires c κs = search needs
@@ -43,8 +46,11 @@ read4-requires-2 c κs = search needs
 bytes-of-requires : tie.Need-bytes-of-requires
 bytes-of-requires c κs = search needs
 
-add-t12 : tie.Need-add-t12
-add-t12 c = search needs
+unused-of-requires : tie.Need-unused-of-requires
+unused-of-requires c κs = search needs
+
+add-from : tie.Need-add-from
+add-from c = search needs
 
 pub step-in-spec : {M : Type 1} → statement M
 step-in-spec =
@@ -57,5 +63,6 @@ step-in-spec =
     read4-requires-2
     bytes-of-requires
     returns-3
-    add-t12
+    unused-of-requires
+    add-from
     returns-4)

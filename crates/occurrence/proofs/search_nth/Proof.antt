@@ -1,13 +1,11 @@
 -- `occurrence::search_nth` meets its contract.
 use borrow.Author.Needs.{needs}
-use mathlib.Core.Path.{ap, _∙_}
-use Rattle.tag_rules.specs.Calls.{searchAnswer, searchNthCall}
+use mathlib.Core.Path.{_∙_}
 use Rattle.occurrence.proofs.search_nth.Statement.{statement}
 use Rattle.occurrence.proofs.search_nth.Tie as tie
 
 returns : tie.Need-returns
-unfolding searchNthCall
-returns c = c .sought .ensures ∙ ap searchAnswer (c .before .locate-nth .ensures .0)
+returns c = c .sought .ensures ∙ c .before .locate-nth .ensures .1
 
 locate-nth-requires : tie.Need-locate-nth-requires
 locate-nth-requires c κs = search needs

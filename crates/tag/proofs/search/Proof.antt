@@ -1,13 +1,11 @@
 -- `tag::search` meets its contract.
 use borrow.Author.Needs.{needs}
-use mathlib.Core.Path.{ap, _∙_}
-use Rattle.tag_rules.specs.Calls.{searchAnswer, searchCall}
+use mathlib.Core.Path.{_∙_}
 use Rattle.tag.proofs.search.Statement.{statement}
 use Rattle.tag.proofs.search.Tie as tie
 
 returns : tie.Need-returns
-unfolding searchCall
-returns c = c .sought .ensures ∙ ap searchAnswer (c .before .locate .ensures .0)
+returns c = c .sought .ensures ∙ c .before .locate .ensures .1
 
 locate-requires : tie.Need-locate-requires
 locate-requires c κs = search needs

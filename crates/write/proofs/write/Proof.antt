@@ -5,6 +5,7 @@ use lib.Pow.{pow-pos}
 use borrow.Author.Needs.{needs}
 use Rattle.base_rules.specs.Written.{numberOf}
 use Rattle.base_rules.proofs.Answers.{writes, leaves}
+use Rattle.item_rules.proofs.Starts.{unused-few}
 use Rattle.write_rules.specs.Write.{writeCall}
 use Rattle.write_rules.proofs.Puts.{item-put}
 use Rattle.write_rules.proofs.Refusals.{taken}
@@ -23,29 +24,29 @@ put-value-requires : tie.Need-put-value-requires
 put-value-requires c κs =
     let Fault = c .before .before .before .before .before .before .before .before .fault in
     let If1 = c .before .before .before .before .before .before .before .if1 in
-    let Unused = c .before .before .before .before .before .before .unused in
+    let Unused = c .before .before .before .before .before .before .unused-of in
     let fits = taken _ _ _ _ (sym (Fault .ensures) ∙ If1 .left) in
-    (omega (arith, fits .0, fits .1), omega (arith, pow-pos (Unused .result)))
+    (omega (arith, fits .0, fits .1), omega (arith, pow-pos (Unused .result .0)))
+
+power-requires : tie.Need-power-requires
+power-requires c κs = omega (arith, unused-few (c .before .before .before .before .before .args .bits .0), c .unused-of .ensures)
 
 returns-2 : tie.Need-returns-2
 unfolding numberOf writeCall
 returns-2 c =
     let Fault = c .before .before .before .before .before .before .before .before .before .before .before .fault in
     let If1 = c .before .before .before .before .before .before .before .before .before .before .if1 in
-    let Unused = c .before .before .before .before .before .before .before .before .before .unused in
+    let Unused = c .before .before .before .before .before .before .before .before .before .unused-of in
     let Power = c .before .before .before .before .before .before .before .before .power in
     let Put-head = c .before .before .before .before .before .before .put-head in
     writes _ _ _ _ _ (sym (sym (Fault .ensures) ∙ If1 .left))
-    (item-put _ _ _ _ _ _ _ _ (Put-head .ensures) (c .before .before .put-value .ensures) (Power .ensures) (Unused .ensures .0))
+    (item-put _ _ _ _ _ _ _ _ (Put-head .ensures) (c .before .before .put-value .ensures) (Power .ensures) (Unused .ensures))
 
 fault-requires : tie.Need-fault-requires
 fault-requires c κs = search needs
 
-unused-requires : tie.Need-unused-requires
-unused-requires c κs = search needs
-
-power-requires : tie.Need-power-requires
-power-requires c κs = search needs
+unused-of-requires : tie.Need-unused-of-requires
+unused-of-requires c κs = search needs
 
 same-length : tie.Need-same-length
 same-length c = search needs
@@ -56,7 +57,7 @@ write-spec =
     (tie.spec
     fault-requires
     returns
-    unused-requires
+    unused-of-requires
     power-requires
     put-head-requires
     put-value-requires

@@ -19,7 +19,7 @@ returns : tie.Need-returns
 unfolding steppedNumber
 returns c =
     let said = c .before .before in
-    let known = said .before .before .before .before .before .before .before .before in
+    let known = said .before .before .before .before .before .before .before .before .before in
     told-granted step-widths _ (known .before .before .before .args .told .now) (ap steppedNumber (known .h .given .1)) refl (said .tell .ensures)
 
 returns-2 : tie.Need-returns-2
@@ -41,6 +41,9 @@ cast-t11 c = search needs
 
 cast-t12 : tie.Need-cast-t12
 cast-t12 c = search needs
+
+cast-t13 : tie.Need-cast-t13
+cast-t13 c = search needs
 
 slice-aggregate-tell : tie.Need-slice-aggregate-tell
 slice-aggregate-tell c = search needs
@@ -76,6 +79,7 @@ tell-step-spec =
     enum-known-h
     cast-t11
     cast-t12
+    cast-t13
     slice-aggregate-tell
     slice-aggregate-tell-2
     tell-requires

@@ -1,24 +1,20 @@
 -- `items::write_head` meets its contract: each text goes on where the one before stops. Assumes nothing.
-use native.Mathlib.Omega.{arith}
 use borrow.Author.Needs.{needs}
-use Rattle.text_rules.proofs.Writing.{wrote, goes}
+use Rattle.text_rules.proofs.Writing.{goes}
 use Rattle.console.proofs.items.write_head.Statement.{statement}
 use Rattle.console.proofs.items.write_head.Tie as tie
 
 returns : tie.Need-returns
 returns c =
-    let A = c .before .before .before .before .before .before .before .before .before .before .before .before .before .before .before .before
-    .before .before .args in
-    let Plain = c .before .before .before .before .before .before .before .before .before .before .before .before .before .plain in
+    let Label = c .before .before .before .before .before .before .before .before .before .before .before .before .before .write-label in
     let Hex = c .before .before .before .before .before .before .before .before .hex in
-    let a = A in
-    goes _ (goes _ (wrote (a .out .now) (a .at) _ (omega arith) (Plain .ensures)) (Hex .ensures)) (c .before .before .labelled .ensures)
+    goes _ (goes _ (Label .ensures) (Hex .ensures)) (c .before .before .labelled .ensures)
 
 bytes4-requires : tie.Need-bytes4-requires
 bytes4-requires c κs = search needs
 
-plain-requires : tie.Need-plain-requires
-plain-requires c κs = search needs
+write-label-requires : tie.Need-write-label-requires
+write-label-requires c κs = search needs
 
 slice-aggregate-hex : tie.Need-slice-aggregate-hex
 slice-aggregate-hex c = search needs
@@ -43,7 +39,7 @@ write-head-spec =
     tie.close
     (tie.spec
     bytes4-requires
-    plain-requires
+    write-label-requires
     slice-aggregate-hex
     hex-requires
     slice-aggregate-labelled

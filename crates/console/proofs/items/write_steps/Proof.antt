@@ -6,10 +6,10 @@ use Rattle.console.proofs.items.write_steps.Statement.{statement}
 use Rattle.console.proofs.items.write_steps.Tie as tie
 
 abbrev Inv-loop : tie.InvT-loop
-Inv-loop out₀ packet to₀ at₀ left₀ out to at left = Wrote out₀ to₀ to out
+Inv-loop out₀ packet placed to₀ at₀ left₀ out to at left = Wrote out₀ to₀ to out
 
 abbrev μ-loop : tie.MeasureT-loop
-μ-loop out₀ packet to₀ at₀ left₀ out to at left = left
+μ-loop out₀ packet placed to₀ at₀ left₀ out to at left = left
 
 returns : tie.Need-returns Inv-loop μ-loop
 returns c =

@@ -6,10 +6,10 @@ use Rattle.console.proofs.items.write_visits.Statement.{statement}
 use Rattle.console.proofs.items.write_visits.Tie as tie
 
 abbrev Inv-loop : tie.InvT-loop
-Inv-loop out₀ packet names to₀ w₀ left₀ t13 out to w left = Wrote out₀ to₀ to out
+Inv-loop out₀ packet names placed to₀ w₀ left₀ t13 out to w left = Wrote out₀ to₀ to out
 
 abbrev μ-loop : tie.MeasureT-loop
-μ-loop out₀ packet names to₀ w₀ left₀ t13 out to w left = left
+μ-loop out₀ packet names placed to₀ w₀ left₀ t13 out to w left = left
 
 returns : tie.Need-returns Inv-loop μ-loop
 returns c =
