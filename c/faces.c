@@ -166,7 +166,8 @@ static void faces_of_receive(const uint8_t *datagram, size_t length, size_t room
     displaced += receipt.displaced;
 }
 
-/* A packet's fragments, some lost, some repeated, some changed; the places hold those of earlier packets. */
+/* A packet's fragments, some lost, some repeated, some changed; one packet of five breaks off, and its place stays open until it is displaced; the
+ * places hold those of earlier packets. */
 static void faces_of_line(size_t length)
 {
     static uint8_t bytes[BAILHAMMER_SENT];
@@ -174,7 +175,7 @@ static void faces_of_line(size_t length)
     struct bailhammer_sent sent = faces_of_rules(settings, length, bytes);
     receiver.own = settings.address;
     receiver.own.source ^= (uint16_t)(drawn(10) == 0);
-    for (size_t i = 0, part; i < sent.f; i++) {
+    for (size_t i = 0, part, come = drawn(5) == 0 ? sent.f / 2 : sent.f; i < come; i++) {
         const uint8_t *fragment = bailhammer_sent_part(&sent, i, &part);
         if (drawn(60) == 0)
             bytes[i * (sent.h + sent.s) + drawn(part)] ^= (uint8_t)(1 + drawn(255));

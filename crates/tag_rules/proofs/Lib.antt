@@ -7,5 +7,6 @@ pub mod HandedOut
 pub mod Endings
 pub mod Inside
 pub mod Numbers
+pub mod Hits
 pub mod Repeated
 pub mod Proved

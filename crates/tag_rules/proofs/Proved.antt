@@ -26,11 +26,13 @@ use Rattle.tag_rules.specs.Calls.{openedNumber, openCall, soughtNumber, 
 use Rattle.tag_rules.specs.Reading.{startOf, refusalOf, checkedRun, itemsOf, lastOf}
 use Rattle.tag_rules.specs.Claims.{OneOpened, OneSought, OneLocated, Opens, InOrder, Ends, StaysAtEnd, StaysRefused, ReadShown, FoundShown}
 use Rattle.tag_rules.specs.Claims.{NoTwice, AcceptedStill, FoundStill, NthStill, StandingRefused, FoundNotTwice, NthNotTwice}
-use Rattle.tag_rules.specs.Claims.{NthBeyond, NthRefused, FindsFirst, StandingAside, NthShown, ReadStarts, InARow}
+use Rattle.tag_rules.specs.Claims.{NthBeyond, NthRefused, FindsFirst, StandingAside, NthShown}
+use Rattle.tag_rules.specs.Claims.{ReadStarts, SoughtStarts, SoughtNthStarts, InARow}
 use Rattle.tag_rules.proofs.Reading.{handed-stands, after-is, refused-reads, refused-after}
 use Rattle.tag_rules.proofs.HandedOut.{stays, repeats, hands-run}
 use Rattle.tag_rules.proofs.Endings as endings
 use Rattle.tag_rules.proofs.Inside as inside
+use Rattle.tag_rules.proofs.Hits as hits
 use Rattle.tag_rules.proofs.Repeated as repeated
 
 pub one-opened : OneOpened
@@ -148,6 +150,14 @@ nth-shown = inside.nth-in
 pub read-starts : ReadStarts
 read-starts s at refusal i e = item-starts s at _ i (handed-stands s at refusal i e)
 
--- and those of a packet follow each other without a gap
+-- one that a search finds in the packet that it names,
+pub sought-starts : SoughtStarts
+sought-starts = hits.sought-starts
+
+-- an occurrence in the packet,
+pub sought-nth-starts : SoughtNthStarts
+sought-nth-starts = hits.sought-nth-starts
+
+-- and the items of a packet follow each other without a gap
 pub in-a-row : InARow
 in-a-row = endings.in-a-row

@@ -1,5 +1,5 @@
 -- What document 01 and document 02, Items 1 and 11, say of a reader and of a search, as claims: each is proved in proofs/Proved.antt.
-use mathlib.Core.Bool.{true, false}
+use mathlib.Core.Bool.{true, false, cond}
 use mathlib.Core.Path.{_≡_}
 use mathlib.Core.List.{List, _++_}
 use Prim.Native.Nat.{ℕ, _+_, _≤_, _<_}
@@ -12,12 +12,14 @@ use Rattle.item_rules.specs.declared.Step.the-variants as step
 use Rattle.item_rules.specs.Item.{head, bytesFor}
 use Rattle.item_rules.specs.Run.{Run, item, padding, nextOf, hasName, namedIn}
 use Rattle.item_rules.specs.Claims.{StartsIn}
+use Rattle.tag_rules.specs.declared.Hit.{Hit}
 use Rattle.tag_rules.specs.declared.Located.{Located}
 use Rattle.tag_rules.specs.declared.Located.the-variants as located
 use Rattle.tag_rules.specs.declared.Opened.{Opened}
 use Rattle.tag_rules.specs.declared.Sought.{Sought}
+use Rattle.tag_rules.specs.declared.Sought.the-variants as sought
 use Rattle.tag_rules.specs.Find.{wholeRun, checkOf, locateOf, locateNthOf, valueOf}
-use Rattle.tag_rules.specs.Calls.{openedNumber, openCall, readOf, soughtNumber, locatedNumber}
+use Rattle.tag_rules.specs.Calls.{openedNumber, openCall, readOf, soughtNumber, locatedNumber, locateCall, locateNthCall}
 use Rattle.tag_rules.specs.Reading.{startOf, refusalOf, handed, standsAfter, checkedRun, itemsOf, lastOf}
 
 -- no second answer fits: two answers with the same number and values are the same answer
@@ -144,6 +146,16 @@ NthShown = (w : Repeats) (s : List ℕ) (name number : ℕ) (i : Item)
 -- "Stepping to the next item shall also give the byte at which it starts": an item that a reader hands out starts where the reader stands
 abbrev pub ReadStarts : Type 0
 ReadStarts = (s : List ℕ) (at refusal : ℕ) (i : Item) → readOf s at refusal ≡ step.Item i → i .start ≡ at
+
+-- "finding also says which": whatever answer of a search fits, its item starts in the packet that it names,
+abbrev pub SoughtStarts : Type 0
+SoughtStarts = (w : Repeats) (s t : List ℕ) (name : ℕ) (h : Hit) → soughtNumber (sought.Found h) ≡ locateCall w s t name
+    → StartsIn (cond (h .standing) t s) (h .item)
+
+-- and an occurrence in the packet
+abbrev pub SoughtNthStarts : Type 0
+SoughtNthStarts = (w : Repeats) (s : List ℕ) (name number : ℕ) (h : Hit) → soughtNumber (sought.Found h) ≡ locateNthCall w s name number
+    → (h .standing ≡ false) × StartsIn s (h .item)
 
 -- a run from byte `at` to byte `end` without a gap: the first item starts at `at`, each next where the one before ends, and what is left behind the
 -- last is the padding, 7 bytes or fewer
