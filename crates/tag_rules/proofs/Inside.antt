@@ -14,10 +14,9 @@ use Rattle.item_rules.specs.declared.Found.{Found}
 use Rattle.item_rules.specs.declared.Found.the-variants as found
 use Rattle.item_rules.specs.Item.{stepIn, itemAt, bytesFor}
 use Rattle.item_rules.specs.Run.{nextOf, firstOf, nthOf}
-use Rattle.item_rules.proofs.Steps.{item-fits, item-at, zero-one}
-use Rattle.item_rules.proofs.Runs.{item-begins}
+use Rattle.item_rules.proofs.Steps.{item-at, zero-one}
+use Rattle.item_rules.proofs.Starts.{starts-at, starts-inside}
 use Rattle.item_rules.proofs.Finds.{found-stands, nth-stands}
-use Rattle.item_rules.proofs.Proved.{starts-at}
 use Rattle.tag_rules.specs.declared.Located.the-variants as located
 use Rattle.tag_rules.specs.Find.{wholeRun, checkOf, inPacket, inStanding, locateOf, locateNthOf, valueOf}
 use Rattle.tag_rules.specs.Claims.{Shown, FoundShown, NthShown}
@@ -26,11 +25,11 @@ use Rattle.tag_rules.specs.Claims.{Shown, FoundShown, NthShown}
 pub shown : (s : List ℕ) (at : ℕ) (i : Item) → stepIn s at (length s) ≡ step.Item i → Shown s i
 unfolding valueOf itemAt
 shown s at i e =
-    let fits : nextOf i ≤ length s = omega (arith, item-begins _ _ _ _ e, item-fits _ _ _ _ e) in
+    let starts = starts-at s at (length s) i (le-refl (length s)) e .0 in
+    let fits : nextOf i ≤ length s = starts-inside s i starts in
     let sized : i .len .0 ≡ bytesFor (i .bits .0) = rw (item-at s at (length s) i e) refl in
     record {
-      starts = starts-at s at (length s) i (le-refl (length s)) e .0;
-      inside = fits;
+      starts = starts;
       whole = length-take-le (i .len .0) (drop (i .from) s) (omega (arith, length-drop (i .from) s)) ∙ sized;
     }
 

@@ -63,11 +63,10 @@ abbrev pub StaysRefused : Type 0
 StaysRefused = (s : List ℕ) (at refusal : ℕ) → (refusal ≡ 0 → ⊥) → (n : ℕ)
     → (standsAfter n s at refusal ≡ at) × (readOf s (standsAfter n s at refusal) refusal ≡ step.Refused refusal)
 
--- "a value is shown as a part of the caller's bytes": the item lies in s, and its value is shown whole, ceil(bits / 8) bytes; document 02, Item 11:
--- the byte of s at which it starts is the one that it tells
+-- "a value is shown as a part of the caller's bytes": the item lies in s, from the start that it tells on (document 02, Item 11), and its value is
+-- shown whole, ceil(bits / 8) bytes
 pub record Shown (s : List ℕ) (i : Item) : Type 0 where
   pub starts : StartsIn s i
-  pub inside : nextOf i ≤ length s
   pub whole : length (valueOf s i) ≡ bytesFor (i .bits .0)
 
 -- so is the value of an item that a reader hands out,

@@ -2,6 +2,7 @@
 use borrow.Author.Needs.{needs}
 use mathlib.Core.Path.{sym, ap, _∙_}
 use native.Mathlib.Omega.{arith}
+use Rattle.item_rules.proofs.Starts.{starts-inside}
 use Rattle.tag_rules.specs.Find.{shownBy, placeBy}
 use Rattle.tag_rules.proofs.Inside.{nth-in}
 use Rattle.tag_rules.proofs.Values.{place-inside}
@@ -18,7 +19,7 @@ returns : tie.Need-returns
 returns c =
     let k = c .before .before in
     let e = sym (k .shown .given .1) ∙ k .before .before .locate-nth .ensures .0 in
-    let inside = nth-in _ _ _ _ _ .0 (sym e) .inside in
+    let inside = starts-inside _ _ (nth-in _ _ _ _ _ .0 (sym e) .starts) in
     (c .value .ensures .0 ∙ ap (shownBy _ _) e, c .value .ensures .1 ∙ sym (place-inside _ _ (omega arith)) ∙ ap (placeBy _ _) e)
 
 returns-2 : tie.Need-returns-2

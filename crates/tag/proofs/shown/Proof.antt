@@ -2,6 +2,7 @@
 use borrow.Author.Needs.{needs}
 use mathlib.Core.Path.{sym, ap, _∙_}
 use native.Mathlib.Omega.{arith}
+use Rattle.item_rules.proofs.Starts.{starts-inside}
 use Rattle.tag_rules.specs.Find.{shownBy, placeBy}
 use Rattle.tag_rules.proofs.Inside.{found-in}
 use Rattle.tag_rules.proofs.Values.{place-inside}
@@ -19,14 +20,14 @@ returns : tie.Need-returns
 returns c =
     let k = c .before .before in
     let e = sym (k .l .given .1) ∙ k .before .before .locate .ensures .0 in
-    let inside = found-in _ _ _ _ _ .0 (sym e) .inside in
+    let inside = starts-inside _ _ (found-in _ _ _ _ _ .0 (sym e) .starts) in
     (c .value .ensures .0 ∙ ap (shownBy _ _) e, c .value .ensures .1 ∙ sym (place-inside _ _ (omega arith)) ∙ ap (placeBy _ _) e)
 
 returns-2 : tie.Need-returns-2
 returns-2 c =
     let k = c .before .before in
     let e = sym (k .l2 .given .1) ∙ k .before .before .locate .ensures .0 in
-    let inside = found-in _ _ _ _ _ .1 (sym e) .inside in
+    let inside = starts-inside _ _ (found-in _ _ _ _ _ .1 (sym e) .starts) in
     (c .value2 .ensures .0 ∙ ap (shownBy _ _) e, c .value2 .ensures .1 ∙ sym (place-inside _ _ (omega arith)) ∙ ap (placeBy _ _) e)
 
 returns-3 : tie.Need-returns-3
