@@ -1,9 +1,9 @@
 -- What is claimed of the calls for C, in the words of card.h: the proofs are in proofs/Proved.antt.
 use mathlib.Core.Path.{_≡_}
-use mathlib.Core.List.{List, [], _∷_}
+use mathlib.Core.List.{List, [], _∷_, _++_}
 use mathlib.Core.Logic.{_⊎_}
 use Prim.Native.Nat.{ℕ, _+_, _^_, _<_, _≤_}
-use lib.ListN.{length, getD, drop, replicate}
+use lib.ListN.{length, getD, take, drop, replicate}
 use Rattle.base_rules.specs.Answer.{granted, answerIn}
 use Rattle.base_rules.specs.Bounds.{most-f, most-l}
 use Rattle.base_rules.specs.Bytes.{Bytes, splice, numberAt}
@@ -20,22 +20,16 @@ use Rattle.places_rules.specs.Places.{freshTable}
 use Rattle.places_rules.specs.declared.Displaced.{Displaced}
 use Rattle.receiver_rules.specs.Promise.{numberOf, Reception, roomFault, payloadOf, State, Step}
 use Rattle.receiver_rules.specs.declared.Received.the-variants.{Delivered}
-use Rattle.item_rules.specs.declared.Item.{Item}
 use Rattle.item_rules.specs.declared.Repeats.{Repeats}
-use Rattle.item_rules.specs.Item.{head}
-use Rattle.tag_rules.specs.declared.Located.{Located}
-use Rattle.tag_rules.specs.declared.Located.the-variants as located
-use Rattle.tag_rules.specs.Find.{locateOf, locateNthOf}
-use Rattle.walk_rules.specs.declared.Handed.{Handed}
-use Rattle.walk_rules.specs.declared.Handed.the-variants as handed
+use Rattle.tag_rules.specs.Calls.{locateCall, locateNthCall}
 use Rattle.walk_rules.specs.declared.Walker.{Walker}
-use Rattle.walk_rules.specs.Names.{deepest, namesFault}
+use Rattle.walk_rules.specs.Names.{namesFault}
 use Rattle.walk_rules.specs.Step.{opens, walkStep}
 use Rattle.card_rules.specs.Told.{refusalIn, inWidths, toldLength, CardWritten, CardTold}
 use Rattle.card_rules.specs.Endurance.{endureFor, endure-widths}
 use Rattle.card_rules.specs.Headers.{header-widths, parseFor}
 use Rattle.card_rules.specs.Receiving.{receiptTold, receipt-widths, Held, RefusedWith, CardReceived, clearFor}
-use Rattle.card_rules.specs.Items.{walker-bytes, walkerBytes, walkerFrom, step-widths, walkStepCall}
+use Rattle.card_rules.specs.Items.{found-widths, walker-bytes, walkerBytes, walkerFrom, steppedNumber, step-widths, walkStepCall}
 use Rattle.card_rules.specs.Blocks.{CardFilled}
 
 -- ---- the sender: what it tells
@@ -194,38 +188,24 @@ StepNumbers =
 
 -- ---- items: what is told of them
 
--- no figure of an item is cut off where its name, its bits and its value's bytes are told in four bytes each, its value's place and its start in eight,
--- and its unused bits in one
-pub record ItemWhole (i : Item) : Type 0 where
-  pub name : i .name < 2 ^ 32
-  pub bits : i .bits .0 < 2 ^ 32
-  pub from : i .from < 2 ^ 64
-  pub len : i .len .0 < 2 ^ 32
-  pub start : i .start < 2 ^ 64
-  pub unused : i .unused .0 < 2 ^ 8
+-- what finding tells but the name, which was given and is told in no bytes
+abbrev pub unnamed : List ℕ → List ℕ
+unnamed figures = take 1 figures ++ drop 2 figures
 
--- so it is of an item that was found, wherever,
-abbrev pub LocatedWhole : Located → Type 0
-LocatedWhole (located.Packet i) = ItemWhole i
-LocatedWhole (located.Standing i) = ItemWhole i
-LocatedWhole (located.Refused n) = Unit {0}
-
--- whatever the two packets are
+-- no figure of an item that is found is cut off where it is told, whatever the two packets are,
 abbrev pub FoundWhole : Type 0
 FoundWhole =
-    (word : Repeats) (packet standing : List ℕ) (name : ℕ) → Bytes packet → Bytes standing → length packet < 2 ^ 64 → length standing < 2 ^ 64
-    → LocatedWhole (locateOf word packet standing name)
+    (word : Repeats) (packet standing : List ℕ) (name : ℕ) (values : List ℕ) → Bytes packet → Bytes standing → length packet < 2 ^ 64
+    → length standing < 2 ^ 64 → locateCall word packet standing name ≡ granted values → Fits (unnamed found-widths) (unnamed values)
 
--- document 02, Item 1: and so it is of an occurrence
+-- document 02, Item 1: nor is one of an occurrence,
 abbrev pub NthWhole : Type 0
-NthWhole = (word : Repeats) (packet : List ℕ) (name number : ℕ) → Bytes packet → length packet < 2 ^ 64 → LocatedWhole (locateNthOf word packet name number)
+NthWhole =
+    (word : Repeats) (packet : List ℕ) (name number : ℕ) (values : List ℕ) → Bytes packet → length packet < 2 ^ 64
+    → locateNthCall word packet name number ≡ granted values → Fits (unnamed found-widths) (unnamed values)
 
--- of an item that a step hands out, with its depth; the padding is less than an item's head
-abbrev pub HandedWhole : Handed → Type 0
-HandedWhole (handed.Item v) = (v .depth ≤ deepest) × ItemWhole (v .item)
-HandedWhole (handed.End p) = p .0 < head
-HandedWhole (handed.Refused n) = Unit {0}
-
--- whatever the walk is
+-- nor is one of an item that a step hands out, nor the padding, whatever the walk is
 abbrev pub StepWhole : Type 0
-StepWhole = (packet names : List ℕ) (w : Walker) → Bytes packet → length packet < 2 ^ 64 → HandedWhole (walkStep packet names w .handed)
+StepWhole =
+    (packet names : List ℕ) (w : Walker) (values : List ℕ) → Bytes packet → length packet < 2 ^ 64
+    → steppedNumber (walkStep packet names w .handed) ≡ granted values → Fits step-widths values
