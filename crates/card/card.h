@@ -33,8 +33,7 @@ extern "C" {
 #define BAILHAMMER_WALKER 56   /* a walk through a packet's items */
 #define BAILHAMMER_SENT 17408  /* no packet's fragments take more: 12,288 bytes and 256 headers of 20 */
 
-/* Bytes that each call tells, and the least of its `told`. Up to version 3 those of a finding were 17 and those of a step 22: a call that is lent
- * no more gives 1 now, where it gave 0. */
+/* Bytes that each call tells, and the least of its `told`: with fewer it gives 1. Up to version 3 a finding told 17 and a step 22. */
 #define BAILHAMMER_TOLD_CHECK 8
 #define BAILHAMMER_TOLD_FIND 26 /* bailhammer_nth tells as many */
 #define BAILHAMMER_TOLD_STEP 31 /* bailhammer_walk_step */

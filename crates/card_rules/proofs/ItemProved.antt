@@ -1,33 +1,41 @@
 -- The claims of specs/Claims.antt on what is told of items. Assumes nothing.
-use mathlib.Core.Path.{_≡_, refl, subst, _∙_}
-use mathlib.Core.List.{List, [], _∷_}
+use mathlib.Core.Path.{_≡_, refl, sym, ap, subst, _∙_}
+use mathlib.Core.Bool.{false, not}
+use mathlib.Core.List.{List, [], _∷_, _++_}
 use Prim.Native.Nat.{ℕ, _+_, _^_, _<_, _≤_, min}
 use native.Mathlib.Omega.{arith}
-use lib.Dec.{lit<}
-use lib.ListN.{length}
-use Rattle.base_rules.specs.Answer.{granted}
-use Rattle.base_rules.specs.Bytes.{Bytes}
+use borrow.Author.Tests.{ltb-false}
+use lib.Dec.{eqb, lit<}
+use lib.ListN.{length, getD, take, replicate}
+use Rattle.base_rules.specs.Answer.{Answer, granted, refused, answered}
+use Rattle.base_rules.specs.Bytes.{Bytes, splice, bytesOf}
 use Rattle.base_rules.proofs.Ceil as ceils
-use Rattle.base_rules.proofs.Numbers.{number-lt}
+use Rattle.base_rules.proofs.Logic.{either, or-right}
+use Rattle.base_rules.proofs.Numbers.{number-lt, back-at}
 use Rattle.item_rules.specs.declared.Item.{Item}
 use Rattle.item_rules.specs.Item.{head, bytesFor, itemAt, valuesOf}
 use Rattle.item_rules.specs.Claims.{StartsIn}
 use Rattle.item_rules.proofs.Starts.{starts-at, starts-from, unused-is}
-use Rattle.item_rules.proofs.Steps.{end-few, zero-one}
+use Rattle.item_rules.proofs.Steps.{end-few}
 use Rattle.tag_rules.specs.declared.Located.{Located}
 use Rattle.tag_rules.specs.declared.Located.the-variants as located
 use Rattle.tag_rules.specs.Find.{locateOf, locateNthOf}
-use Rattle.tag_rules.specs.Calls.{locatedNumber}
-use Rattle.tag_rules.proofs.Numbers.{locate-number, nth-number}
+use Rattle.tag_rules.specs.Calls.{locatedNumber, locateFault, locateValues, locateCall, nthFault, locateNthCall}
+use Rattle.tag_rules.proofs.Numbers.{refused-by, locate-number, nth-number}
 use Rattle.tag_rules.proofs.Proved.{found-shown, nth-shown}
+use Rattle.walk_rules.specs.declared.Visit.{Visit}
 use Rattle.walk_rules.specs.declared.Handed.{Handed}
 use Rattle.walk_rules.specs.declared.Handed.the-variants as handed
 use Rattle.walk_rules.specs.declared.Walked.{Walked}
+use Rattle.walk_rules.specs.declared.Walker.{Walker}
 use Rattle.walk_rules.specs.Names.{deepest, namesOf}
-use Rattle.walk_rules.specs.Step.{endOf, stepFrom, walkStep}
+use Rattle.walk_rules.specs.Step.{handedNumber, endOf, stepFrom, walkStep, walkCall}
 use Rattle.walk_rules.proofs.StepLaws.{by-steps, by-walker, end-within}
-use Rattle.card_rules.specs.Items.{found-widths, steppedNumber, step-widths}
-use Rattle.card_rules.specs.Claims.{Fits, no-more, then, unnamed, FoundWhole, NthWhole, StepWhole}
+use Rattle.walk_rules.proofs.StepNumbers.{walk-number}
+use Rattle.card_rules.specs.Told.{refusalIn, inWidths, toldLength, tooShort, roomFor, toldOf, CardTold}
+use Rattle.card_rules.specs.Items.{found-widths, walker-bytes, walkerFrom, steppedNumber, step-widths, stepped, stepRoom, walkStepCall}
+use Rattle.card_rules.specs.Claims.{ItemRead, LocatedRead, FoundWhole, NthWhole, HandedRead, StepWhole}
+use Rattle.card_rules.proofs.TellLaws.{fits-room, had-room, told-room}
 
 -- ---- an item that starts in a packet
 
@@ -56,36 +64,67 @@ item-whole s bytes long i w = record {
   unused = omega (arith, unused-is s i w .few);
 }
 
+-- what was told where 0 is given stands at the front of what was lent
+given : (widths values before after : List ℕ) → CardTold widths (granted values) before after 0 → after ≡ splice before 0 (inWidths widths values)
+given widths values before after said = said .told ∙ told-room widths values before (had-room widths before values (said .number))
+
+-- a refusal is not given as 0
+not-given : (widths before after : List ℕ) (n fault : ℕ) (values : List ℕ) → refused n ≡ answered fault values
+    → CardTold widths (answered fault values) before after 0 → ⊥
+unfolding roomFor refusalIn
+not-given widths before after n fault values due said =
+    let none : 0 ≡ n = said .number ∙ ap (λ (a : Answer). refusalIn (roomFor widths before a)) (sym due) in
+    refused-by n fault values due .1 (sym none)
+
 -- ---- one that is found
 
-found-fits : (which : ℕ) (i : Item) → which < 256 ^ 1 → ItemWhole i → Fits (unnamed found-widths) (unnamed (which ∷ valuesOf i))
-found-fits which i few w = then few (then (w .bits) (then (w .from) (then (w .len) (then (w .start) (then (w .unused) no-more)))))
+module _ (before : List ℕ) (which : ℕ) (i : Item) where
+  abbrev found-told : List ℕ
+  found-told = splice before 0 (inWidths found-widths (which ∷ valuesOf i))
+
+  -- the first byte says which packet, and the item stands behind it
+  found-read : which < 256 → ItemWhole i → (getD found-told 0 0 ≡ which) × ItemRead found-told 1 i
+  unfolding splice inWidths bytesOf
+  found-read few w = (
+    (omega arith),
+    record {
+      bits = back-at 4 (i .bits .0) 1 found-told _ refl (w .bits);
+      from = back-at 8 (i .from) 5 found-told _ refl (w .from);
+      len = back-at 4 (i .len .0) 13 found-told _ refl (w .len);
+      start = back-at 8 (i .start) 17 found-told _ refl (w .start);
+      unused = back-at 1 (i .unused .0) 25 found-told _ refl (w .unused);
+    },
+  )
 
 -- wherever it is
-located-fits : (l : Located) (values : List ℕ) → ((i : Item) → l ≡ located.Packet i → ItemWhole i) → ((i : Item) → l ≡ located.Standing i → ItemWhole i)
-    → locatedNumber l ≡ granted values → Fits (unnamed found-widths) (unnamed values)
+located-read : (l : Located) (before after : List ℕ) (fault : ℕ) (values : List ℕ) → locatedNumber l ≡ answered fault values
+    → ((i : Item) → l ≡ located.Packet i → ItemWhole i) → ((i : Item) → l ≡ located.Standing i → ItemWhole i)
+    → CardTold found-widths (answered fault values) before after 0 → LocatedRead after l
 unfolding locatedNumber
-located-fits (located.Packet i) values p q e =
-    let is : 0 ∷ valuesOf i ≡ values = cc in
-    subst (λ (vs : List ℕ). Fits (unnamed found-widths) (unnamed vs)) is (found-fits 0 i (omega arith) (p i refl))
-located-fits (located.Standing i) values p q e =
-    let is : 1 ∷ valuesOf i ≡ values = cc in
-    subst (λ (vs : List ℕ). Fits (unnamed found-widths) (unnamed vs)) is (found-fits 1 i (omega arith) (q i refl))
-located-fits (located.Refused n) values p q e = absurd (zero-one (cc))
+located-read (located.Packet i) before after fault values due p q said =
+    let told = given found-widths (0 ∷ valuesOf i) before after (subst (λ (a : Answer). CardTold found-widths a before after 0) (sym due) said) in
+    subst (λ (t : List ℕ). LocatedRead t (located.Packet i)) (sym told) (found-read before 0 i (omega arith) (p i refl))
+located-read (located.Standing i) before after fault values due p q said =
+    let told = given found-widths (1 ∷ valuesOf i) before after (subst (λ (a : Answer). CardTold found-widths a before after 0) (sym due) said) in
+    subst (λ (t : List ℕ). LocatedRead t (located.Standing i)) (sym told) (found-read before 1 i (omega arith) (q i refl))
+located-read (located.Refused n) before after fault values due p q said = not-given found-widths before after n fault values due said
 
--- no figure of an item found, in the packet or the standing packet, is cut off where it is told
+-- where a finding gives 0, what is told reads back as which packet and the item there
 pub found-whole : FoundWhole
-found-whole word packet standing name values bytes bytes′ long long′ e =
-    located-fits (locateOf word packet standing name) values
+unfolding locateCall
+found-whole word packet standing name before after bytes bytes′ long long′ said =
+    located-read (locateOf word packet standing name) before after (locateFault word packet standing name) (locateValues packet standing name)
+    (locate-number word packet standing name)
     (λ i q. item-whole packet bytes long i (found-shown word packet standing name i .0 q .starts))
-    (λ i q. item-whole standing bytes′ long′ i (found-shown word packet standing name i .1 q .starts)) (locate-number word packet standing name ∙ e)
+    (λ i q. item-whole standing bytes′ long′ i (found-shown word packet standing name i .1 q .starts)) said
 
--- nor is any of an occurrence
+-- and so it is of an occurrence
 pub nth-whole : NthWhole
-nth-whole word packet name number values bytes long e =
-    located-fits (locateNthOf word packet name number) values
+unfolding locateNthCall
+nth-whole word packet name number before after bytes long said =
+    located-read (locateNthOf word packet name number) before after (nthFault word packet name number) _ (nth-number word packet name number)
     (λ i q. item-whole packet bytes long i (nth-shown word packet name number i .0 q .starts))
-    (λ i q. absurd (nth-shown word packet name number i .1 q)) (nth-number word packet name number ∙ e)
+    (λ i q. absurd (nth-shown word packet name number i .1 q)) said
 
 -- ---- one that a step hands out
 
@@ -102,25 +141,60 @@ handed-whole s cs ends bytes long =
     (λ at d n shallow e. tt)
     (λ at d shallow. omega arith)
 
--- an item has its depth before its figures, the end its padding among zeros
-handed-fits : (h : Handed) (values : List ℕ) → HandedWhole h → steppedNumber h ≡ granted values → Fits step-widths values
-unfolding steppedNumber
-handed-fits (handed.Item v) values whole e =
-    let is : 1 ∷ v .depth ∷ valuesOf (v .item) ≡ values = cc in
-    let w = whole .1 in
-    subst (Fits step-widths) is
-    (then (omega arith) (then (omega (arith, whole .0)) (then (w .name) (then (w .bits) (then (w .from) (then (w .len) (then (w .start) (then (w .unused)
-    no-more))))))))
-handed-fits (handed.End p) values whole e =
-    let is : 0 ∷ 0 ∷ 0 ∷ 0 ∷ 0 ∷ p .0 ∷ 0 ∷ 0 ∷ [] ≡ values = cc in
-    subst (Fits step-widths) is
-    (then (omega arith) (then (omega arith) (then (omega arith) (then (omega arith) (then (omega arith) (then (omega (arith, whole)) (then (omega arith)
-    (then (omega arith) no-more))))))))
-handed-fits (handed.Refused n) values whole e = absurd (zero-one (cc))
+module _ (before : List ℕ) (v : Visit) where
+  abbrev step-told : List ℕ
+  step-told = splice before 0 (inWidths step-widths (1 ∷ v .depth ∷ valuesOf (v .item)))
 
--- no figure of an item that a step hands out is cut off, nor its depth, nor the padding
+  -- 1, the depth and the name, and the item behind them
+  item-read : v .depth ≤ deepest → ItemWhole (v .item) → HandedRead step-told (handed.Item v)
+  unfolding splice inWidths bytesOf
+  item-read shallow w =
+      let i : Item = v .item in (
+        refl,
+        back-at 1 (v .depth) 1 step-told _ refl (omega arith),
+        back-at 4 (i .name) 2 step-told _ refl (w .name),
+        record {
+          bits = back-at 4 (i .bits .0) 6 step-told _ refl (w .bits);
+          from = back-at 8 (i .from) 10 step-told _ refl (w .from);
+          len = back-at 4 (i .len .0) 18 step-told _ refl (w .len);
+          start = back-at 8 (i .start) 22 step-told _ refl (w .start);
+          unused = back-at 1 (i .unused .0) 30 step-told _ refl (w .unused);
+        },
+      )
+
+-- zeros, and the padding among them
+end-read : (before : List ℕ) (p : ℕ) → take (toldLength step-widths) (splice before 0 (inWidths step-widths (0 ∷ 0 ∷ 0 ∷ 0 ∷ 0 ∷ p ∷ 0 ∷ 0 ∷ [])))
+    ≡ replicate 18 0 ++ (bytesOf 4 p ++ replicate 9 0)
+unfolding splice inWidths bytesOf toldLength
+end-read before p = refl
+
+handed-read : (h : Handed) (before after : List ℕ) (fault : ℕ) (values : List ℕ) → handedNumber h ≡ answered fault values → HandedWhole h
+    → CardTold step-widths (steppedNumber h) before after 0 → HandedRead after h
+unfolding handedNumber steppedNumber
+handed-read (handed.Item v) before after fault values due whole said =
+    subst (λ (t : List ℕ). HandedRead t (handed.Item v)) (sym (given step-widths _ before after said)) (item-read before v (whole .0) (whole .1))
+handed-read (handed.End p) before after fault values due whole said =
+    subst (λ (t : List ℕ). HandedRead t (handed.End p)) (sym (given step-widths _ before after said)) (whole, end-read before (p .0))
+handed-read (handed.Refused n) before after fault values due whole said =
+    not-given step-widths before after n fault values due (subst (λ (a : Answer). CardTold step-widths a before after 0) due said)
+
+-- where there is room for it
+as-told : (walker told told-after : List ℕ) (a : Answer) → stepRoom walker told ≡ false → 0 ≡ refusalIn a → told-after ≡ toldOf step-widths a told
+    → CardTold step-widths a told told-after 0
+unfolding stepRoom
+as-told walker told told-after a room number tells =
+    let fits = fits-room step-widths told a (ltb-false _ _ (or-right (not (eqb (length walker) walker-bytes)) (tooShort step-widths told) room)) in
+    record { number = number ∙ ap refusalIn (sym fits); told = tells ∙ ap (λ (b : Answer). toldOf step-widths b told) (sym fits) }
+
+-- where a step gives 0, what is told reads back as what it hands out
 pub step-whole : StepWhole
-step-whole packet names w values bytes long e =
-    handed-fits (walkStep packet names w .handed) values
-    (by-walker (λ (x : Walked). HandedWhole (x .handed)) packet names w
-    (handed-whole packet (namesOf names) (w .ends) bytes long (min (w .depth) deepest) (w .at) (omega arith)) (λ n. tt)) e
+unfolding walkStepCall walkCall refusalIn
+step-whole packet names walker walker-after told told-after bytes long said =
+    let w : Walker = walkerFrom walker in
+    let h : Handed = stepped packet names walker .handed in
+    let whole = by-walker (λ (x : Walked). HandedWhole (x .handed)) packet names w
+    (handed-whole packet (namesOf names) (w .ends) bytes long (min (w .depth) deepest) (w .at) (omega arith)) (λ n. tt) in
+    either (stepRoom walker told)
+    (λ short. let one : _≡_ {A = ℕ} 0 1 = rw short at (said .number) in absurd (omega arith))
+    (λ room. handed-read h told told-after _ _ (walk-number packet names w) whole
+    (as-told walker told told-after (steppedNumber h) room (rw room at (said .number)) (rw room at (said .tells))))

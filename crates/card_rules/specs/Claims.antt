@@ -6,7 +6,7 @@ use Prim.Native.Nat.{ℕ, _+_, _^_, _<_, _≤_}
 use lib.ListN.{length, getD, take, drop, replicate}
 use Rattle.base_rules.specs.Answer.{granted, answerIn}
 use Rattle.base_rules.specs.Bounds.{most-f, most-l}
-use Rattle.base_rules.specs.Bytes.{Bytes, splice, numberAt}
+use Rattle.base_rules.specs.Bytes.{Bytes, splice, numberAt, bytesOf}
 use Rattle.base_rules.specs.Tests.{bit}
 use Rattle.cut_rules.specs.Plan.{planFault, figuresOf}
 use Rattle.cut_rules.specs.Sizes.{f}
@@ -20,8 +20,15 @@ use Rattle.places_rules.specs.Places.{freshTable}
 use Rattle.places_rules.specs.declared.Displaced.{Displaced}
 use Rattle.receiver_rules.specs.Promise.{numberOf, Reception, roomFault, payloadOf, State, Step}
 use Rattle.receiver_rules.specs.declared.Received.the-variants.{Delivered}
+use Rattle.item_rules.specs.declared.Item.{Item}
 use Rattle.item_rules.specs.declared.Repeats.{Repeats}
+use Rattle.item_rules.specs.Item.{head}
+use Rattle.tag_rules.specs.declared.Located.{Located}
+use Rattle.tag_rules.specs.declared.Located.the-variants as located
+use Rattle.tag_rules.specs.Find.{locateOf, locateNthOf}
 use Rattle.tag_rules.specs.Calls.{locateCall, locateNthCall}
+use Rattle.walk_rules.specs.declared.Handed.{Handed}
+use Rattle.walk_rules.specs.declared.Handed.the-variants as handed
 use Rattle.walk_rules.specs.declared.Walker.{Walker}
 use Rattle.walk_rules.specs.Names.{namesFault}
 use Rattle.walk_rules.specs.Step.{opens, walkStep}
@@ -29,7 +36,7 @@ use Rattle.card_rules.specs.Told.{refusalIn, inWidths, toldLength, CardW
 use Rattle.card_rules.specs.Endurance.{endureFor, endure-widths}
 use Rattle.card_rules.specs.Headers.{header-widths, parseFor}
 use Rattle.card_rules.specs.Receiving.{receiptTold, receipt-widths, Held, RefusedWith, CardReceived, clearFor}
-use Rattle.card_rules.specs.Items.{found-widths, walker-bytes, walkerBytes, walkerFrom, steppedNumber, step-widths, walkStepCall}
+use Rattle.card_rules.specs.Items.{found-widths, walker-bytes, walkerBytes, walkerFrom, step-widths, stepped, walkStepCall, CardStepped}
 use Rattle.card_rules.specs.Blocks.{CardFilled}
 
 -- ---- the sender: what it tells
@@ -188,24 +195,44 @@ StepNumbers =
 
 -- ---- items: what is told of them
 
--- what finding tells but the name, which was given and is told in no bytes
-abbrev pub unnamed : List ℕ → List ℕ
-unnamed figures = take 1 figures ++ drop 2 figures
+-- what C reads of an item from byte `at` of what is told on: its bits, where its value begins, the value's bytes; document 02, Item 11: where the item
+-- itself begins, and its unused bits
+pub record ItemRead (told : List ℕ) (at : ℕ) (i : Item) : Type 0 where
+  pub bits : numberAt 4 told at ≡ i .bits .0
+  pub from : numberAt 8 told (at + 4) ≡ i .from
+  pub len : numberAt 4 told (at + 12) ≡ i .len .0
+  pub start : numberAt 8 told (at + 16) ≡ i .start
+  pub unused : numberAt 1 told (at + 24) ≡ i .unused .0
 
--- no figure of an item that is found is cut off where it is told, whatever the two packets are,
+-- card.h, "0 where it is in the packet, 1 where in the standing packet (1)", and the item there
+abbrev pub LocatedRead : List ℕ → Located → Type 0
+LocatedRead told (located.Packet i) = (getD told 0 0 ≡ 0) × ItemRead told 1 i
+LocatedRead told (located.Standing i) = (getD told 0 0 ≡ 1) × ItemRead told 1 i
+LocatedRead told (located.Refused n) = ⊥
+
+-- so it is of a finding that gives 0, whatever the two packets are: nothing is cut off,
 abbrev pub FoundWhole : Type 0
 FoundWhole =
-    (word : Repeats) (packet standing : List ℕ) (name : ℕ) (values : List ℕ) → Bytes packet → Bytes standing → length packet < 2 ^ 64
-    → length standing < 2 ^ 64 → locateCall word packet standing name ≡ granted values → Fits (unnamed found-widths) (unnamed values)
+    (word : Repeats) (packet standing : List ℕ) (name : ℕ) (before after : List ℕ) → Bytes packet → Bytes standing → length packet < 2 ^ 64
+    → length standing < 2 ^ 64 → CardTold found-widths (locateCall word packet standing name) before after 0
+    → LocatedRead after (locateOf word packet standing name)
 
--- document 02, Item 1: nor is one of an occurrence,
+-- document 02, Item 1: and of an occurrence
 abbrev pub NthWhole : Type 0
 NthWhole =
-    (word : Repeats) (packet : List ℕ) (name number : ℕ) (values : List ℕ) → Bytes packet → length packet < 2 ^ 64
-    → locateNthCall word packet name number ≡ granted values → Fits (unnamed found-widths) (unnamed values)
+    (word : Repeats) (packet : List ℕ) (name number : ℕ) (before after : List ℕ) → Bytes packet → length packet < 2 ^ 64
+    → CardTold found-widths (locateNthCall word packet name number) before after 0 → LocatedRead after (locateNthOf word packet name number)
 
--- nor is one of an item that a step hands out, nor the padding, whatever the walk is
+-- card.h, "1 (1), the item's depth (1), its name (4)", and the rest of the item; or, behind the last, "zeros and, in told[18] to told[21], the bytes of
+-- padding", which are fewer than an item's head
+abbrev pub HandedRead : List ℕ → Handed → Type 0
+HandedRead told (handed.Item v) =
+    (getD told 0 0 ≡ 1) × (numberAt 1 told 1 ≡ v .depth) × (numberAt 4 told 2 ≡ v .item .name) × ItemRead told 6 (v .item)
+HandedRead told (handed.End p) = (p .0 < head) × (take (toldLength step-widths) told ≡ replicate 18 0 ++ (bytesOf 4 (p .0) ++ replicate 9 0))
+HandedRead told (handed.Refused n) = ⊥
+
+-- so it is of a step that gives 0, whatever the walk is
 abbrev pub StepWhole : Type 0
 StepWhole =
-    (packet names : List ℕ) (w : Walker) (values : List ℕ) → Bytes packet → length packet < 2 ^ 64
-    → steppedNumber (walkStep packet names w .handed) ≡ granted values → Fits step-widths values
+    (packet names walker walker-after told told-after : List ℕ) → Bytes packet → length packet < 2 ^ 64
+    → CardStepped packet names walker walker-after told told-after 0 → HandedRead told-after (stepped packet names walker .handed)

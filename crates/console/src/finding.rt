@@ -129,7 +129,7 @@ fn write_hit(out: &mut [u8], hit: tag::Hit, value: &[u8], placed: bool) -> usize
     replies::value(out, to, b" ", value)
 }
 
-// The answer's name, and where it is asked for which packet holds the item, and its place there.
+// The answer's name, and with `placed` which packet holds the item, and its place there.
 fn write_where(out: &mut [u8], standing: bool, i: item::Item, placed: bool) -> usize
     ensures { λ r. ⌜ Wrote (now (out .entry)) 0 r (now (out .exit)) ⌝ }
 {

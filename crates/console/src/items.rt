@@ -212,7 +212,7 @@ fn write_visit(out: &mut [u8], at: usize, visit: walk::Visit, placed: bool) -> u
     write_head(out, to, b":", i, placed)
 }
 
-// The name and the bits of an item behind a label, and where it is asked for its place before them.
+// The name and the bits of an item behind a label, and with `placed` its place before them.
 fn write_head(out: &mut [u8], at: usize, label: &[u8], i: item::Item, placed: bool) -> usize
     requires { ⌜ at ≤ length (now out) ⌝ }
     ensures { λ r. ⌜ Wrote (now (out .entry)) at r (now (out .exit)) ⌝ }
@@ -223,7 +223,7 @@ fn write_head(out: &mut [u8], at: usize, label: &[u8], i: item::Item, placed: bo
     replies::labelled(out, to, b":", i.bits.0 as usize)
 }
 
-// A label, and where it is asked for an item's place behind it.
+// A label, and with `placed` an item's place behind it.
 fn write_label(out: &mut [u8], at: usize, label: &[u8], i: item::Item, placed: bool) -> usize
     requires { ⌜ at ≤ length (now out) ⌝ }
     ensures { λ r. ⌜ Wrote (now (out .entry)) at r (now (out .exit)) ⌝ }

@@ -25,9 +25,9 @@ pub const LINE: usize = 2 * words::BYTES + 512;
 // a shorter buffer, what fits is written. The answer to `walkat` has `walk`, for each item at most 26
 // letters, as in ` 0:32760:7:6162635f:262080`, and ` end 0`, and each item has a head of 8 bytes of its
 // own. No other answer may be as long: that to `itemsat` has `items`, ` end 0`, for each head at most 25
-// letters, as in ` 32760:7:6162635f:262080:`, and for each byte of a value at most 2, where 26 for each 8
-// bytes are more than 3; `items` is a letter longer than `walk`, and a head without a value has 5 fewer
-// than 26. Those to `walk` and `items` have no more. That to `endure` has at most 4 letters for each of
+// letters, as in ` 32760:7:6162635f:262080:`, and for each byte of a value at most 2, for which there is
+// room for over 3, or `-` for none; `items` is a letter longer than `walk`, and an item of no bits has 5
+// letters fewer than 26. Those to `walk` and `items` have no more. That to `endure` has at most 4 letters for each of
 // 256 fragments. The rest have 2 letters for each byte that they tell of, and fewer than 100 more, or
 // list a packet of at most 8,192 bytes.
 pub const ANSWER: usize = 26 * (words::BYTES / 8) + 10;

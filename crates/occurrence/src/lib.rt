@@ -52,7 +52,7 @@ pub fn locate_nth(packet: &[u8], repeats: Repeats, name: u32, number: usize) -> 
     }
 }
 
-// Searches for an occurrence of a name in the packet alone, and answers it, which is never one of a standing packet, or the refusal.
+// Searches for an occurrence of a name in the packet alone, and answers the item, always as one of the packet, or the refusal.
 pub fn search_nth(packet: &[u8], repeats: Repeats, name: u32, number: usize) -> Sought
     ensures { λ r. ⌜ soughtNumber r ≡ locateNthCall repeats (now (packet .entry)) name number ⌝ }
 {

@@ -119,7 +119,7 @@ pub fn value(packet: &[u8], i: Item) -> &[u8]
     &packet[from..end]
 }
 
-// What a search answers where a name is there: which packet, and the item; or the refusal.
+// What a search answers, by where a name is: which packet has it and the item there, or the refusal.
 pub fn sought(l: Located) -> Sought
     ensures { λ r. ⌜ soughtNumber r ≡ locatedNumber l ⌝ }
 {

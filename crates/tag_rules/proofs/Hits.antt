@@ -3,7 +3,6 @@ use Prim.Native.Nat.{ℕ}
 use mathlib.Core.List.{List}
 use mathlib.Core.Path.{_≡_, refl, sym, subst, _∙_}
 use mathlib.Core.Bool.{Bool, true, false, cond}
-use Rattle.base_rules.specs.Tests.{bit}
 use Rattle.base_rules.proofs.Logic.{bit-one}
 use Rattle.item_rules.specs.declared.Item.{Item}
 use Rattle.item_rules.specs.Claims.{StartsIn}

@@ -6,9 +6,11 @@ use mathlib.Core.Bool.{Bool, true, false, cond}
 use native.Mathlib.Nat.{le-refl}
 use native.Mathlib.Omega.{arith}
 use lib.Dec.{eqb}
+use borrow.Author.Tests.{eqb-true}
 use lib.ListN.{length, drop, length-drop}
 use lib.Seq.{length-take-le}
 use Rattle.item_rules.specs.declared.Item.{Item}
+use Rattle.item_rules.specs.declared.Repeats.{Repeats}
 use Rattle.item_rules.specs.declared.Step.the-variants as step
 use Rattle.item_rules.specs.declared.Found.{Found}
 use Rattle.item_rules.specs.declared.Found.the-variants as found
@@ -47,9 +49,9 @@ packet-by true false f g n m i q = absurd (zero-one (cc))
 packet-by false b′ f g n m i q = absurd (zero-one (cc))
 
 standing-by : (b b′ : Bool) (f g : Found) (n m : ℕ) (i : Item)
-    → cond b (cond b′ (inPacket f (inStanding g)) (located.Refused m)) (located.Refused n) ≡ located.Standing i → g ≡ found.At i
+    → cond b (cond b′ (inPacket f (inStanding g)) (located.Refused m)) (located.Refused n) ≡ located.Standing i → (b′ ≡ true) × (g ≡ found.At i)
 standing-by true true (found.At j) g n m i q = absurd (zero-one (cc))
-standing-by true true found.Nothing (found.At j) n m i q = cc
+standing-by true true found.Nothing (found.At j) n m i q = (refl, cc)
 standing-by true true found.Nothing found.Nothing n m i q = absurd (zero-one (cc))
 standing-by true false f g n m i q = absurd (zero-one (cc))
 standing-by false b′ f g n m i q = absurd (zero-one (cc))
@@ -62,7 +64,15 @@ found-in w s t name i =
     let g : Found = firstOf name (wholeRun t) in
     let in-packet = packet-by (eqb (checkOf w s) 0) (eqb (checkOf w t) 0) f g (checkOf w s) (checkOf w t) i in
     let in-standing = standing-by (eqb (checkOf w s) 0) (eqb (checkOf w t) 0) f g (checkOf w s) (checkOf w t) i in
-    ((λ q. found-shown s name i (in-packet q)), (λ q. found-shown t name i (in-standing q)))
+    ((λ q. found-shown s name i (in-packet q)), (λ q. found-shown t name i (in-standing q .1)))
+
+-- one that is found in the standing packet is the first of its name there, and that packet has no item at fault
+pub found-standing : (w : Repeats) (s t : List ℕ) (name : ℕ) (i : Item) → locateOf w s t name ≡ located.Standing i
+    → (checkOf w t ≡ 0) × (firstOf name (wholeRun t) ≡ found.At i)
+unfolding locateOf
+found-standing w s t name i q =
+    let by = standing-by (eqb (checkOf w s) 0) (eqb (checkOf w t) 0) (firstOf name (wholeRun s)) (firstOf name (wholeRun t)) (checkOf w s) (checkOf w t) i q in
+    (eqb-true (checkOf w t) 0 (by .0), by .1)
 
 -- ---- an occurrence
 

@@ -26,7 +26,7 @@ use Rattle.tag_rules.specs.Calls.{openedNumber, openCall, soughtNumber, 
 use Rattle.tag_rules.specs.Reading.{startOf, refusalOf, checkedRun, itemsOf, lastOf}
 use Rattle.tag_rules.specs.Claims.{OneOpened, OneSought, OneLocated, Opens, InOrder, Ends, StaysAtEnd, StaysRefused, ReadShown, FoundShown}
 use Rattle.tag_rules.specs.Claims.{NoTwice, AcceptedStill, FoundStill, NthStill, StandingRefused, FoundNotTwice, NthNotTwice}
-use Rattle.tag_rules.specs.Claims.{NthBeyond, NthRefused, FindsFirst, StandingAside, NthShown}
+use Rattle.tag_rules.specs.Claims.{NthBeyond, NthRefused, FindsFirst, FindsStanding, StandingAside, NthShown}
 use Rattle.tag_rules.specs.Claims.{ReadStarts, SoughtStarts, SoughtNthStarts, InARow}
 use Rattle.tag_rules.proofs.Reading.{handed-stands, after-is, refused-reads, refused-after}
 use Rattle.tag_rules.proofs.HandedOut.{stays, repeats, hands-run}
@@ -139,6 +139,9 @@ nth-refused = repeated.nth-refused
 -- finding shows occurrence 0 of a name that the packet holds
 pub finds-first : FindsFirst
 finds-first = repeated.finds-first
+
+pub finds-standing : FindsStanding
+finds-standing = repeated.finds-standing
 
 pub standing-aside : StandingAside
 standing-aside = repeated.standing-aside

@@ -21,9 +21,10 @@ use Rattle.tag_rules.specs.declared.Located.the-variants as located
 use Rattle.tag_rules.specs.Find.{wholeRun, checkOf, inPacket, inStanding, locateOf, locateNthOf}
 use Rattle.tag_rules.specs.Reading.{checkedRun}
 use Rattle.tag_rules.specs.Claims.{NoTwice, AcceptedStill, FoundStill, NthStill, StandingRefused, FoundNotTwice, NthNotTwice}
-use Rattle.tag_rules.specs.Claims.{NthBeyond, NthRefused, FindsFirst, StandingAside}
+use Rattle.tag_rules.specs.Claims.{NthBeyond, NthRefused, FindsFirst, FindsStanding, StandingAside}
 use Rattle.tag_rules.proofs.Searches.{refused-second, is-nth, nth-first}
 use Rattle.tag_rules.proofs.Numbers.{isAt, has-found}
+use Rattle.tag_rules.proofs.Inside.{found-standing}
 
 pub no-twice : NoTwice
 unfolding checkOf
@@ -100,6 +101,11 @@ finds-first w s t name y has =
     let here = same-by f (firstOf name (wholeRun t)) (sym (has-found name (wholeRun s)) ∙ has) in
     let nth = ap (λ (g : Found). inPacket g (located.Refused 34)) (first-is-nth name (wholeRun s)) in
     either (eqb (checkOf w s) 0) (λ z. simp (z, eq-eqb (checkOf w t) 0 y) (here ∙ nth)) (λ h. simp h)
+
+pub finds-standing : FindsStanding
+finds-standing w s t name i q =
+    let there = found-standing w s t name i q in
+    is-nth w t name 0 0 (found.At i) (sym (there .0)) refl (sym (first-is-nth name (wholeRun t)) ∙ there .1)
 
 pub standing-aside : StandingAside
 unfolding nthOf

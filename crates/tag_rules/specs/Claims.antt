@@ -130,6 +130,10 @@ abbrev pub FindsFirst : Type 0
 FindsFirst = (w : Repeats) (s t : List ℕ) (name : ℕ) → checkOf w t ≡ 0 → hasName name (wholeRun s) ≡ true
     → locateOf w s t name ≡ locateNthOf w s name 0
 
+-- and where only the standing packet does, that is the standing packet's occurrence 0
+abbrev pub FindsStanding : Type 0
+FindsStanding = (w : Repeats) (s t : List ℕ) (name : ℕ) (i : Item) → locateOf w s t name ≡ located.Standing i → locateNthOf w t name 0 ≡ located.Packet i
+
 -- "without the standing packet", of which `locateNthOf` takes none: a name that the packet does not hold has no occurrence
 abbrev pub StandingAside : Type 0
 StandingAside = (w : Repeats) (s : List ℕ) (name number : ℕ) → checkOf w s ≡ 0 → hasName name (wholeRun s) ≡ false

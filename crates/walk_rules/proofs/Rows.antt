@@ -9,7 +9,7 @@ use Rattle.base_rules.specs.Tests.{among}
 use Rattle.item_rules.specs.declared.Item.{Item}
 use Rattle.item_rules.specs.declared.Repeats.{Repeats}
 use Rattle.item_rules.specs.Item.{head}
-use Rattle.item_rules.specs.Run.{Run, item, nextOf, runOf, forbids}
+use Rattle.item_rules.specs.Run.{Run, nextOf, runOf, forbids}
 use Rattle.item_rules.proofs.Steps.{item-fits}
 use Rattle.item_rules.proofs.Runs.{item-begins, every-run}
 use Rattle.item_rules.proofs.Starts.{item-starts}

@@ -9,8 +9,8 @@ use Rattle.base_rules.specs.Bytes.{bytesOf, numberAt}
 use Rattle.base_rules.proofs.Numbers.{length-bytes, number-back, number-drop}
 use Rattle.item_rules.specs.Item.{head, bytesFor, unusedOf, itemAt, valuesOf}
 use Rattle.item_rules.proofs.Steps.{stands-item}
-use Rattle.write_rules.specs.Write.{trimmed, itemBytes, writtenValues}
-use Rattle.write_rules.specs.Claims.{ReadsBack}
+use Rattle.write_rules.specs.Write.{trimmed, itemBytes}
+use Rattle.write_rules.specs.Claims.{writtenValues, ReadsBack}
 use Rattle.write_rules.proofs.Trimming.{length-trimmed}
 
 -- an item has 8 bytes of head and ceil(bits / 8) bytes of value

@@ -19,9 +19,9 @@ use Rattle.item_rules.specs.declared.Found.the-variants as found
 use Rattle.item_rules.proofs.Runs.{run-item, run-end}
 use Rattle.item_rules.proofs.Faults.{fault-dmy, fault-none}
 use Rattle.item_rules.proofs.Proved.{one-item, twice}
-use Rattle.write_rules.specs.Write.{itemBytes, writtenValues}
+use Rattle.write_rules.specs.Write.{itemBytes}
 use Rattle.write_rules.specs.Packet.{Entry, packetOf, namesOf, writtenAs, Fits, AllFit, Apart}
-use Rattle.write_rules.specs.Claims.{ReadAs}
+use Rattle.write_rules.specs.Claims.{writtenValues, ReadAs}
 use Rattle.write_rules.proofs.Back.{length-item, reads-back}
 
 -- the item that is read where e was written at `at`

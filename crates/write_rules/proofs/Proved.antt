@@ -19,10 +19,10 @@ use Rattle.tag_rules.specs.Calls.{openCall, locatedNumber}
 use Rattle.tag_rules.proofs.Numbers.{nth-number}
 use Rattle.tag_rules.proofs.Searches.{found-here, nth-found}
 use Rattle.tag_rules.proofs.Proved.{nth-beyond}
-use Rattle.write_rules.specs.Write.{trimmedBy, trimmed, writtenValues}
+use Rattle.write_rules.specs.Write.{trimmedBy, trimmed}
 use Rattle.write_rules.specs.Packet.{Entry, packetOf, namesOf, writtenAs, AllFit, Apart}
 use Rattle.write_rules.specs.Claims.{ReadsBack, Opens, RefusesTwice, FoundAs, Finds, OpensRepeated, FindsRepeated, FindsNth, NoMore}
-use Rattle.write_rules.specs.Claims.{UnusedZero, TrimmedOnce, WholeKept}
+use Rattle.write_rules.specs.Claims.{writtenValues, UnusedZero, TrimmedOnce, WholeKept}
 use Rattle.write_rules.proofs.Back as back
 use Rattle.write_rules.proofs.Packets.{itemOf, run-written, faults-none, faults-again, faults-repeated, packet-split, fits-at}
 use Rattle.write_rules.proofs.Packets.{none-written, as-many, nth-written}

@@ -13,8 +13,13 @@ use Rattle.base_rules.specs.Answer.{granted, refused}
 use Rattle.base_rules.specs.Tests.{among}
 use Rattle.tag_rules.specs.Find.{checkOf, locateOf, locateNthOf, shownBy}
 use Rattle.tag_rules.specs.Calls.{openCall, locateCall, locateNthCall}
-use Rattle.write_rules.specs.Write.{trimmed, itemBytes, writtenValues}
+use Rattle.write_rules.specs.Write.{trimmed, itemBytes}
 use Rattle.write_rules.specs.Packet.{Entry, packetOf, namesOf, writtenAs, AllFit, Apart}
+
+-- what an item tells that was written from byte `at` on: its name, its bits, its value's place and bytes; document 02, Item 11: its start and its unused
+-- bits
+unfoldable pub writtenValues : ℕ → ℕ → ℕ → List ℕ
+writtenValues at name bits = name ∷ bits ∷ (at + head) ∷ bytesFor bits ∷ at ∷ unusedOf bits ∷ []
 
 -- W1: what stands at `at` in s is an item of that name, those bits and that value; document 02, Item 11: it starts there, and so many bits are unused
 pub record ReadAs (s : List ℕ) (at end name bits : ℕ) (value : List ℕ) : Type 0 where

@@ -22,11 +22,6 @@ trimmed bits v = trimmedBy (2 ^ unusedOf bits) v
 unfoldable pub itemBytes : ℕ → ℕ → List ℕ → List ℕ
 itemBytes name bits v = (bytesOf 4 name ++ bytesOf 4 bits) ++ trimmed bits v
 
--- what an item tells that was written from byte `at` on: its name, its bits, its value's place and bytes; document 02, Item 11: its start and its unused
--- bits
-unfoldable pub writtenValues : ℕ → ℕ → ℕ → List ℕ
-writtenValues at name bits = name ∷ bits ∷ (at + head) ∷ bytesFor bits ∷ at ∷ unusedOf bits ∷ []
-
 -- document 01: what writing a value of `len` bytes is refused for, with `room` bytes lent: 43 BITS, 33 PTR, 1 ROOM
 unfoldable pub writeFault : ℕ → ℕ → ℕ → ℕ → ℕ
 writeFault name bits len room = first ((not (eqb len (bytesFor bits)), 43) ∷ (badPtr name bits, 33) ∷ (ltb room (head + bytesFor bits), 1) ∷ [])

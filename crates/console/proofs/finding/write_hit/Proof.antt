@@ -19,7 +19,8 @@ slice-aggregate-value c = search needs
 
 value-requires : tie.Need-value-requires
 value-requires c κs =
-    let w = goes _ (c .before .before .before .before .before .before .before .before .before .write-where .ensures) (c .before .before .before .before .decimal .ensures) in
+    let Where = c .before .before .before .before .before .before .before .before .before .write-where in
+    let w = goes _ (Where .ensures) (c .before .before .before .before .decimal .ensures) in
     omega (arith, w .within, w .same)
 
 same-length : tie.Need-same-length

@@ -14,7 +14,8 @@ write-place-requires c κs =
 returns : tie.Need-returns
 returns c =
     let a = c .before .before .before .before .before .before .before .before .before .before .before .before .args in
-    chain (wrote (a .out .now) (a .at) _ (omega arith) (c .before .before .before .before .before .before .before .before .plain .ensures)) (c .before .before .write-place .ensures)
+    let Plain = c .before .before .before .before .before .before .before .before .plain in
+    chain (wrote (a .out .now) (a .at) _ (omega arith) (Plain .ensures)) (c .before .before .write-place .ensures)
 
 returns-2 : tie.Need-returns-2
 returns-2 c =

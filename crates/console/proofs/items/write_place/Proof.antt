@@ -9,7 +9,8 @@ returns : tie.Need-returns
 returns c =
     let a = c .before .before .before .before .before .before .before .before .before .before .before .before .before .before .before .args in
     let Decimal = c .before .before .before .before .before .before .before .before .before .before .before .decimal in
-    goes _ (goes _ (wrote (a .out .now) (a .at) _ (omega arith) (Decimal .ensures)) (c .before .before .before .before .before .before .labelled .ensures)) (c .before .before .plain .ensures)
+    let Labelled = c .before .before .before .before .before .before .labelled in
+    goes _ (goes _ (wrote (a .out .now) (a .at) _ (omega arith) (Decimal .ensures)) (Labelled .ensures)) (c .before .before .plain .ensures)
 
 decimal-requires : tie.Need-decimal-requires
 decimal-requires c κs = search needs
