@@ -1,4 +1,6 @@
 // AF packets (clause 6): wrapping a payload, checking a packet, and the payload of a packet.
+#![tactic(auto)]
+
 mod checking;
 mod wrapping;
 

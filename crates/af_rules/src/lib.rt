@@ -1,7 +1,8 @@
 // Clause 6 as definitions: the AF packet, its checks in their order, and the round trip. No functions: crate `af` has them.
+#![tactic(auto)]
 
 // What a checked packet says of itself: LEN counts the payload.
-#[derive(Drop)]
+#[derive(Clone, Copy)]
 pub struct Figures {
     pub seq: u16,
     pub cf: bool,
@@ -10,7 +11,7 @@ pub struct Figures {
 }
 
 // The answer to a check.
-#[derive(Drop)]
+#[derive(Clone, Copy)]
 pub enum Checked {
     Packet(Figures),
     Refused(u8),

@@ -1,5 +1,7 @@
 // Reads questions from standard input, one a line, and writes one answer line for each. The work is
 // done by the library; here a line is collected from what each read brings.
+#![tactic(auto)]
+
 ghost use Rattle.std.specs.Prelude.{◌≤◌, length};
 ghost use Rattle.ask.specs.inner.Held.{held_of};
 
@@ -7,7 +9,7 @@ use libc::{STDIN_FILENO, STDOUT_FILENO};
 
 // How many bytes of the next line are held, or nothing where the program is done: the input has
 // ended, or the output cannot be written.
-#[derive(Drop)]
+#[derive(Clone, Copy)]
 enum Held {
     Bytes(usize),
     Nothing,

@@ -1,5 +1,7 @@
 // The bandwidth that "rbw_" sends, read as a float and written back, and the widest and narrowest so far (document 02, Item 10). It stands on the
 // TAG layer alone.
+#![tactic(auto)]
+
 ghost use Rattle.std.specs.Prelude.{◌≡◌};
 ghost use Rattle.base_rules.specs.Answer.{outcome};
 ghost use Rattle.base_rules.specs.Written.{number_of};

@@ -1,8 +1,9 @@
 // Document 02, Item 10, as definitions: the bandwidth of "rbw_" as a float, read, written and watched, and what is claimed of that. No functions:
 // crates `widths` and `bandwidth` have them.
+#![tactic(auto)]
 
 // The bandwidth that was sent, in kHz, as a float of 32 bits; that no figure is available; or the number of the refusal.
-#[derive(Drop)]
+#[derive(Clone, Copy)]
 pub enum Bandwidth {
     Width(f32),
     NotAvailable,
@@ -10,14 +11,14 @@ pub enum Bandwidth {
 }
 
 // The number of which a float is the figure, if it is one's.
-#[derive(Drop)]
+#[derive(Clone, Copy)]
 pub enum Whole {
     Of(u16),
     Nothing,
 }
 
 // The last figure, the widest and the narrowest so far; and whether any has come. Where none has, the three say nothing.
-#[derive(Drop)]
+#[derive(Clone, Copy)]
 pub struct Widths {
     pub last: f32,
     pub widest: f32,
@@ -26,7 +27,7 @@ pub struct Widths {
 }
 
 // What a packet answers, and the figures so far with it.
-#[derive(Drop)]
+#[derive(Clone, Copy)]
 pub struct Watched {
     pub answer: Bandwidth,
     pub widths: Widths,

@@ -1,4 +1,6 @@
 // What every layer shares: the bounds of document 01, the test of k, big-endian numbers, and copying into a part of a buffer.
+#![tactic(auto)]
+
 ghost use Rattle.std.specs.Prelude.{◌≡◌, ◌%◌, ◌<◌, get_or};
 ghost use Rattle.base_rules.specs.Answer.{outcome};
 ghost use Rattle.base_rules.specs.Bounds.{bad_k};
@@ -96,6 +98,6 @@ pub fn put(d: &mut [u8], at: usize, s: &[u8]) -> Written
         return Written::Refused(1);
     }
     let end = at + s.len();
-    bytes::copy(s, &mut d[at..end]);
+    d[at..end].copy_from_slice(s);
     Written::Done
 }

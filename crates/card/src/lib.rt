@@ -1,4 +1,6 @@
 // The card for C: card.h declares the calls, and says what each number means. Here stands what several of them share.
+#![tactic(auto)]
+
 mod blocks;
 mod headers;
 mod items;

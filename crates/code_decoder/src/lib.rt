@@ -1,4 +1,6 @@
 // The decoder of the Reed-Solomon code (clause 7.4.4): the missing bytes of a chunk, and of all chunks of a block.
+#![tactic(auto)]
+
 mod block;
 mod calls;
 mod chunk;

@@ -1,5 +1,7 @@
 // Products in the field by shift and select: no table, and many lanes at a time in a loop over an array. What is computed is promised for
 // any rows lent; that rows of multiples give products is a law of code_rules.
+#![tactic(auto)]
+
 ghost use Rattle.std.specs.Prelude.{◌≡◌, ℕ, ◌*◌, ◌/◌, ◌%◌, ◌<◌, length, get_or};
 ghost use Rattle.base_rules.specs.Bounds.{parity};
 ghost use Rattle.field_rules.specs.Field.{◌⊗◌, times2};

@@ -1,9 +1,10 @@
 // Clauses 7.3.1 and 7.4.4 as definitions: the calls of the Reed-Solomon code, and R4. No functions: crates `code_encoder` and
 // `code_decoder` have them, over `code_solver` and `code_lanes`.
+#![tactic(auto)]
 
 // What became of missing bytes: all are filled in; no word of the code has the bytes that are there; too many are missing; or the
 // number of the refusal, and then nothing was changed.
-#[derive(Drop)]
+#[derive(Clone, Copy)]
 pub enum Filled {
     Done,
     Nothing,

@@ -1,4 +1,6 @@
 // The missing bytes of a chunk (clause 7.4.4): what depends on the missing places alone, and the missing bytes from the syndromes.
+#![tactic(auto)]
+
 mod cells;
 mod masks;
 mod patterns;

@@ -5,7 +5,7 @@ use crate::words::Number;
 use crate::{replies, words};
 
 // Two elements that are asked about.
-#[derive(Drop)]
+#[derive(Clone, Copy)]
 enum Asked {
     Of(u8, u8),
     Malformed,

@@ -1,6 +1,8 @@
 // The console: one question line in, one answer line out. What is asked and what is answered is
 // tested by the program over this library; that no answer reads or writes out of bounds, that each
 // call ends, and that nothing behind the answer changes, is proved.
+#![tactic(auto)]
+
 mod chunks;
 mod fields;
 mod finding;

@@ -9,21 +9,21 @@ use crate::words::{Number, Pair};
 use crate::{losses, replies, words};
 
 // The settings that a question has in its words 1 to 4, and in its last where that says the rule.
-#[derive(Drop)]
+#[derive(Clone, Copy)]
 pub(crate) enum Asked {
     Of(cut::Settings),
     Malformed,
 }
 
 // The settings and the length of a packet that a question on a cut has in its words.
-#[derive(Drop)]
+#[derive(Clone, Copy)]
 pub(crate) enum Cutting {
     Of(cut::Settings, usize),
     Malformed,
 }
 
 // The rule of sizes that a question's last word says.
-#[derive(Drop)]
+#[derive(Clone, Copy)]
 enum Ruled {
     By(cut::Rule),
     Malformed,

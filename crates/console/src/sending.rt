@@ -7,7 +7,7 @@ use crate::words::Number;
 use crate::{plans, replies, words};
 
 // What is asked for: the fragment with an index, or all.
-#[derive(Drop)]
+#[derive(Clone, Copy)]
 enum Wanted {
     One(usize),
     All,

@@ -9,7 +9,7 @@ use crate::{replies, words};
 use bandwidth::{Bandwidth, Widths};
 
 // What a question gives of the figures so far: that it asks for none, the record, or a malformed one.
-#[derive(Drop)]
+#[derive(Clone, Copy)]
 enum Record {
     None,
     Of(Widths),

@@ -7,28 +7,28 @@ ghost use Rattle.console.specs.inner.Sized.{size_of};
 pub(crate) const BYTES: usize = 32768;
 
 // What a word says where a number is asked, or how many bytes it gave where bytes are asked.
-#[derive(Drop)]
+#[derive(Clone, Copy)]
 pub(crate) enum Number {
     Of(usize),
     Malformed,
 }
 
 // What a word says where an address is asked.
-#[derive(Drop)]
+#[derive(Clone, Copy)]
 pub(crate) enum Pair {
     Of(cut::Address),
     Malformed,
 }
 
 // What a word says where an item's name is asked.
-#[derive(Drop)]
+#[derive(Clone, Copy)]
 pub(crate) enum Name {
     Of(u32),
     Malformed,
 }
 
 // Whether names may repeat, as a question's last word says.
-#[derive(Drop)]
+#[derive(Clone, Copy)]
 pub(crate) enum Repeating {
     Of(item::Repeats),
     Malformed,

@@ -1,4 +1,6 @@
 // The CRC of Annex A: byte by byte over short data, and eight bytes a step over the rest.
+#![tactic(auto)]
+
 ghost use Rattle.std.specs.Prelude.{◌≡◌, ◌-◌, ◌*◌, ◌/◌, ◌<◌, eqb, length};
 ghost use Rattle.crc_rules.specs.Crc.{ones, residue, feed, register_of, word_of};
 ghost use Rattle.crc_rules.specs.inner.Shifts.{shift};

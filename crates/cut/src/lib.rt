@@ -1,5 +1,7 @@
 // The cut of an AF packet into PFT fragments (clause 7): its settings, its sizes and its plan. What the specs say of interleaving
 // and of losses, the crate above does.
+#![tactic(auto)]
+
 mod plans;
 
 pub use cut_rules::{Address, Figures, LEAST_H, MOST_H, Planned, Rule, Settings};

@@ -1,4 +1,6 @@
 // How many lost fragments a cut stands, exactly, and a set of one more that it does not stand (document 02, Item 12).
+#![tactic(auto)]
+
 ghost use Rattle.std.specs.Prelude.{◌≡◌, ◌+◌, ◌≤◌, ◌<◌};
 ghost use Rattle.base_rules.specs.Bounds.{most_f, most_k, parity};
 ghost use Rattle.cut_rules.specs.declared.Planned.TheVariants.{Cut};

@@ -1,5 +1,7 @@
 // The field of 256 elements (clause 7.3.1 of TS 102 821): a product by shift and add, without a table; powers and logarithms from two
 // tables, and a quotient from them.
+#![tactic(auto)]
+
 ghost use Rattle.std.specs.Prelude.{◌≡◌, ◌*◌, ◌%◌, ◌<◌};
 ghost use Rattle.field_rules.specs.Field.{◌⊕◌, times2, ◌⊗◌, alpha, log_of};
 ghost use Rattle.field_rules.specs.inner.Tables.{Exps, Logs, Logged};

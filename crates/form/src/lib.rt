@@ -1,4 +1,6 @@
 // Forming a packet from what a place holds (document 01, "The four places"): when the fragments suffice, and which packet agrees with them.
+#![tactic(auto)]
+
 mod calls;
 mod coded;
 mod plain;

@@ -1,4 +1,6 @@
 // The header of a PFT fragment (clause 7.1), written and read.
+#![tactic(auto)]
+
 mod reading;
 mod writing;
 

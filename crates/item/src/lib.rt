@@ -1,4 +1,6 @@
 // A TAG item in a packet, and a packet as a run of items.
+#![tactic(auto)]
+
 ghost use Rattle.std.specs.Prelude.{◌≡◌, false, ◌&&◌, ◌%◌, ◌<◌, replicate};
 ghost use Rattle.base_rules.specs.Answer.{granted};
 ghost use Rattle.item_rules.specs.Item.{bytes_for, unused_of, step_in, number_of, step_call};

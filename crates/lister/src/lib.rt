@@ -1,4 +1,6 @@
 // The listing of an AF packet: one line on the packet, one on each of its items, one on its padding.
+#![tactic(auto)]
+
 ghost use Rattle.std.specs.Prelude.{◌≡◌, ◌++◌};
 ghost use Rattle.item_rules.specs.declared.Repeats.TheVariants.{Forbidden};
 ghost use Rattle.text_rules.specs.Text.{laid, behind, decimal_of};

@@ -1,4 +1,6 @@
 // Reads one AF packet from standard input, all of it, and writes its listing to standard output. The work is done by the library.
+#![tactic(auto)]
+
 ghost use Rattle.std.specs.Prelude.{◌≡◌, ◌≤◌, length};
 ghost use Rattle.base_rules.specs.Bytes.{splice};
 ghost use Rattle.lister_rules.specs.Listing.{listing_of, most_input, most_listing};

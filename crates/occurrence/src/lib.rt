@@ -1,4 +1,6 @@
 // The occurrences of a name in a TAG packet, each by its number, counted from 0: in the packet alone, without a standing packet.
+#![tactic(auto)]
+
 ghost use Rattle.std.specs.Prelude.{◌≡◌};
 ghost use Rattle.item_rules.specs.Run.{nth_of};
 ghost use Rattle.tag_rules.specs.Find.{whole_run, locate_nth_of, NthPartShown};

@@ -1,4 +1,6 @@
 // The record of the four places as bytes, for a caller in another language or a program that holds it between calls.
+#![tactic(auto)]
+
 mod reading;
 mod writing;
 

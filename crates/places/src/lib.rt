@@ -1,4 +1,6 @@
 // The four places: the record of what they hold, and what a fragment does to it. The bytes themselves are lent elsewhere.
+#![tactic(auto)]
+
 mod faults;
 mod record;
 

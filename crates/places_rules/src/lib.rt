@@ -1,4 +1,6 @@
 // Document 01, "The four places", as definitions: the record, 14, and 9 to 12. No functions: crate `places` has them.
+#![tactic(auto)]
+
 use base_rules::{MOST_F, PLACE};
 
 // Places in a table.
@@ -18,7 +20,7 @@ pub const SPOILED: u8 = 3;
 
 // What a place holds: its condition and the number of its packet; of the packet's cut f, FEC, k, z; s, 0 while unknown; without FEC
 // the size of the last fragment, 0 while it is not kept; and which fragments are kept.
-#[derive(Drop)]
+#[derive(Clone, Copy)]
 pub struct Place {
     pub condition: u8,
     pub number: u16,
@@ -32,14 +34,14 @@ pub struct Place {
 }
 
 // All of them, and which is to be displaced next once none is free.
-#[derive(Drop)]
+#[derive(Clone, Copy)]
 pub struct Table {
     pub places: [Place; FOUR],
     pub oldest: u8,
 }
 
 // The number of an open place that was displaced.
-#[derive(Drop)]
+#[derive(Clone, Copy)]
 pub enum Displaced {
     None,
     Number(u16),

@@ -1,5 +1,7 @@
 // A reader over one TAG packet, as a struct. The borrow checker covers no function over a struct that holds a slice, so each of these is thin: the
 // work is done by calls on the slice and the numbers, and `first`, `step_at` and `place_after` are for callers that hold no such struct.
+#![tactic(auto)]
+
 ghost use Rattle.std.specs.Prelude.{◌≡◌};
 ghost use Rattle.item_rules.specs.Item.{number_of};
 ghost use Rattle.tag_rules.specs.Find.{check_of};
@@ -10,7 +12,7 @@ use item::{Repeats, Step};
 use tag::Opened;
 
 // The packet, where the reader stands in it, and the number with which opening refused it, 0 for none.
-#[derive(Drop)]
+#[derive(Clone, Copy)]
 pub struct Reader<'a> {
     pub packet: &'a [u8],
     pub at: usize,

@@ -1,5 +1,7 @@
 // The receiver (clause 7.4; document 01, "The four places"): fragments kept in four places, and a packet handed out at the first fragment
 // with which it can be formed.
+#![tactic(auto)]
+
 mod keeping;
 mod table;
 

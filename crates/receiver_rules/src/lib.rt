@@ -1,10 +1,12 @@
 // Clause 7.4 as definitions: what the receiver answers, keeps and hands out, and that no second reception fits. No functions: crate
 // `receiver` has them.
+#![tactic(auto)]
+
 use base_rules::Written;
 use places_rules::{Displaced, Place, Table};
 
 // What a fragment is answered. Each answer but a refusal tells the number of an open place that the fragment displaced.
-#[derive(Drop)]
+#[derive(Clone, Copy)]
 pub enum Received {
     Kept(Displaced),
     Delivered {
@@ -17,14 +19,14 @@ pub enum Received {
 }
 
 // The record after a call, and the answer.
-#[derive(Drop)]
+#[derive(Clone, Copy)]
 pub struct Reply {
     pub table: Table,
     pub answer: Received,
 }
 
 // What a datagram changes: place `at` is `place` now, past the fourth none is another; which is displaced next; and the answer.
-#[derive(Drop)]
+#[derive(Clone, Copy)]
 pub struct Change {
     pub at: usize,
     pub place: Place,
@@ -33,7 +35,7 @@ pub struct Change {
 }
 
 // What a query shows of a place.
-#[derive(Drop)]
+#[derive(Clone, Copy)]
 pub enum Seen {
     Free,
     Open(u16),
@@ -42,7 +44,7 @@ pub enum Seen {
 }
 
 // The four places as a query shows them.
-#[derive(Drop)]
+#[derive(Clone, Copy)]
 pub struct Shown {
     pub first: Seen,
     pub second: Seen,
@@ -51,14 +53,14 @@ pub struct Shown {
 }
 
 // What a query answers.
-#[derive(Drop)]
+#[derive(Clone, Copy)]
 pub enum Queried {
     Places(Shown),
     Refused(u8),
 }
 
 // The record after clearing, and whether it was cleared.
-#[derive(Drop)]
+#[derive(Clone, Copy)]
 pub struct Cleared {
     pub table: Table,
     pub answer: Written,

@@ -2,6 +2,8 @@
 // the fragments by a fixed rule, the receiver is handed what is left, and what becomes of each fragment is a line of output. The rule:
 // neighbours are exchanged (1 0 3 2 ..); every third fragment (2, 5, 8, ..) comes twice; every fifth (4, 9, ..) is lost, until as many
 // are lost as the plan assures. It is the relief receiver test of document 02, Item 5, which relies on surviving two losses.
+#![tactic(auto)]
+
 mod drawing;
 mod telling;
 
@@ -19,7 +21,7 @@ const INPUT: usize = MOST_L + 1;
 const NUMBER: u16 = 1;
 
 // The far end: the receiver's record, and the length of the packet that was handed out, 0 before one was.
-#[derive(Drop)]
+#[derive(Clone, Copy)]
 struct End {
     table: Table,
     length: usize,

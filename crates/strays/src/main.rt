@@ -2,6 +2,8 @@
 // for each: the place, the field, its value, and the numbers with which receive, query and clear refuse, 0 where they do not. The
 // datagram is empty, so receive refuses a record in range with 2. Then three records in range that no calls leave, each with a
 // fragment of the packet that they are of: the number of the answer, and how many bytes are handed out.
+#![tactic(auto)]
+
 use base::{MOST_L, Written};
 use cut::Address;
 use libc::STDOUT_FILENO;

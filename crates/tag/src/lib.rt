@@ -1,4 +1,6 @@
 // A TAG packet: checked whole, read item by item, and searched by name beside a standing packet.
+#![tactic(auto)]
+
 ghost use Rattle.std.specs.Prelude.{◌≡◌};
 ghost use Rattle.item_rules.specs.Item.{number_of};
 ghost use Rattle.tag_rules.specs.Find.{check_of, locate_of, value_of, value_place, PartShown};

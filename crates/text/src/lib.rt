@@ -1,5 +1,7 @@
 // Writing text into a lent buffer from a place on. Each writer answers the place behind what it wrote, and stops at the buffer's
 // end, so a run of writers needs no test in between: what they write one behind the other is one text.
+#![tactic(auto)]
+
 ghost use Rattle.std.specs.Prelude.{◌≡◌, [], ◌∷◌, ◌<◌, ◌≤◌, min, length, drop};
 ghost use Rattle.text_rules.specs.Text.{laid, behind, letter_of, decimal_of, hex_of};
 

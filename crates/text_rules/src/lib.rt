@@ -1,1 +1,2 @@
 // Text in a lent buffer as definitions. No functions: crate `text` has them.
+#![tactic(auto)]

@@ -1,4 +1,5 @@
 // The nested walk over a TAG packet: whole, to check it, and step by step, to hand its items out.
+#![tactic(auto)]
 
 mod names;
 mod steps;

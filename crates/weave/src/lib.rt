@@ -1,4 +1,6 @@
 // Fragments at work (clause 7): a block's bytes to fragments, fragments to cells again, and whether those held suffice.
+#![tactic(auto)]
+
 mod rows;
 mod tally;
 

@@ -1,7 +1,8 @@
 // Interleaving, its reverse and sufficing as definitions. No functions: crate `weave` has them.
+#![tactic(auto)]
 
 // Whether the fragments held suffice.
-#[derive(Drop)]
+#[derive(Clone, Copy)]
 pub enum Held {
     Enough,
     NotEnough,

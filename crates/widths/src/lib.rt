@@ -1,5 +1,7 @@
 // The figure of "rbw_" as a float, which float is one, and the widest and narrowest so far (document 02, Item 10): floats alone, without the TAG layer,
 // on which `bandwidth` puts them.
+#![tactic(auto)]
+
 ghost use Rattle.std.specs.Prelude.{◌≡◌, true, false, pos};
 ghost use Rattle.std.specs.Float.Ieee as Ieee;
 ghost use Rattle.std.specs.Float.{fin, binary32};

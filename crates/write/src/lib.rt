@@ -1,4 +1,6 @@
 // Writing a TAG item into the first bytes of a lent buffer.
+#![tactic(auto)]
+
 ghost use Rattle.std.specs.Prelude.{◌≡◌, ◌++◌, ◌+◌, ◌^◌, ◌≤◌, ◌<◌, length};
 ghost use Rattle.base_rules.specs.Answer.{outcome};
 ghost use Rattle.base_rules.specs.Bytes.{splice, bytes_of};
