@@ -9,7 +9,7 @@ use Rattle.field_rules.proofs.Shifts.{turn, none_left}
 use Rattle.field.proofs.product.Given as goal
 
 abbrev pub invariant-loop : goal.invariant-loop
-invariant-loop l = (l.i ≤ 8) × (l.r ⊕ mul_bits (8 - l.i) l.x l.y ≡ mul_bits 8 l.a l.b)
+invariant-loop l = (l.counter ≤ 8) × (l.r ⊕ mul_bits (8 - l.counter) l.x l.y ≡ mul_bits 8 l.a l.b)
 
 abbrev pub decreases-loop : goal.decreases-loop
-decreases-loop l = 8 - l.i
+decreases-loop l = 8 - l.counter

@@ -12,6 +12,6 @@ returns c =
     let a = c.args in
     let digits = c.digits_of-first in
     let first = digits.result in
-    let s = digits.new.1.0 in
+    let s = digits.new.digits in
     let whole = take_all (20 - first) (drop first s) (omega (arith, length-drop first s)) in
     lays_same a.out.now a.at (whole ∙ digits.ensures.1) c.plain.ensures
