@@ -2,13 +2,16 @@
 // done by the library; here a line is collected from what each read brings.
 #![tactic(auto)]
 
-ghost use Rattle.std.specs.Prelude.{◌≤◌, length};
+ghost use Rattle.std.specs.Prelude.{◌≤◌, length, IfOk};
 ghost use Rattle.ask.specs.inner.Held.{held_of};
 
-use libc::{STDIN_FILENO, STDOUT_FILENO};
+use std::io;
+use std::io::{Read, Write};
 
-// How many bytes of the next line are held, or nothing where the program is done: the input has
-// ended, or the output cannot be written.
+// The most bytes that one read brings.
+const CHUNK: usize = 4096;
+
+// How many bytes of the next line are held, or nothing where the input has ended.
 #[derive(Clone, Copy)]
 enum Held {
     Bytes(usize),
@@ -21,83 +24,102 @@ fn room() -> [u8; console::ANSWER + 1] {
     [0u8; console::ANSWER + 1]
 }
 
-// Answers one line, and says whether the output took it.
-fn reply(line: &[u8], seat: &mut [u8]) -> bool {
+// Answers one line.
+fn reply<W: Write>(writer: &mut W, line: &[u8], seat: &mut [u8]) -> io::Result<()> {
     let mut out = room();
     let n = console::answer(line, seat, &mut out[..console::ANSWER]);
     if n == 0 {
-        return true;
+        return Ok(());
     }
     out[n] = b'\n';
-    io::write_all(STDOUT_FILENO, &out[..n + 1])
+    writer.write_all(&out[..n + 1])
 }
 
-// Takes one byte of input. What does not fit the line is dropped: a full line is no question.
-fn take_byte(byte: u8, line: &mut [u8], used: usize, seat: &mut [u8]) -> Held
+// Takes one byte of input, and says how many bytes of the line are then held. What does not fit the line is dropped: a full line is no question.
+fn take_byte<W: Write>(
+    writer: &mut W,
+    byte: u8,
+    line: &mut [u8],
+    used: usize,
+    seat: &mut [u8],
+) -> io::Result<usize>
     requires { used ≤ length line.old }
-    ensures { held_of result ≤ length line.new }
+    ensures { IfOk result (λ n. n ≤ length line.new) }
 {
     if byte == b'\n' {
-        if reply(&line[..used], seat) {
-            return Held::Bytes(0);
-        }
-        return Held::Nothing;
+        reply(writer, &line[..used], seat)?;
+        return Ok(0);
     }
     if used < line.len() {
         line[used] = byte;
-        return Held::Bytes(used + 1);
+        return Ok(used + 1);
     }
-    Held::Bytes(used)
+    Ok(used)
 }
 
-// Takes what one read brought.
-fn take_all(chunk: &[u8], line: &mut [u8], used: usize, seat: &mut [u8]) -> Held
+// Takes what one read brought, and says the same.
+fn take_all<W: Write>(
+    writer: &mut W,
+    chunk: &[u8],
+    line: &mut [u8],
+    used: usize,
+    seat: &mut [u8],
+) -> io::Result<usize>
     requires { used ≤ length line.old }
-    ensures { held_of result ≤ length line.new }
+    ensures { IfOk result (λ n. n ≤ length line.new) }
 {
     let mut n = used;
     let mut i = 0;
     while i < chunk.len() {
-        let Held::Bytes(more) = take_byte(chunk[i], line, n, seat) else {
-            return Held::Nothing;
-        };
-        n = more;
+        n = take_byte(writer, chunk[i], line, n, seat)?;
         i += 1;
     }
-    Held::Bytes(n)
+    Ok(n)
 }
 
 // Reads once. The end of the input ends the line that is held, too.
-fn take_some(line: &mut [u8], used: usize, seat: &mut [u8]) -> Held
+fn take_some<R: Read, W: Write>(
+    reader: &mut R,
+    writer: &mut W,
+    line: &mut [u8],
+    used: usize,
+    seat: &mut [u8],
+) -> io::Result<Held>
     requires { used ≤ length line.old }
-    ensures { held_of result ≤ length line.new }
+    ensures { IfOk result (λ held. held_of held ≤ length line.new) }
 {
-    let mut chunk = io::buffer();
-    let got = libc::read(STDIN_FILENO, &mut chunk);
-    let n = io::count(got, &chunk);
+    let mut chunk = [0u8; CHUNK];
+    let n = reader.read(&mut chunk)?;
     if n == 0 {
-        reply(&line[..used], seat);
-        return Held::Nothing;
+        reply(writer, &line[..used], seat)?;
+        return Ok(Held::Nothing);
     }
-    take_all(&chunk[..n], line, used, seat)
+    let held = take_all(writer, &chunk[..n], line, used, seat)?;
+    Ok(Held::Bytes(held))
 }
 
 // Answers every line of the input. A proved loop has to end, and nothing says that the input does.
 // So the loop counts its reads down, from a number that no run uses up.
-fn answer_all(line: &mut [u8], seat: &mut [u8]) {
+fn answer_all<R: Read, W: Write>(
+    reader: &mut R,
+    writer: &mut W,
+    line: &mut [u8],
+    seat: &mut [u8],
+) -> io::Result<()> {
     let mut used = 0;
     let mut reads = u64::MAX;
     while reads > 0 {
-        let Held::Bytes(n) = take_some(line, used, seat) else {
-            return;
+        let Held::Bytes(n) = take_some(reader, writer, line, used, seat)? else {
+            return Ok(());
         };
         used = n;
         reads -= 1;
     }
+    Ok(())
 }
 
-fn main() {
+fn main(rt: HostRuntime) -> io::Result<()> {
     let mut line = [0u8; console::LINE];
     let mut seat = [0u8; console::SEAT];
-    answer_all(&mut line, &mut seat);
+    answer_all(&mut rt.stdin(), &mut rt.stdout(), &mut line, &mut seat)
 }

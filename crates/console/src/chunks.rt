@@ -72,7 +72,7 @@ fn mark_all(word: &[u8], mask: &mut [u8]) -> bool {
     }
     let mut start = 0;
     while start < word.len() {
-        let end = bytes::scan::find(word, start, word.len(), b',');
+        let end = words::find(word, start, b',');
         if !mark_one(&word[start..end], mask) {
             return false;
         }

@@ -3,9 +3,9 @@
 ghost use Rattle.text_rules.specs.Wrote.{Wrote};
 
 use crate::words::{Name, Number, Repeating};
-use crate::{items, replies, widths, words};
+use crate::{items, readout, replies, words};
 
-// The answer; 0 where the line is no question by name or malformed. Those on "rbw_" are asked of `widths`.
+// The answer; 0 where the line is no question by name or malformed. Those on "rbw_" are asked of `readout`.
 pub(crate) fn answer(line: &[u8], out: &mut [u8]) -> usize
     ensures { Wrote out.old 0 result out.new }
 {
@@ -21,7 +21,7 @@ pub(crate) fn answer(line: &[u8], out: &mut [u8]) -> usize
     if words::asks_or_more(line, b"nthat", 3) {
         return answer_nth(line, out, true);
     }
-    widths::answer(line, out)
+    readout::answer(line, out)
 }
 
 // `find NAME PACKET STANDING [once|repeat]` is answered `found BITS VALUE`, or `refused N`; `findat`, with `placed`, has

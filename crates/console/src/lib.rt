@@ -10,11 +10,11 @@ mod items;
 mod losses;
 mod packets;
 mod plans;
+mod readout;
 mod receiving;
 mod replies;
 mod sending;
 mod sums;
-mod widths;
 mod words;
 
 ghost use Rattle.text_rules.specs.Wrote.{Wrote};

@@ -1,6 +1,7 @@
 // Taking a line apart: the words between its blanks, and what a word says. An empty word says
 // nothing of any kind, so two blanks in a row and a blank at an end make a line malformed.
-ghost use Rattle.std.specs.Prelude.{◌≤◌, length};
+ghost use Rattle.std.specs.Prelude.{◌≡◌, ◌≢◌, ◌≤◌, ◌<◌, length, slice_index};
+ghost use Rattle.std.specs.List.{AllWithin};
 ghost use Rattle.console.specs.inner.Sized.{size_of};
 
 // The most bytes that one word of a question gives.
@@ -53,10 +54,26 @@ fn blanks(line: &[u8]) -> usize {
     count
 }
 
+// Where that byte stands first in the text from `start` on, or the text's length where it stands
+// nowhere there.
+pub(crate) fn find(text: &[u8], start: usize, byte: u8) -> usize
+    requires { start ≤ length text.now }
+    ensures low { start ≤ result }
+    ensures high { result ≤ length text.now }
+    ensures none_before { AllWithin (λ b. b ≢ byte) text.now start result }
+    ensures found { result < length text.now → slice_index text.now result ≡ byte }
+{
+    let mut at = start;
+    while at < text.len() && text[at] != byte {
+        at += 1;
+    }
+    at
+}
+
 // The word with that number, counted from 0; it is empty where the line has fewer.
 pub(crate) fn nth(line: &[u8], number: usize) -> &[u8] {
     let start = start_of(line, number);
-    let end = bytes::scan::find(line, start, line.len(), b' ');
+    let end = find(line, start, b' ');
     &line[start..end]
 }
 
@@ -67,7 +84,7 @@ fn start_of(line: &[u8], number: usize) -> usize
     let mut start = 0;
     let mut left = number;
     while left > 0 {
-        let end = bytes::scan::find(line, start, line.len(), b' ');
+        let end = find(line, start, b' ');
         if end == line.len() {
             return end;
         }

@@ -1,19 +1,29 @@
 // Reads one AF packet from standard input, all of it, and writes its listing to standard output. The work is done by the library.
 #![tactic(auto)]
 
-ghost use Rattle.std.specs.Prelude.{◌≡◌, ◌≤◌, length};
+ghost use Rattle.std.specs.Prelude.{◌≡◌, ◌≤◌, length, IfOk, OnOk};
+ghost use Rattle.std.specs.Io.KnownBytes.{Appends};
 ghost use Rattle.base_rules.specs.Bytes.{splice};
 ghost use Rattle.lister_rules.specs.Listing.{listing_of, most_input, most_listing};
 
-use libc::{STDIN_FILENO, STDOUT_FILENO};
 use lister::Listed;
+use std::io;
+use std::io::{Read, Write};
 
-// Reads standard input into a buffer that has all the bytes on which a listing depends, and answers how many were read.
-fn read_input(input: &mut [u8]) -> usize
+// Reads into a buffer that has all the bytes on which a listing depends, until it is full or the input ends, and answers how many were read.
+fn read_input<R: Read>(reader: &mut R, input: &mut [u8]) -> io::Result<usize>
     requires { most_input ≤ length input.old }
-    ensures { result ≤ length input.new }
+    ensures { IfOk result (λ n. n ≤ length input.new) }
 {
-    io::read_full(STDIN_FILENO, input)
+    let mut n = 0;
+    while n < input.len() {
+        let more = reader.read(&mut input[n..])?;
+        if more == 0 {
+            return Ok(n);
+        }
+        n += more;
+    }
+    Ok(n)
 }
 
 // The whole listing of a packet, at the front of a buffer that holds every one, and its length: nothing is refused.
@@ -28,15 +38,17 @@ fn list_whole(packet: &[u8], out: &mut [u8]) -> usize
     }
 }
 
-// Writes the listing of a packet.
-fn write_listing(packet: &[u8]) {
+// Writes the listing of a packet, and nothing else.
+fn write_listing<W: Write>(writer: &mut W, packet: &[u8]) -> io::Result<()>
+    ensures { OnOk result (Appends (W.contents writer.old) (W.contents writer.new) (listing_of packet.now)) }
+{
     let mut out = [0u8; lister::LISTING];
     let n = list_whole(packet, &mut out);
-    io::write_all(STDOUT_FILENO, &out[..n]);
+    writer.write_all(&out[..n])
 }
 
-fn main() {
+fn main(rt: HostRuntime) -> io::Result<()> {
     let mut input = [0u8; lister::INPUT];
-    let n = read_input(&mut input);
-    write_listing(&input[..n]);
+    let n = read_input(&mut rt.stdin(), &mut input)?;
+    write_listing(&mut rt.stdout(), &input[..n])
 }

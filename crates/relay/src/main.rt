@@ -7,12 +7,15 @@
 mod drawing;
 mod telling;
 
+ghost use Rattle.std.specs.Prelude.{◌≤◌, length, IfOk};
+
 use base::{MOST_L, MOST_MTU};
 use cut::{Address, Figures, Planned};
-use libc::STDIN_FILENO;
 use places::{ALL_PLACES, Place, Table};
 use receiver::Received;
 use sender::Sent;
+use std::io;
+use std::io::Read;
 
 // Room for every packet and a byte more: a longer input is refused with 21 or 22, as it would be whole.
 const INPUT: usize = MOST_L + 1;
@@ -47,28 +50,42 @@ fn place_of(table: Table) -> Place {
 }
 
 // Fragment i comes to the far end.
-fn arrive(i: usize, end: End, datagram: &[u8], lent: &mut [u8], out: &mut [u8]) -> End {
+fn arrive(
+    rt: &impl Print,
+    i: usize,
+    end: End,
+    datagram: &[u8],
+    lent: &mut [u8],
+    out: &mut [u8],
+) -> io::Result<End> {
     let reply = receiver::receive(Address::None, end.table, lent, datagram, out);
     let table = reply.table;
     let answer = reply.answer;
-    telling::arrived(i, answer, place_of(table));
-    End {
+    telling::arrived(rt, i, answer, place_of(table))?;
+    Ok(End {
         table,
         length: length_after(end.length, answer),
-    }
+    })
 }
 
 // Fragment i is sent, and comes. The sender refuses none here: it took the packet, and i is below f.
-fn send(packet: &[u8], i: usize, end: End, lent: &mut [u8], out: &mut [u8]) -> End {
+fn send(
+    rt: &impl Print,
+    packet: &[u8],
+    i: usize,
+    end: End,
+    lent: &mut [u8],
+    out: &mut [u8],
+) -> io::Result<End> {
     let mut datagram = [0u8; MOST_MTU];
     let Sent::Fragment(n) = sender::fragment(cut::two_losses(), NUMBER, packet, i, &mut datagram)
     else {
-        return end;
+        return Ok(end);
     };
     if n <= MOST_MTU {
-        return arrive(i, end, &datagram[..n], lent, out);
+        return arrive(rt, i, end, &datagram[..n], lent, out);
     }
-    end
+    Ok(end)
 }
 
 // Whether fragment i never comes.
@@ -82,16 +99,24 @@ fn is_repeated(i: usize) -> bool {
 }
 
 // What the line does with fragment i.
-fn carry(packet: &[u8], p: Figures, i: usize, end: End, lent: &mut [u8], out: &mut [u8]) -> End {
+fn carry(
+    rt: &impl Print,
+    packet: &[u8],
+    p: Figures,
+    i: usize,
+    end: End,
+    lent: &mut [u8],
+    out: &mut [u8],
+) -> io::Result<End> {
     if is_lost(i, p.assured) {
-        telling::lost(i, place_of(end.table));
-        return end;
+        telling::lost(rt, i, place_of(end.table))?;
+        return Ok(end);
     }
-    let once = send(packet, i, end, lent, out);
+    let once = send(rt, packet, i, end, lent, out)?;
     if is_repeated(i) {
-        return send(packet, i, once, lent, out);
+        return send(rt, packet, i, once, lent, out);
     }
-    once
+    Ok(once)
 }
 
 // The fragment that has turn i: the other one of the pair, where there is one.
@@ -101,47 +126,68 @@ fn at_turn(i: usize, f: usize) -> usize {
 }
 
 // All fragments over the line; the length of the packet that was handed out, 0 if none was.
-fn carry_all(packet: &[u8], p: Figures, lent: &mut [u8], out: &mut [u8]) -> usize {
+fn carry_all(
+    rt: &impl Print,
+    packet: &[u8],
+    p: Figures,
+    lent: &mut [u8],
+    out: &mut [u8],
+) -> io::Result<usize> {
     let mut end = End {
         table: receiver::fresh(),
         length: 0,
     };
     let mut i = 0;
     while i < p.f {
-        end = carry(packet, p, at_turn(i, p.f), end, lent, out);
+        end = carry(rt, packet, p, at_turn(i, p.f), end, lent, out)?;
         i += 1;
     }
-    end.length
+    Ok(end.length)
 }
 
 // A packet that is cut by p, in fragments of `size` bytes.
-fn relay(packet: &[u8], p: Figures, size: usize) {
-    telling::cut(packet.len(), p, size);
+fn relay(rt: &impl Print, packet: &[u8], p: Figures, size: usize) -> io::Result<()> {
+    telling::cut(rt, packet.len(), p, size)?;
     let mut lent = [0u8; ALL_PLACES];
     let mut out = [0u8; MOST_L];
-    let length = carry_all(packet, p, &mut lent, &mut out);
-    telling::end(packet, &out, length);
+    let length = carry_all(rt, packet, p, &mut lent, &mut out)?;
+    telling::end(rt, packet, &out, length)
 }
 
 // A packet that the sender takes.
-fn plan(packet: &[u8], size: usize) {
+fn plan(rt: &impl Print, packet: &[u8], size: usize) -> io::Result<()> {
     match cut::plan(cut::two_losses(), packet.len()) {
-        Planned::Refused(n) => telling::refused(n),
-        Planned::Cut(p) => relay(packet, p, size),
+        Planned::Refused(n) => telling::refused(rt, n),
+        Planned::Cut(p) => relay(rt, packet, p, size),
     }
 }
 
 // Asks the sender for the first fragment: it refuses the packet, or tells how long each fragment is.
-fn begin(packet: &[u8]) {
+fn begin(rt: &impl Print, packet: &[u8]) -> io::Result<()> {
     let mut datagram = [0u8; MOST_MTU];
     match sender::fragment(cut::two_losses(), NUMBER, packet, 0, &mut datagram) {
-        Sent::Refused(n) => telling::refused(n),
-        Sent::Fragment(size) => plan(packet, size),
+        Sent::Refused(n) => telling::refused(rt, n),
+        Sent::Fragment(size) => plan(rt, packet, size),
     }
 }
 
-fn main() {
+// Reads until the buffer is full or the input ends, and answers how many bytes were read.
+fn read_input<R: Read>(reader: &mut R, input: &mut [u8]) -> io::Result<usize>
+    ensures { IfOk result (λ n. n ≤ length input.new) }
+{
+    let mut n = 0;
+    while n < input.len() {
+        let more = reader.read(&mut input[n..])?;
+        if more == 0 {
+            return Ok(n);
+        }
+        n += more;
+    }
+    Ok(n)
+}
+
+fn main(rt: HostRuntime) -> io::Result<()> {
     let mut input = [0u8; INPUT];
-    let n = io::read_full(STDIN_FILENO, &mut input);
-    begin(&input[..n]);
+    let n = read_input(&mut rt.stdin(), &mut input)?;
+    begin(&rt, &input[..n])
 }

@@ -1,31 +1,32 @@
 // The lines of output.
 use crate::drawing;
 use cut::Figures;
-use libc::STDOUT_FILENO;
 use places::Place;
 use receiver::Received;
+use std::io;
 
 // Room for a line with 256 fragments.
 const LINE: usize = 400;
 
 // Writes the first n bytes of a line.
-fn show(line: &[u8], n: usize) {
+fn show(rt: &impl Print, line: &[u8], n: usize) -> io::Result<()> {
     if n <= line.len() {
-        io::write_all(STDOUT_FILENO, &line[..n]);
+        rt.write_all(&line[..n])?;
     }
+    Ok(())
 }
 
 // The only line on an input that the sender refuses.
-pub(crate) fn refused(n: u8) {
+pub(crate) fn refused(rt: &impl Print, n: u8) -> io::Result<()> {
     let mut line = [0u8; 80];
     let mut at = text::plain(&mut line, 0, b"refused ");
     at = text::decimal(&mut line, at, n as usize);
     at = text::plain(&mut line, at, b"\n");
-    show(&line, at);
+    show(rt, &line, at)
 }
 
 // The first lines: a packet of l bytes, cut by p into fragments of `size` bytes each, and what is drawn behind each fragment.
-pub(crate) fn cut(l: usize, p: Figures, size: usize) {
+pub(crate) fn cut(rt: &impl Print, l: usize, p: Figures, size: usize) -> io::Result<()> {
     let mut line = [0u8; 160];
     let mut at = text::plain(&mut line, 0, b"packet ");
     at = text::decimal(&mut line, at, l);
@@ -36,12 +37,12 @@ pub(crate) fn cut(l: usize, p: Figures, size: usize) {
     at = text::plain(&mut line, at, b" bytes, any ");
     at = text::decimal(&mut line, at, p.assured);
     at = text::plain(&mut line, at, b" may be lost\n");
-    show(&line, at);
-    legend(p.c, p.n);
+    show(rt, &line, at)?;
+    legend(rt, p.c, p.n)
 }
 
 // What is drawn, in words.
-fn legend(c: usize, n: usize) {
+fn legend(rt: &impl Print, c: usize, n: usize) -> io::Result<()> {
     let mut line = [0u8; 160];
     let mut at = text::decimal(&mut line, 0, c);
     at = text::plain(&mut line, at, b" chunks of ");
@@ -51,28 +52,28 @@ fn legend(c: usize, n: usize) {
         at,
         b" bytes; o: held; #: 8 bytes the worst chunk misses; none behind | (48) is enough\n",
     );
-    show(&line, at);
+    show(rt, &line, at)
 }
 
 // Fragment i never comes; the far end's place stays p.
-pub(crate) fn lost(i: usize, p: Place) {
+pub(crate) fn lost(rt: &impl Print, i: usize, p: Place) -> io::Result<()> {
     let mut line = [0u8; LINE];
     let mut at = put_fragment(&mut line, i);
     at = text::plain(&mut line, at, b" lost");
     at = drawing::put_place(&mut line, at, p);
     at = text::plain(&mut line, at, b"\n");
-    show(&line, at);
+    show(rt, &line, at)
 }
 
 // Fragment i comes, and is answered; the far end's place is then p.
-pub(crate) fn arrived(i: usize, answer: Received, p: Place) {
+pub(crate) fn arrived(rt: &impl Print, i: usize, answer: Received, p: Place) -> io::Result<()> {
     let mut line = [0u8; LINE];
     let mut at = put_fragment(&mut line, i);
     at = put_answer(&mut line, at, answer);
     at = drawing::put_place(&mut line, at, p);
     at = put_outcome(&mut line, at, answer);
     at = text::plain(&mut line, at, b"\n");
-    show(&line, at);
+    show(rt, &line, at)
 }
 
 fn put_fragment(line: &mut [u8], i: usize) -> usize {
@@ -122,22 +123,21 @@ fn put_refused(line: &mut [u8], at: usize, n: u8) -> usize {
 }
 
 // The last line: whether the packet handed out, the first bytes of out, is the one that went in.
-pub(crate) fn end(packet: &[u8], out: &[u8], length: usize) {
+pub(crate) fn end(rt: &impl Print, packet: &[u8], out: &[u8], length: usize) -> io::Result<()> {
     if length == 0 {
-        io::write_all(STDOUT_FILENO, b"the packet was not handed out\n");
-        return;
+        return rt.write_all(b"the packet was not handed out\n");
     }
     if is_front(packet, out, length) {
-        io::write_all(STDOUT_FILENO, b"the packet is the one that went in\n");
+        rt.write_all(b"the packet is the one that went in\n")
     } else {
-        io::write_all(STDOUT_FILENO, b"the packet is not the one that went in\n");
+        rt.write_all(b"the packet is not the one that went in\n")
     }
 }
 
 // Whether the first so many bytes of out are the packet.
 fn is_front(packet: &[u8], out: &[u8], length: usize) -> bool {
     if length <= out.len() {
-        return check::same(packet, &out[..length]);
+        return packet == &out[..length];
     }
     false
 }

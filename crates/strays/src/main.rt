@@ -6,9 +6,9 @@
 
 use base::{MOST_L, Written};
 use cut::Address;
-use libc::STDOUT_FILENO;
 use places::{ALL_PLACES, OPEN, Place, Table};
 use receiver::{Queried, Received};
+use std::io;
 
 // A place in range: with FEC, ten fragments of a hundred bytes, chunks of a hundred with five zeros.
 fn sound() -> Place {
@@ -86,7 +86,7 @@ fn by_clear(t: Table) -> usize {
 }
 
 // The line of one record.
-fn tell(i: usize, field: &[u8], value: usize, t: Table) {
+fn tell(rt: &impl Print, i: usize, field: &[u8], value: usize, t: Table) -> io::Result<()> {
     let mut line = [0u8; 80];
     let mut at = text::decimal(&mut line, 0, i);
     at = text::plain(&mut line, at, field);
@@ -98,97 +98,104 @@ fn tell(i: usize, field: &[u8], value: usize, t: Table) {
     at = text::plain(&mut line, at, b" ");
     at = text::decimal(&mut line, at, by_clear(t));
     at = text::plain(&mut line, at, b"\n");
-    show(&line, at);
+    show(rt, &line, at)
 }
 
 // Writes the first n bytes of a line.
-fn show(line: &[u8], n: usize) {
+fn show(rt: &impl Print, line: &[u8], n: usize) -> io::Result<()> {
     if n <= line.len() {
-        io::write_all(STDOUT_FILENO, &line[..n]);
+        rt.write_all(&line[..n])?;
     }
+    Ok(())
 }
 
 // The line of a fresh record with place i as p.
-fn with(i: usize, field: &[u8], value: usize, p: Place) {
-    tell(i, field, value, places::with_place(places::fresh(), i, p));
+fn with(rt: &impl Print, i: usize, field: &[u8], value: usize, p: Place) -> io::Result<()> {
+    tell(
+        rt,
+        i,
+        field,
+        value,
+        places::with_place(places::fresh(), i, p),
+    )
 }
 
-fn condition(i: usize, value: u8) {
+fn condition(rt: &impl Print, i: usize, value: u8) -> io::Result<()> {
     let mut p = sound();
     p.condition = value;
-    with(i, b" condition ", value as usize, p);
+    with(rt, i, b" condition ", value as usize, p)
 }
 
-fn count(i: usize, value: u32, size: u16) {
+fn count(rt: &impl Print, i: usize, value: u32, size: u16) -> io::Result<()> {
     let mut p = sound();
     p.count = value;
     p.size = size;
-    with(i, b" count ", value as usize, p);
+    with(rt, i, b" count ", value as usize, p)
 }
 
-fn size(i: usize, value: u16) {
+fn size(rt: &impl Print, i: usize, value: u16) -> io::Result<()> {
     let mut p = sound();
     p.count = 256;
     p.size = value;
-    with(i, b" size ", value as usize, p);
+    with(rt, i, b" size ", value as usize, p)
 }
 
-fn last(i: usize, value: u16, size: u16) {
+fn last(rt: &impl Print, i: usize, value: u16, size: u16) -> io::Result<()> {
     let mut p = sound();
     p.count = 1;
     p.fec = false;
     p.size = size;
     p.last = value;
-    with(i, b" last ", value as usize, p);
+    with(rt, i, b" last ", value as usize, p)
 }
 
-fn rsk(i: usize, value: u8, fec: bool) {
+fn rsk(rt: &impl Print, i: usize, value: u8, fec: bool) -> io::Result<()> {
     let mut p = sound();
     p.fec = fec;
     p.rsk = value;
     p.rsz = 0;
-    with(i, b" rsk ", value as usize, p);
+    with(rt, i, b" rsk ", value as usize, p)
 }
 
-fn rsz(i: usize, value: u8, fec: bool) {
+fn rsz(rt: &impl Print, i: usize, value: u8, fec: bool) -> io::Result<()> {
     let mut p = sound();
     p.fec = fec;
     p.rsz = value;
-    with(i, b" rsz ", value as usize, p);
+    with(rt, i, b" rsz ", value as usize, p)
 }
 
 // The lines of place i.
-fn place(i: usize) {
-    condition(i, 0);
-    condition(i, 3);
-    condition(i, 4);
-    condition(i, 255);
-    count(i, 0, 0);
-    count(i, 256, 0);
-    count(i, 257, 0);
-    count(i, 4294967295, 0);
-    size(i, 48);
-    size(i, 49);
-    size(i, 65535);
-    last(i, 12288, 0);
-    last(i, 12289, 0);
-    last(i, 100, 100);
-    last(i, 101, 100);
-    rsk(i, 0, true);
-    rsk(i, 1, true);
-    rsk(i, 207, true);
-    rsk(i, 208, true);
-    rsk(i, 255, false);
-    rsz(i, 99, true);
-    rsz(i, 100, true);
-    rsz(i, 255, false);
+fn place(rt: &impl Print, i: usize) -> io::Result<()> {
+    condition(rt, i, 0)?;
+    condition(rt, i, 3)?;
+    condition(rt, i, 4)?;
+    condition(rt, i, 255)?;
+    count(rt, i, 0, 0)?;
+    count(rt, i, 256, 0)?;
+    count(rt, i, 257, 0)?;
+    count(rt, i, 4294967295, 0)?;
+    size(rt, i, 48)?;
+    size(rt, i, 49)?;
+    size(rt, i, 65535)?;
+    last(rt, i, 12288, 0)?;
+    last(rt, i, 12289, 0)?;
+    last(rt, i, 100, 100)?;
+    last(rt, i, 101, 100)?;
+    rsk(rt, i, 0, true)?;
+    rsk(rt, i, 1, true)?;
+    rsk(rt, i, 207, true)?;
+    rsk(rt, i, 208, true)?;
+    rsk(rt, i, 255, false)?;
+    rsz(rt, i, 99, true)?;
+    rsz(rt, i, 100, true)?;
+    rsz(rt, i, 255, false)
 }
 
 // The line of a record that says which place is displaced next.
-fn oldest(value: u8) {
+fn oldest(rt: &impl Print, value: u8) -> io::Result<()> {
     let mut t = places::fresh();
     t.oldest = value;
-    tell(4, b" oldest ", value as usize, t);
+    tell(rt, 4, b" oldest ", value as usize, t)
 }
 
 // Fragment 0 of two, without FEC, of number 7: its payload is a whole AF packet of 12 bytes.
@@ -214,7 +221,7 @@ fn of_two() -> Place {
 }
 
 // The line of a record that no calls leave: what a fragment is answered there.
-fn stray(name: &[u8], p: Place, datagram: &[u8]) {
+fn stray(rt: &impl Print, name: &[u8], p: Place, datagram: &[u8]) -> io::Result<()> {
     let mut lent = [0u8; ALL_PLACES];
     let mut out = [0u8; MOST_L];
     let t = places::with_place(places::fresh(), 0, p);
@@ -228,25 +235,25 @@ fn stray(name: &[u8], p: Place, datagram: &[u8]) {
     at = text::plain(&mut line, at, b" ");
     at = text::decimal(&mut line, at, handed_length(answer));
     at = text::plain(&mut line, at, b"\n");
-    show(&line, at);
+    show(rt, &line, at)
 }
 
 // Fragment 0 is marked kept, and s is unknown: the last one makes all, and it alone is handed out.
-fn without_size() {
+fn without_size(rt: &impl Print) -> io::Result<()> {
     let mut p = of_two();
     p.kept[0] = true;
-    stray(b"size", p, &LAST);
+    stray(rt, b"size", p, &LAST)
 }
 
 // The last is marked kept, with no bytes: fragment 0 makes all, and it alone is handed out.
-fn without_last() {
+fn without_last(rt: &impl Print) -> io::Result<()> {
     let mut p = of_two();
     p.kept[1] = true;
-    stray(b"last", p, &FIRST);
+    stray(rt, b"last", p, &FIRST)
 }
 
 // With FEC all are kept, and the place is open: each fragment is a repeat, and nothing is ever handed out.
-fn overdue() {
+fn overdue(rt: &impl Print) -> io::Result<()> {
     let mut p = sound();
     p.count = 2;
     p.rsk = 12;
@@ -256,18 +263,18 @@ fn overdue() {
     p.kept[1] = true;
     let mut datagram = [0u8; 46];
     base::put(&mut datagram, 0, &CODED);
-    stray(b"open", p, &datagram);
+    stray(rt, b"open", p, &datagram)
 }
 
-fn main() {
-    place(0);
-    place(1);
-    place(2);
-    place(3);
-    oldest(3);
-    oldest(4);
-    oldest(255);
-    without_size();
-    without_last();
-    overdue();
+fn main(rt: HostRuntime) -> io::Result<()> {
+    place(&rt, 0)?;
+    place(&rt, 1)?;
+    place(&rt, 2)?;
+    place(&rt, 3)?;
+    oldest(&rt, 3)?;
+    oldest(&rt, 4)?;
+    oldest(&rt, 255)?;
+    without_size(&rt)?;
+    without_last(&rt)?;
+    overdue(&rt)
 }

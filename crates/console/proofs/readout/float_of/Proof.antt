@@ -1,10 +1,10 @@
--- `widths::float_of` makes a float of no NaN's pattern. Assumes nothing.
+-- `readout::float_of` makes a float of no NaN's pattern. Assumes nothing.
 use mathlib.Core.Path.{◌≡◌, sym, subst, ◌∙◌}
 use mathlib.Core.Bool.{Bool, false, not}
 use borrow.Author.Rules.{rules}
 use lib.Dec.{T}
-use Rattle.console.proofs.widths.float_of.Statement.{statement}
-use Rattle.console.proofs.widths.float_of.Tie as tie
+use Rattle.console.proofs.readout.float_of.Statement.{statement}
+use Rattle.console.proofs.readout.float_of.Tie as tie
 
 float-from-bits-result : tie.Need-float-from-bits-result
 float-from-bits-result c = subst (λ (b : Bool). T (not b)) (sym (sym c.before.is_nan.ensures ∙ c.if1.false)) tt

@@ -1,11 +1,11 @@
--- `widths::answer_item` meets its contract: the room fits the buffer. Assumes nothing.
+-- `readout::answer_item` meets its contract: the room fits the buffer. Assumes nothing.
 use mathlib.Core.Path.{ap}
 use native.Mathlib.Omega.{arith}
 use borrow.Author.Rules.{rules}
 use Rattle.console.specs.inner.Sized.{size_of}
 use Rattle.console.proofs.Parts.{front}
-use Rattle.console.proofs.widths.answer_item.Statement.{statement}
-use Rattle.console.proofs.widths.answer_item.Tie as tie
+use Rattle.console.proofs.readout.answer_item.Statement.{statement}
+use Rattle.console.proofs.readout.answer_item.Tie as tie
 
 array-borrow-prefix-buffer : tie.Need-array-borrow-prefix-buffer
 array-borrow-prefix-buffer c =

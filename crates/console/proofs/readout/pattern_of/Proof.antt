@@ -1,4 +1,4 @@
--- `widths::pattern_of` asks for no NaN's pattern: a NaN differs from itself. Assumes nothing.
+-- `readout::pattern_of` asks for no NaN's pattern: a NaN differs from itself. Assumes nothing.
 use mathlib.Core.Path.{◌≡◌, sym, subst}
 use mathlib.Core.Bool.{Bool, true, false, not}
 use borrow.Author.Rules.{rules}
@@ -6,8 +6,8 @@ use lib.Dec.{T}
 use lib.Ieee.{Float, nan, inf, fin, ne, is_nan}
 use lib.Ieee.Compare.{nan_differs}
 use Rattle.base_rules.proofs.Logic.{clash}
-use Rattle.console.proofs.widths.pattern_of.Statement.{statement}
-use Rattle.console.proofs.widths.pattern_of.Tie as tie
+use Rattle.console.proofs.readout.pattern_of.Statement.{statement}
+use Rattle.console.proofs.readout.pattern_of.Tie as tie
 
 -- what does not differ from itself is no NaN
 itself : (x : Float) → ne x x ≡ false → T (not (is_nan x))

@@ -1,11 +1,11 @@
--- `widths::answer_packets` meets its contract: the bytes read fit the buffers. Assumes nothing.
+-- `readout::answer_packets` meets its contract: the bytes read fit the buffers. Assumes nothing.
 use mathlib.Core.Path.{ap}
 use native.Mathlib.Omega.{arith}
 use borrow.Author.Rules.{rules}
 use Rattle.console.specs.inner.Sized.{size_of}
 use Rattle.console.proofs.Parts.{front}
-use Rattle.console.proofs.widths.answer_packets.Statement.{statement}
-use Rattle.console.proofs.widths.answer_packets.Tie as tie
+use Rattle.console.proofs.readout.answer_packets.Statement.{statement}
+use Rattle.console.proofs.readout.answer_packets.Tie as tie
 
 array-share-prefix-packet : tie.Need-array-share-prefix-packet
 array-share-prefix-packet c = omega (arith, ap size_of c.before.before.before.before.before.before.before.before.before.n.given.1)

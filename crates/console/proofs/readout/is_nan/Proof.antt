@@ -1,9 +1,9 @@
--- `widths::is_nan` meets its contract: the two tests are those of the definition. Assumes nothing.
+-- `readout::is_nan` meets its contract: the two tests are those of the definition. Assumes nothing.
 use mathlib.Core.Path.{sym}
 use borrow.Author.Tests.{eq-eqb, ne_eqb}
 use lib.Ieee.{nan_bits}
-use Rattle.console.proofs.widths.is_nan.Statement.{statement}
-use Rattle.console.proofs.widths.is_nan.Tie as tie
+use Rattle.console.proofs.readout.is_nan.Statement.{statement}
+use Rattle.console.proofs.readout.is_nan.Tie as tie
 
 returns : tie.Need-returns
 unfolding nan_bits
