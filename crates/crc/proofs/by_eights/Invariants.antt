@@ -1,0 +1,16 @@
+-- `by_eights` is `register_of`. The loop keeps what the bytes that are left make of the register. Assumes nothing.
+use mathlib.Core.Path.{◌≡◌, refl, ap, ◌∙◌}
+use mathlib.Core.List.{List}
+use Prim.Native.Nat.{ℕ, ◌+◌, ◌-◌, ◌≤◌}
+use native.Mathlib.Omega.{arith}
+use lib.ListN.{length, take, drop, length-drop}
+use lib.Seq.{length-take-le, take_all}
+use Rattle.crc_rules.specs.Crc.{register_of}
+use Rattle.crc_rules.proofs.Over.{part_more}
+use Rattle.crc.proofs.by_eights.Given as goal
+
+abbrev pub invariant-loop-a : goal.invariant-loop-a
+invariant-loop-a l = (l.a ≤ length l.bytes) × (register_of l.r (drop l.a l.bytes) ≡ register_of l.start l.bytes)
+
+abbrev pub decreases-loop-a : goal.decreases-loop-a
+decreases-loop-a l = length l.bytes - l.a

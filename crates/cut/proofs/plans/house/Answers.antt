@@ -1,0 +1,5 @@
+-- `house` meets its contract: `set_for` makes these settings of its figures. Assumes nothing.
+use Rattle.cut.proofs.plans.house.Goals as goal
+
+pub returns : goal.returns
+returns c = c.set_for.ensures

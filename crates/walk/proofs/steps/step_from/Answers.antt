@@ -1,0 +1,55 @@
+use native.Mathlib.Omega.{arith}
+use Prim.Native.Nat.{ℕ}
+use mathlib.Core.Path.{refl, sym, ap, ◌∙◌}
+use Rattle.item_rules.proofs.Steps.{item_fits}
+use Rattle.item_rules.proofs.Runs.{item_begins}
+use Rattle.walk_rules.specs.Names.{names_of}
+use Rattle.walk_rules.specs.Step.{end_of, step_from}
+use Rattle.walk_rules.proofs.StepCases.{step-item, step_end, step_up, step-refused}
+use Rattle.walk.proofs.steps.step_from.Goals as goal
+
+pub loop-i-init : goal.loop-i-init
+loop-i-init c = (omega arith, refl)
+
+pub goes_on-next-requires : goal.goes_on-next-requires
+goes_on-next-requires c =
+    let e = sym c.step_in-step.ensures.0 ∙ c.in-Item.is in
+    (omega arith, omega (arith, item_fits _ _ _ _ e, item_begins _ _ _ _ e))
+
+pub returns-in-Item : goal.returns-in-Item
+unfolding end_of
+returns-in-Item c =
+    let e = sym c.step_in-step.ensures.0 ∙ c.in-Item.is in
+    let a = c.args in
+    sym (ap (λ (d : ℕ). step_from a.s.now (names_of a.names.now) a.from d a.ends) (sym c.lesser-d.ensures) ∙ c.loop-i.invariant.1
+    ∙ step-item a.s.now (names_of a.names.now) c.loop-i.at a.ends c.loop-i.d _ _ _ c.lesser-end.ensures e
+    c.goes_on-next.ensures)
+
+pub returns-then-d-eq0 : goal.returns-then-d-eq0
+unfolding end_of
+returns-then-d-eq0 c =
+    let e = sym c.step_in-step.ensures.0 ∙ c.in-End.is in
+    let a = c.args in
+    c.stays.ensures
+    ∙ sym (ap (λ (d : ℕ). step_from a.s.now (names_of a.names.now) a.from d a.ends) (sym c.lesser-d.ensures) ∙ c.loop-i.invariant.1
+    ∙ step_end a.s.now (names_of a.names.now) c.loop-i.at a.ends c.loop-i.d _ _ c.lesser-end.ensures e
+    (omega (arith, c.if-d-eq0.true)))
+
+pub loop-i-preserved : goal.loop-i-preserved
+unfolding end_of
+loop-i-preserved c =
+    let e = sym c.step_in-step.ensures.0 ∙ c.in-End.is in
+    let a = c.args in (
+      omega arith,
+      c.loop-i.invariant.1 ∙ step_up a.s.now (names_of a.names.now) c.loop-i.at a.ends c.loop-i.d _ _
+          c.lesser-end.ensures e c.if-d-eq0.false,
+    )
+
+pub returns-in-Refused : goal.returns-in-Refused
+unfolding end_of
+returns-in-Refused c =
+    let e = sym c.step_in-step.ensures.0 ∙ c.in-Refused.is in
+    let a = c.args in
+    c.stays-in-Refused.ensures
+    ∙ sym (ap (λ (d : ℕ). step_from a.s.now (names_of a.names.now) a.from d a.ends) (sym c.lesser-d.ensures) ∙ c.loop-i.invariant.1
+    ∙ step-refused a.s.now (names_of a.names.now) c.loop-i.at a.ends c.loop-i.d _ _ c.lesser-end.ensures e)
