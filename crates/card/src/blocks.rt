@@ -41,8 +41,7 @@ fn kept_of(bytes: &[u8]) -> [bool; MOST_F]
 }
 
 // Writes the block of a packet at the front of out, c chunks of k bytes with their parity, and gives 0; else the number of the refusal.
-#[unsafe(no_mangle)]
-pub extern "C" fn bailhammer_encode(packet: &[u8], k: usize, c: usize, out: &mut [u8]) -> usize
+pub fn bailhammer_encode(packet: &[u8], k: usize, c: usize, out: &mut [u8]) -> usize
     ensures { CardWritten (encode_call packet.now k c out.old) out.new result }
 {
     let w = code_encoder::encode(packet, k, c, out);
@@ -51,14 +50,7 @@ pub extern "C" fn bailhammer_encode(packet: &[u8], k: usize, c: usize, out: &mut
 
 // Fills in the missing cells of a block of f fragments of s bytes, of which those with a byte that is not 0 are kept, and gives 0; 256
 // where no word of the code agrees, 257 where too few are kept, else the number of the refusal.
-#[unsafe(no_mangle)]
-pub extern "C" fn bailhammer_fill(
-    kept: &[u8],
-    f: usize,
-    s: usize,
-    k: usize,
-    block: &mut [u8],
-) -> usize
+pub fn bailhammer_fill(kept: &[u8], f: usize, s: usize, k: usize, block: &mut [u8]) -> usize
     ensures { CardFilled kept.now f s k block.old block.new result }
 {
     let a = code_decoder::fill(kept_of(kept), f, s, k, block);

@@ -58,8 +58,7 @@ fn tell_parsed(p: Parsed, told: &mut [u8]) -> usize
 }
 
 // Reads the header of a datagram, tells its fields and where the payload begins, and gives 0; else the number of the refusal.
-#[unsafe(no_mangle)]
-pub extern "C" fn bailhammer_parse(
+pub fn bailhammer_parse(
     addressed: usize,
     source: u16,
     dest: u16,

@@ -64,8 +64,7 @@ fn tell_found(l: Located, told: &mut [u8]) -> usize
 
 // Finds an item by its name in a packet, else in the standing packet beside it, tells where it is, and gives 0; else the number of the
 // refusal.
-#[unsafe(no_mangle)]
-pub extern "C" fn bailhammer_find(
+pub fn bailhammer_find(
     packet: &[u8],
     standing: &[u8],
     name: u32,
@@ -81,8 +80,7 @@ pub extern "C" fn bailhammer_find(
 
 // Finds the occurrence of a name and number, counted from 0, in a packet alone, tells where it is, and gives 0; else the number of the
 // refusal.
-#[unsafe(no_mangle)]
-pub extern "C" fn bailhammer_nth(
+pub fn bailhammer_nth(
     packet: &[u8],
     name: u32,
     number: usize,
@@ -137,13 +135,7 @@ fn walker_from(s: &[u8]) -> Walker
 }
 
 // Opens a walk through a packet and the containers in it that have one of the names, and gives 0; else the number of the refusal.
-#[unsafe(no_mangle)]
-pub extern "C" fn bailhammer_walk_open(
-    packet: &[u8],
-    names: &[u8],
-    repeats: usize,
-    walker: &mut [u8],
-) -> usize
+pub fn bailhammer_walk_open(packet: &[u8], names: &[u8], repeats: usize, walker: &mut [u8]) -> usize
     ensures { CardWritten (walk_open_call (repeats_of repeats) packet.now names.now walker.old)
         walker.new result }
 {
@@ -184,8 +176,7 @@ fn tell_step(h: Handed, told: &mut [u8]) -> usize
 }
 
 // Hands out the next item of a walk, and gives 0; else the number of the refusal.
-#[unsafe(no_mangle)]
-pub extern "C" fn bailhammer_walk_step(
+pub fn bailhammer_walk_step(
     packet: &[u8],
     names: &[u8],
     walker: &mut [u8],

@@ -59,8 +59,7 @@ fn tell_endurance(e: Endurance, told: &mut [u8]) -> usize
 
 // Tells how many lost fragments the cut of a packet of l bytes stands, how many it has, and a set that is one too many, and gives 0; else
 // the number of the refusal.
-#[unsafe(no_mangle)]
-pub extern "C" fn bailhammer_endure(
+pub fn bailhammer_endure(
     fec: usize,
     m: usize,
     newer: usize,

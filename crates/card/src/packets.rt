@@ -11,8 +11,7 @@ use af::Checked;
 use item::Bits;
 
 // Writes the AF packet of a payload at the front of out, with a CRC where cf is not 0, and gives 0; else the number of the refusal.
-#[unsafe(no_mangle)]
-pub extern "C" fn bailhammer_wrap(seq: u16, cf: usize, payload: &[u8], out: &mut [u8]) -> usize
+pub fn bailhammer_wrap(seq: u16, cf: usize, payload: &[u8], out: &mut [u8]) -> usize
     ensures { CardWritten (wrap_call seq (not (eqb cf 0)) payload.now out.old) out.new result }
 {
     let w = af::wrap(seq, cf != 0, payload, out);
@@ -23,8 +22,7 @@ pub extern "C" fn bailhammer_wrap(seq: u16, cf: usize, payload: &[u8], out: &mut
 const TOLD_CHECK: usize = 8;
 
 // Checks an AF packet, tells SEQ, CF, the minor revision and LEN, and gives 0; else the number of the refusal.
-#[unsafe(no_mangle)]
-pub extern "C" fn bailhammer_check(packet: &[u8], told: &mut [u8]) -> usize
+pub fn bailhammer_check(packet: &[u8], told: &mut [u8]) -> usize
     ensures { CardTold check_widths (check_call packet.now) told.old told.new result }
 {
     let checked = af::check(packet);
@@ -39,8 +37,7 @@ pub extern "C" fn bailhammer_check(packet: &[u8], told: &mut [u8]) -> usize
 }
 
 // Writes a TAG item at the front of out, and gives 0; else the number of the refusal.
-#[unsafe(no_mangle)]
-pub extern "C" fn bailhammer_item(name: u32, bits: u32, value: &[u8], out: &mut [u8]) -> usize
+pub fn bailhammer_item(name: u32, bits: u32, value: &[u8], out: &mut [u8]) -> usize
     ensures { CardWritten (write_call name bits value.now out.old) out.new result }
 {
     let w = write::write(name, Bits(bits), value, out);

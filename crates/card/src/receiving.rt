@@ -72,8 +72,7 @@ fn tell_receipt(a: Received, told: &mut [u8]) -> usize
 }
 
 // Receives a datagram with the record in its bytes, and gives the number of the answer.
-#[unsafe(no_mangle)]
-pub extern "C" fn bailhammer_receive(
+pub fn bailhammer_receive(
     addressed: usize,
     source: u16,
     dest: u16,
@@ -148,8 +147,7 @@ fn tell_places(q: Queried, told: &mut [u8]) -> usize
 }
 
 // Shows the four places of the record in its bytes, and gives the number of the answer.
-#[unsafe(no_mangle)]
-pub extern "C" fn bailhammer_query(record_bytes: &[u8], lent: &[u8], told: &mut [u8]) -> usize
+pub fn bailhammer_query(record_bytes: &[u8], lent: &[u8], told: &mut [u8]) -> usize
     ensures { CardTold places_widths (query_for record_bytes.now (length lent.now)) told.old told.new result }
 {
     let unpacked = packed::unpack(record_bytes);
@@ -164,8 +162,7 @@ pub extern "C" fn bailhammer_query(record_bytes: &[u8], lent: &[u8], told: &mut 
 }
 
 // Empties the four places: a fresh record in the bytes. Gives the number of the answer.
-#[unsafe(no_mangle)]
-pub extern "C" fn bailhammer_clear(record_bytes: &mut [u8], lent: &[u8]) -> usize
+pub fn bailhammer_clear(record_bytes: &mut [u8], lent: &[u8]) -> usize
     ensures { CardWritten (clear_for record_bytes.old (length lent.now)) record_bytes.new result }
 {
     let unpacked = packed::unpack(record_bytes);

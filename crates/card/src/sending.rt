@@ -64,8 +64,7 @@ fn tell_plan(a: Planned, told: &mut [u8]) -> usize
 }
 
 // Plans the cut of a packet of l bytes and tells its figures, and gives 0; else the number of the refusal.
-#[unsafe(no_mangle)]
-pub extern "C" fn bailhammer_plan(
+pub fn bailhammer_plan(
     fec: usize,
     m: usize,
     newer: usize,
@@ -91,8 +90,7 @@ fn tell_length(a: Sent, told: &mut [u8]) -> usize
 }
 
 // Writes one fragment of a packet at the front of out and tells its length, and gives 0; else the number of the refusal.
-#[unsafe(no_mangle)]
-pub extern "C" fn bailhammer_fragment(
+pub fn bailhammer_fragment(
     fec: usize,
     m: usize,
     newer: usize,
@@ -130,8 +128,7 @@ fn tell_split(a: SentAll, told: &mut [u8]) -> usize
 }
 
 // Writes all fragments of a packet at the front of out and tells how out is split, and gives 0; else the number of the refusal.
-#[unsafe(no_mangle)]
-pub extern "C" fn bailhammer_fragments(
+pub fn bailhammer_fragments(
     fec: usize,
     m: usize,
     newer: usize,
