@@ -11,12 +11,7 @@ slice_bounds-put_payload-count c =
     c.header_of.ensures P.3 c.write_header.ensures
 
 pub slice_bounds-put_payload-start : goal.slice_bounds-put_payload-start
-slice_bounds-put_payload-start c =
-    let A = c.args in
-    let P = c.requires in
-    let a = A in
-    behind_header a.g a.packet.now a.p P.0 a.out.now _ _ _ a.number a.i
-    c.header_of.ensures P.3 c.write_header.ensures
+slice_bounds-put_payload-start c = slice_bounds-put_payload-count c
 
 pub put_payload-requires : goal.put_payload-requires
 put_payload-requires c =

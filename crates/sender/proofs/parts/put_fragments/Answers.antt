@@ -25,14 +25,7 @@ slice_bounds-put_fragment-count c =
     inv.2
 
 pub slice_bounds-put_fragment-start : goal.slice_bounds-put_fragment-start
-slice_bounds-put_fragment-start c =
-    let A = c.args in
-    let P = c.requires in
-    let L = c.loop-i in
-    let a = A in
-    let inv = L.invariant in
-    run.run_start a.g a.packet.now a.p P.0 a.number a.out.now P.2 L.i L.at L.out c.loop-i-test.true inv.1
-    inv.2
+slice_bounds-put_fragment-start c = slice_bounds-put_fragment-count c
 
 pub put_fragment-requires : goal.put_fragment-requires
 put_fragment-requires c =
