@@ -153,7 +153,7 @@ fn shown<'a>(packet: &'a [u8], standing: &'a [u8], repeats: Repeats, name: u32) 
 }
 
 // The value of the item that `search` finds, as a part of the packet or of the standing packet, each lent for a lifetime of its own; empty where the
-// search is refused. The borrow checker does not cover a part of either, so this is thin, and the work is done at the one lifetime of the part.
+// search is refused. It is thin: the work is done at the one lifetime of the part.
 pub fn find<'p: 'r, 's: 'r, 'r>(
     packet: &'p [u8],
     standing: &'s [u8],
@@ -162,5 +162,6 @@ pub fn find<'p: 'r, 's: 'r, 'r>(
 ) -> &'r [u8]
     ensures { PartShown repeats packet.entry standing.entry name result }
 {
-    shown(packet, standing, repeats, name)
+    let part = shown(packet, standing, repeats, name);
+    part
 }

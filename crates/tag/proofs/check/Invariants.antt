@@ -1,0 +1,12 @@
+-- `tag::check` meets its contract. The invariant is `Seen`; the measure is what is left of the packet.
+use Prim.Native.Nat.{◌-◌}
+use lib.ListN.{length}
+use Rattle.item_rules.specs.Run.{faults_of}
+use Rattle.item_rules.proofs.Seen.{Seen}
+use Rattle.tag.proofs.check.Given as goal
+
+abbrev pub invariant-loop-i : goal.invariant-loop-i
+invariant-loop-i l = Seen (faults_of l.repeats) l.packet 0 (length l.packet) l.marks l.at
+
+abbrev pub decreases-loop-i : goal.decreases-loop-i
+decreases-loop-i l = length l.packet - l.at

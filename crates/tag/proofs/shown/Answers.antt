@@ -1,0 +1,25 @@
+-- `tag::shown` meets its contract.
+use mathlib.Core.Path.{sym, ap, ◌∙◌}
+use native.Mathlib.Omega.{arith}
+use Rattle.item_rules.proofs.Starts.{starts_inside}
+use Rattle.tag_rules.specs.Find.{shown_by, place_by}
+use Rattle.tag_rules.proofs.Inside.{found_in}
+use Rattle.tag_rules.proofs.Values.{place_inside}
+use Rattle.tag.proofs.shown.Goals as goal
+
+pub returns-in-Packet : goal.returns-in-Packet
+returns-in-Packet c =
+    let e = sym c.in-Packet.is ∙ c.locate-l.ensures.0 in
+    let inside = starts_inside _ _ ((found_in _ _ _ _ _).0 (sym e)).starts in
+    (c.value.ensures.0 ∙ ap (shown_by c.args.packet.now c.args.standing.now) e, c.value.ensures.1 ∙ sym (place_inside _ _ (omega arith)) ∙ ap (place_by c.args.packet c.args.standing) e)
+
+pub returns-in-Standing : goal.returns-in-Standing
+returns-in-Standing c =
+    let e = sym c.in-Standing.is ∙ c.locate-l.ensures.0 in
+    let inside = starts_inside _ _ ((found_in _ _ _ _ _).1 (sym e)).starts in
+    (c.value-in-Standing.ensures.0 ∙ ap (shown_by c.args.packet.now c.args.standing.now) e, c.value-in-Standing.ensures.1 ∙ sym (place_inside _ _ (omega arith)) ∙ ap (place_by c.args.packet c.args.standing) e)
+
+pub returns-in-Refused : goal.returns-in-Refused
+returns-in-Refused c =
+    let e = sym c.in-Refused.is ∙ c.locate-l.ensures.0 in
+    (ap (shown_by c.args.packet.now c.args.standing.now) e, ap (place_by c.args.packet c.args.standing) e)
