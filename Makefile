@@ -32,7 +32,7 @@ c:
 rust:
 	@rust/run
 
-##   test      .ci/run           25 minutes  the gate: proves and tries everything, from nothing
+##   test      .ci/run           minutes *   the gate: proves and tries everything
 test:
 	@.ci/run
 
@@ -61,7 +61,6 @@ bench:
 	@bench/run
 
 ##
-## * and minutes the first time: what is not proved yet is proved first, and says how far it is. The
-## gate was timed on two processors.
+## * and longer the first time: what is not proved yet is proved first, and says how far it is.
 ## Each needs rt, the Rattle kit's command (kit.txt names the kit), but declared and examples; c,
 ## examples and bench need a C compiler, bench libfec too, rust and compare cargo, interop tshark.

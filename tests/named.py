@@ -119,8 +119,8 @@ def layout(root):
     defined, wrapped = figures(root)
     ours = {name: defined.get(f"BAILHAMMER_{name}") for name in VERSIONS}
     yield from apart("version", (HEADER, ours), (WRAPPERS, {name: wrapped.get(name) for name in VERSIONS}))
-    body = re.search(r"^figuresOf p =(.*?)\n\n", (root / LAYOUT).read_text(), flags=re.S | re.M)
-    laid = re.findall(r"bytesOf (\d+) \(p \.(\w+)\)|p \.(\w+)", body[1] if body else "")
+    body = re.search(r"^figures_of p =(.*?)\n\n", (root / LAYOUT).read_text(), flags=re.S | re.M)
+    laid = re.findall(r"bytes_of (\d+) p\.(\w+)|p\.(\w+)", body[1] if body else "")
     said = ", ".join(f"{name or single} {width or 1}" for width, name, single in laid)
     if ours["RECORD_LAYOUT"] != str(len(LAYOUTS)) or said != LAYOUTS[-1]:
         yield f"the record's layout {ours['RECORD_LAYOUT']} is not the one in {LAYOUT}: {said}"

@@ -1,5 +1,5 @@
 /* The calls of libcard.a for C, a link card after ETSI TS 102 821: AF packets go out as PFT fragments, with parity where FEC is on, and come
- * together again at the far end. `rt staticlib card` makes the library; then
+ * together again at the far end. c/run and rust/run make the library, which is the crate card_c as `rt lib` there makes it; then
  *
  *     cc -I crates/card yours.c target/staticlib/libcard.a
  *

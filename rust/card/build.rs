@@ -1,5 +1,5 @@
-//! Links libcard.a, which `rt staticlib card` makes in this repository, or the one in the folder
-//! that the variable BAILHAMMER_LIB names.
+//! Links libcard.a, which rust/run makes in this repository, or the one in the folder that the
+//! variable BAILHAMMER_LIB names.
 
 use std::path::PathBuf;
 
@@ -18,7 +18,7 @@ fn main() {
         std::process::exit(1);
     }
     if !library.is_file() {
-        eprintln!("{} is not there; run: rt staticlib card", library.display());
+        eprintln!("{} is not there; run: rust/run", library.display());
         std::process::exit(1);
     }
     println!("cargo:rustc-link-search=native={}", folder.display());
