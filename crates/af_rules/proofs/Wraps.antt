@@ -11,7 +11,7 @@ use lib.ListN.{length, get_or, take, length-append}
 use Rattle.base_rules.specs.Answer.{Answer, granted, refused, outcome}
 use Rattle.base_rules.specs.Bounds.{least_l}
 use Rattle.base_rules.specs.Bytes.{splice, bytes_of}
-use Rattle.base_rules.specs.Written.{put_fault, put_of}
+use Rattle.base_rules.specs.Written.{put_of}
 use Rattle.base_rules.proofs.Answers.{writes, leaves, put_is}
 use Rattle.base_rules.proofs.Firsts.{due, skip, none_due}
 use Rattle.base_rules.proofs.Logic.{either}

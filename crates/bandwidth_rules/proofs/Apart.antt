@@ -1,13 +1,12 @@
 -- No refusal of the TAG layer is 60, so that 60 says which item was found. Assumes nothing.
 use mathlib.Core.Path.{◌≡◌, refl, sym, ap, ◌∙◌}
-use mathlib.Core.Bool.{Bool, true, false, cond, not, ◌&&◌, ◌||◌}
+use mathlib.Core.Bool.{Bool, true, false, not, ◌&&◌, ◌||◌}
 use mathlib.Core.List.{List, [], ◌∷◌}
 use Prim.Native.Nat.{ℕ, zero, suc}
 use native.Mathlib.Omega.{arith}
 use lib.Dec.{eqb}
 use lib.ListN.{length}
-use borrow.Author.Tests.{eqb-true, eqb-false, eq-eqb, ne_eqb}
-use Rattle.base_rules.specs.Answer.{refused, answered}
+use borrow.Author.Tests.{eq-eqb, ne_eqb}
 use Rattle.base_rules.specs.Tests.{first, among}
 use Rattle.base_rules.proofs.Logic.{either}
 use Rattle.item_rules.specs.declared.Item.{Item}
@@ -18,9 +17,8 @@ use Rattle.item_rules.proofs.Runs.{every-run}
 use Rattle.tag_rules.specs.Find.{whole_run, check_of}
 use Rattle.tag_rules.specs.Calls.{locate_fault}
 use Rattle.tag_rules.proofs.Numbers.{refused_by}
-use Rattle.bandwidth_rules.specs.Read.{rbw, rbw_bits, bandwidth_of, bandwidth_number, bits_told, bandwidth_fault, bandwidth_values, bandwidth_call}
+use Rattle.bandwidth_rules.specs.Read.{rbw, rbw_bits, bandwidth_number, bits_told, bandwidth_fault, bandwidth_values, bandwidth_call}
 use Rattle.bandwidth_rules.specs.Claims.{OtherLength}
-use Rattle.bandwidth_rules.specs.declared.Bandwidth.TheVariants as bandwidth
 use Rattle.bandwidth_rules.proofs.Reading.{read_number}
 
 -- a list of tests with other numbers does not give 60,

@@ -1,7 +1,7 @@
 -- Which floats are figures, and of which number; figures in their order. Assumes nothing.
 use mathlib.Core.Path.{◌≡◌, refl, sym, ap, ◌∙◌}
-use mathlib.Core.Bool.{Bool, true, false, not, ◌&&◌}
-use Prim.Native.Nat.{ℕ, ◌+◌, ◌*◌, ◌/◌, ◌%◌, ◌≤◌, ◌<◌}
+use mathlib.Core.Bool.{true, false}
+use Prim.Native.Nat.{ℕ, ◌*◌, ◌/◌, ◌%◌, ◌≤◌, ◌<◌}
 use native.Mathlib.Omega.{arith}
 use native.Mathlib.Nat.{mul_comm, mul_assoc, mul_right_comm, mul-pos, mul-div_cancel, mul-mod_left, div-add-mod, le_of_mul-le-mul_right, mul-le-mul_right}
 use lib.Dec.{T, eqb, ltb, lit<}

@@ -5,18 +5,17 @@ use mathlib.Core.List.{List, [], ◌∷◌}
 use Prim.Native.Nat.{ℕ, zero, suc, ◌+◌, ◌*◌, ◌<◌}
 use native.Mathlib.Nat.{zero-add}
 use native.Mathlib.Omega.{arith}
-use lib.Dec.{T, eqb}
+use lib.Dec.{eqb}
 use lib.ListN.{length, get_or, take, drop}
 use borrow.Author.Tests.{eq-eqb, eqb-true, ne_eqb}
-use lib.Ieee.{Float, to_bits, of_bits, binary32, fits}
+use lib.Ieee.{Float, to_bits, of_bits, binary32}
 use lib.Ieee.Bits.{of_bits-to_bits}
 use lib.Ieee.Exact.{HasValue}
-use Rattle.base_rules.specs.Answer.{granted, refused, answered}
+use Rattle.base_rules.specs.Answer.{answered}
 use Rattle.base_rules.specs.Bytes.{Bytes, number_at}
 use Rattle.base_rules.specs.Round.{ceil}
 use Rattle.base_rules.specs.Tests.{first}
 use Rattle.base_rules.proofs.ByteLaws.{bytes_take, bytes_drop}
-use Rattle.base_rules.proofs.Logic.{either}
 use Rattle.base_rules.proofs.Numbers.{number_lt}
 use Rattle.item_rules.specs.declared.Item.{Item}
 use Rattle.item_rules.specs.declared.Repeats.{Repeats}
@@ -30,10 +29,10 @@ use Rattle.tag_rules.specs.declared.Located.TheVariants as located
 use Rattle.tag_rules.specs.Claims.{Shown}
 use Rattle.tag_rules.proofs.Inside.{found_in}
 use Rattle.tag_rules.proofs.Numbers.{locate_number}
-use Rattle.bandwidth_rules.specs.Figure.{figures, figure_of, is_figure}
+use Rattle.bandwidth_rules.specs.Figure.{figures, figure_of}
 use Rattle.bandwidth_rules.specs.Read.{rbw, rbw_bits, held_in, said_by, bandwidth_of, bandwidth_number, bits_told}
 use Rattle.bandwidth_rules.specs.Read.{bandwidth_fault, bandwidth_values, bandwidth_call}
-use Rattle.bandwidth_rules.specs.Claims.{Sent, ReadSent, TwoBytes, ReadExact, Of32Bits, OneBandwidth}
+use Rattle.bandwidth_rules.specs.Claims.{Sent, ReadSent, TwoBytes, ReadExact, OneBandwidth}
 use Rattle.bandwidth_rules.specs.declared.Bandwidth.{Bandwidth}
 use Rattle.bandwidth_rules.specs.declared.Bandwidth.TheVariants as bandwidth
 use Rattle.bandwidth_rules.proofs.Exact.{figure_exact}

@@ -1,20 +1,17 @@
 -- A written figure reads as itself, and what was read is written as it stood. Assumes nothing.
 use mathlib.Core.Path.{◌≡◌, refl, sym, ap, subst, ◌∙◌}
-use mathlib.Core.Bool.{true}
 use mathlib.Core.List.{List, [], ◌∷◌, ◌++◌, append_assoc, append-nil}
-use Prim.Native.Nat.{ℕ, ◌+◌, ◌%◌, ◌^◌, ◌<◌}
+use Prim.Native.Nat.{ℕ, ◌+◌, ◌%◌}
 use native.Mathlib.Omega.{arith}
-use lib.Dec.{T}
-use lib.ListN.{length, take, drop, get_or}
+use lib.ListN.{length, take, drop}
 use lib.Seq.{take_all}
-use lib.Ieee.{Float, binary32, fits}
+use lib.Ieee.{Float}
 use Rattle.base_rules.specs.Answer.{granted}
 use Rattle.base_rules.specs.Bytes.{Bytes, number_at, bytes_of}
 use Rattle.base_rules.specs.Round.{ceil}
 use Rattle.base_rules.proofs.ByteLaws.{bytes_take, bytes_drop}
 use Rattle.base_rules.proofs.Numbers.{length-bytes, number_back, bytes_back}
-use Rattle.item_rules.specs.Item.{head, bytes_for, unused_of, item_at, values_of}
-use Rattle.item_rules.specs.Claims.{StartsIn}
+use Rattle.item_rules.specs.Item.{head, bytes_for, item_at}
 use Rattle.item_rules.specs.declared.Item.{Item}
 use Rattle.item_rules.specs.declared.Repeats.{Repeats}
 use Rattle.item_rules.specs.declared.Repeats.TheVariants.{Forbidden, Allowed}
@@ -32,9 +29,9 @@ use Rattle.write_rules.specs.Packet.{Entry, packet_of}
 use Rattle.write_rules.specs.Claims.{written_values, FoundAs}
 use Rattle.write_rules.proofs.Back.{length-item}
 use Rattle.write_rules.proofs.Proved.{finds, finds_repeated, whole_kept}
-use Rattle.bandwidth_rules.specs.Figure.{figures, figure_of, in256ths, is_figure}
+use Rattle.bandwidth_rules.specs.Figure.{figure_of, in256ths}
 use Rattle.bandwidth_rules.specs.Read.{rbw, rbw_bits, held_in, said_by, bandwidth_of}
-use Rattle.bandwidth_rules.specs.Write.{width_entry, none_entry, entry_bytes}
+use Rattle.bandwidth_rules.specs.Write.{width_entry, none_entry}
 use Rattle.bandwidth_rules.specs.Claims.{Placed, ReadsAsItself, NoneReads, StandsAs, WritesBack, NoneBack, ItemsLong}
 use Rattle.bandwidth_rules.specs.declared.Bandwidth.{Bandwidth}
 use Rattle.bandwidth_rules.specs.declared.Bandwidth.TheVariants as bandwidth

@@ -1,28 +1,28 @@
 -- What is written, by which figure it is. Assumes nothing.
 use mathlib.Core.Path.{◌≡◌, refl, sym, ap, ◌∙◌}
-use mathlib.Core.Bool.{true, false}
+use mathlib.Core.Bool.{false}
 use mathlib.Core.List.{List, []}
 use Prim.Native.Nat.{ℕ, ◌+◌}
 use native.Mathlib.Nat.{zero-add}
 use native.Mathlib.Omega.{arith}
-use lib.Dec.{T, ltb}
+use lib.Dec.{ltb}
 use lib.ListN.{length}
-use lib.Ieee.{Float, binary32, fits}
-use Rattle.base_rules.specs.Answer.{Answer, Outcome, outcome, granted, refused, answer_in, settled}
-use Rattle.base_rules.specs.Bytes.{splice, bytes_of}
+use lib.Ieee.{Float}
+use Rattle.base_rules.specs.Answer.{Outcome, outcome, granted, refused, answer_in, settled}
+use Rattle.base_rules.specs.Bytes.{bytes_of}
 use Rattle.base_rules.specs.Round.{ceil}
 use Rattle.base_rules.specs.Tests.{first}
 use Rattle.base_rules.specs.Written.{put_fault, put_of}
 use Rattle.base_rules.proofs.Logic.{either, same}
 use Rattle.base_rules.proofs.Numbers.{length-bytes}
-use Rattle.item_rules.specs.Item.{head, bytes_for}
+use Rattle.item_rules.specs.Item.{bytes_for}
 use Rattle.item_rules.specs.Run.{bad_ptr}
 use Rattle.item_rules.proofs.Steps.{zero_one}
 use Rattle.write_rules.specs.Write.{item_bytes, write_fault, write_call}
 use Rattle.write_rules.proofs.Back.{length-item}
 use Rattle.bandwidth_rules.specs.Figure.{in256ths, is_figure, whole_of}
 use Rattle.bandwidth_rules.specs.Read.{rbw, rbw_bits}
-use Rattle.bandwidth_rules.specs.Write.{width_entry, none_entry, entry_bytes, width_call, none_call}
+use Rattle.bandwidth_rules.specs.Write.{width_entry, entry_bytes, width_call, none_call}
 use Rattle.bandwidth_rules.specs.Claims.{Figures}
 use Rattle.bandwidth_rules.specs.declared.Whole.TheVariants as whole
 use Rattle.bandwidth_rules.proofs.Figures.{figure_tested, of_whole, none_whole}

@@ -1,5 +1,5 @@
 -- Reading the bandwidth out of a TAG packet (document 02, Item 10).
-use Rattle.std.specs.Prelude.{Bool, cond, not, ◌||◌, List, [], ◌∷◌, ℕ, eqb, get_or}
+use Rattle.std.specs.Prelude.{cond, not, ◌||◌, List, [], ◌∷◌, ℕ, eqb, get_or}
 use Rattle.std.specs.Float.Ieee.{to_bits}
 use Rattle.std.specs.Float.{binary32}
 use Rattle.base_rules.specs.Answer.{Answer, granted, refused, answered}

@@ -8,7 +8,6 @@ use native.Mathlib.Nat.{le-div_iff_mul-le, div-mul-le_self}
 use native.Mathlib.Omega.{arith}
 use borrow.Author.Tests.{eqb-true, ne_eqb, ltb-false, leb-true, leb-false, lt-ltb, le-ltb, le-leb}
 use lib.Dec.{leb, ltb, eqb, lit≤}
-use Rattle.base_rules.specs.Answer.{answered}
 use Rattle.base_rules.specs.Bounds.{least_l, most_l, most_f, most_m, parity}
 use Rattle.base_rules.specs.Round.{ceil}
 use Rattle.base_rules.specs.Tests.{first}

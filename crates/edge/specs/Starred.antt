@@ -1,5 +1,5 @@
 -- Document 01, "On each side of the edge": what is marked * is one table under one statement.
-use Rattle.std.specs.Prelude.{◌≡◌, List, [], ◌∷◌, ◌++◌, map, ℕ}
+use Rattle.std.specs.Prelude.{◌≡◌, List, [], ◌∷◌, ◌++◌, map}
 use Rattle.cut_rules.specs.Edge.{Row, row, rows}
 use Rattle.cut_rules.specs.Claims.{AnyThree, NoFour}
 use Rattle.field_rules.specs.Field.{alpha}

@@ -37,12 +37,14 @@ module _ (h : Hit) where
       subst (λ (b : Bool). StartsIn (cond b t s) h.item) (sym which) (subst (StartsIn s) (sym same) (p i refl))
   starts_by s t (located.Standing i) (in_standing_lem which same) p q =
       subst (λ (b : Bool). StartsIn (cond b t s) h.item) (sym which) (subst (StartsIn t) (sym same) (q i refl))
+  starts_by s t (located.Refused _) none p q = elim none [ ]
 
   -- an occurrence is never one of a standing packet
   nth_by : (s : List ℕ) (l : Located) → Is l → ((i : Item) → l ≡ located.Packet i → StartsIn s i) → ((i : Item) → l ≡ located.Standing i → ⊥)
       → (h.standing ≡ false) × StartsIn s h.item
   nth_by s (located.Packet i) (in_packet_lem which same) p q = (which, subst (StartsIn s) (sym same) (p i refl))
   nth_by s (located.Standing i) (in_standing_lem which same) p q = absurd (q i refl)
+  nth_by s (located.Refused _) none p q = elim none [ ]
 
 pub sought_starts : SoughtStarts
 sought_starts w s t name h e =

@@ -18,7 +18,6 @@ use Rattle.item_rules.specs.Item.{step_in}
 use Rattle.item_rules.specs.Run.{Run, next_of, run_of}
 use Rattle.item_rules.proofs.Steps.{item_fits, refused_is}
 use Rattle.item_rules.proofs.Runs.{item_begins, run-item, run_end, run-refused}
-use Rattle.walk_rules.specs.declared.Handed.TheVariants as handed
 use Rattle.walk_rules.specs.Names.{deepest}
 use Rattle.walk_rules.specs.Walk.{Tour, visit, ends, stops, unless, and_then, refusal}
 use Rattle.walk_rules.specs.Step.{end_of}

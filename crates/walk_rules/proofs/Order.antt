@@ -16,13 +16,13 @@ use Rattle.item_rules.specs.declared.Repeats.{Repeats}
 use Rattle.item_rules.specs.declared.Step.{Step}
 use Rattle.item_rules.specs.declared.Step.TheVariants as step
 use Rattle.item_rules.specs.Item.{step_in}
-use Rattle.item_rules.specs.Run.{item, next_of, run_of}
+use Rattle.item_rules.specs.Run.{next_of, run_of}
 use Rattle.walk_rules.specs.declared.Handed.{Handed}
 use Rattle.walk_rules.specs.declared.Handed.TheVariants as handed
 use Rattle.walk_rules.specs.declared.Walker.{Walker}
 use Rattle.walk_rules.specs.declared.Walked.{Walked}
 use Rattle.walk_rules.specs.Names.{deepest, names_of, names_fault}
-use Rattle.walk_rules.specs.Walk.{Tour, visit, ends, tour_at, refusal, walk_of}
+use Rattle.walk_rules.specs.Walk.{Tour, visit, tour_at, refusal, walk_of}
 use Rattle.walk_rules.specs.Step.{opens, goes_on, end_of, step_from}
 use Rattle.walk_rules.specs.Claims.{hands_out, told, due}
 use Rattle.walk_rules.proofs.StepCases.{step-item, step_end, step_up, into, behind, behind_deepest, stays, steps_on}
