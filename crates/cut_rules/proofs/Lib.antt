@@ -5,6 +5,7 @@ pub mod Sufficing
 pub mod Interleaving
 pub mod Blocks
 pub mod PlanCases
+pub mod Shares
 pub mod Bearing
 pub mod Editions
 pub mod Proved

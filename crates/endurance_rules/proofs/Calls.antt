@@ -14,6 +14,7 @@ use Rattle.cut_rules.specs.declared.Planned.TheVariants as planned
 use Rattle.cut_rules.specs.declared.Settings.{Settings}
 use Rattle.cut_rules.proofs.ChunkSizes as chunk
 use Rattle.cut_rules.proofs.PlanCases.{within}
+use Rattle.endurance_rules.specs.Claims.{NoNewRefusals}
 use Rattle.endurance_rules.specs.Endure.{stands, stands_of, flagged, endure_call, endured_number}
 use Rattle.endurance_rules.specs.declared.Endured.TheVariants.{Losses, Refused}
 use Rattle.endurance_rules.proofs.Cuts as cuts
@@ -88,3 +89,12 @@ module _ (g : Settings) (l : ℕ) where
   unendured number lost e set =
       let all = refused_by (plan_fault g l) number (figures_of g l) (stands_of g l ∷ f g l ∷ []) e in
       ap₂ (λ (a : Answer) (b : List Bool). (a, b)) all.0 (set ∙ sym (ap flagged (cuts.losing-refused g l all.1)))
+
+-- the refusals are the plan's
+pub no_new_refusals : NoNewRefusals
+unfolding endure_call plan_of
+no_new_refusals g l number =
+    let values : List ℕ = stands_of g l ∷ f g l ∷ [] in (
+      (λ e. sym (refused_by (plan_fault g l) number values (figures_of g l) (sym e)).0),
+      (λ e. sym (refused_by (plan_fault g l) number (figures_of g l) values (sym e)).0),
+    )

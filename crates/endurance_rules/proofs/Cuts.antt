@@ -1,4 +1,4 @@
--- The losses that a cut stands, at the settings: what a cut that is not refused brings to Exact.antt. Assumes nothing.
+-- The losses that a cut stands, at the settings: what a cut that is not refused brings to Stands.antt. Assumes nothing.
 use mathlib.Core.Path.{◌≡◌, refl, ap, ◌∙◌}
 use mathlib.Core.Bool.{true, false}
 use Prim.Native.Nat.{ℕ, ◌+◌, ◌*◌, ◌≤◌, ◌<◌}
@@ -19,7 +19,7 @@ use Rattle.cut_rules.proofs.PlanCases.{fitted, Within, within, L-fec}
 use Rattle.base_rules.proofs.Logic.{either}
 use Rattle.endurance_rules.specs.Claims.{is_handed_out}
 use Rattle.endurance_rules.specs.Endure.{stands, stands_of, losing, endure_call}
-use Rattle.endurance_rules.proofs.Exact as exact
+use Rattle.endurance_rules.proofs.Stands as standing
 use Rattle.endurance_rules.proofs.Flags.{flag_at, flags-lost, flags-missing}
 
 module _ (g : Settings) (l : ℕ) where
@@ -54,7 +54,7 @@ module _ (g : Settings) (l : ℕ) where
     -- with FEC or without, not all fragments can be lost
     pub below : stands_of g l < f g l
     below = either g.fec
-        (λ e. omega (arith, stands_fec e, exact.below (n l) (f g l) some much))
+        (λ e. omega (arith, stands_fec e, standing.below (n l) (f g l) some much))
         (λ e. omega (arith, stands_plain e, some))
 
     -- the losses that the plan assures leave every chunk at most 48 short, and one more than the cut stands do not
@@ -65,7 +65,7 @@ module _ (g : Settings) (l : ℕ) where
         let few : v ≤ f g l = omega (arith, below) in
         let lost = firsts-lost (n l) (f g l) v some few in
         let borne = bearing.bears g l in_bounds e (firsts v) (omega (arith, lost, more)) 0 in
-        omega (arith, borne, exact.too_many (n l) (f g l) some much v (omega (arith, stands_fec e)) few)))
+        omega (arith, borne, standing.too_many (n l) (f g l) some much v (omega (arith, stands_fec e)) few)))
         (λ e. omega (arith, assured_most g l, (fitted g in_bounds.ok).m-fec e))
 
   -- where the plan is not refused the set has one fragment more than the cut stands

@@ -1,16 +1,13 @@
--- How many losses a cut stands, exactly: over n and f alone, so that no rule of sizes comes in. Assumes nothing.
+-- How many losses a cut stands, exactly: over n and f alone, so that no rule of sizes comes in; Stands.antt has what follows from it. Assumes nothing.
 use mathlib.Core.Path.{◌≡◌, refl, ap}
 use mathlib.Core.Bool.{Bool, true, false, cond}
-use Prim.Native.Nat.{ℕ, suc, ◌+◌, ◌-◌, ◌*◌, ◌/◌, ◌%◌, ◌≤◌, ◌<◌, min}
-use native.Mathlib.Nat.{mul-div-le, lt-mul-div-succ, le-div_iff_mul-le, mul-le-mul_right, mul-le-mul_left, mod-lt, div-add-mod'}
+use Prim.Native.Nat.{ℕ, ◌+◌, ◌-◌, ◌*◌, ◌/◌, ◌%◌, ◌≤◌, ◌<◌, min}
+use native.Mathlib.Nat.{mul-div-le, lt-mul-div-succ, le-div_iff_mul-le, mul-le-mul_left, div-add-mod'}
 use native.Mathlib.Omega.{arith, by_contra}
 use borrow.Author.Tests.{ltb-true, ltb-false, lt-ltb, le-ltb}
 use lib.Dec.{ltb}
 use Rattle.base_rules.specs.Bounds.{parity}
-use Rattle.base_rules.proofs.Logic.{clash}
-use Rattle.cut_rules.specs.Missing.{losses, missing, suffice, worst, firsts}
-use Rattle.cut_rules.proofs.LossCounts.{most, firsts-lost, firsts-take, worst_more}
-use Rattle.cut_rules.proofs.Sufficing.{suffice_from, suffice_no}
+use Rattle.cut_rules.specs.Missing.{worst}
 use Rattle.endurance_rules.specs.Endure.{stands}
 
 -- ---- the figure as it is worked out: the two cases of `stands`
@@ -50,17 +47,6 @@ module _ (a b : ℕ) (much : a < 1 → parity < b) where
       let none : a + 1 ≡ 1 = omega arith in
       omega (arith, q_low, q_high, much l, ap (λ (x : ℕ). x * (q + 1)) none))
 
-  -- and all b are gone, and of the rest each takes a
-  all_thick : b ≤ q
-      → ((parity - b) / a * a + min ((parity - b) / a) b ≤ parity) × (parity < ((parity - b) / a + 1) * a + min ((parity - b) / a + 1) b)
-  all_thick h =
-      let w : ℕ = (parity - b) / a in
-      let under : (a + 1) * b ≤ parity = omega (arith, mul-le-mul_left (a + 1) h, q_low) in
-      let enough : b ≤ w = (le-div_iff_mul-le (turned h)).1 (omega (arith, under)) in
-      let low : a * w ≤ parity - b = mul-div-le (parity - b) a in
-      let high : parity - b < a * (w + 1) = lt-mul-div-succ (parity - b) (turned h) in
-      (omega (arith, low, under), omega (arith, high))
-
 module _ (n f : ℕ) (some : 0 < f) (much : parity < n) where
   no_turn : n / f < 1 → parity < n % f
   no_turn l =
@@ -72,6 +58,17 @@ module _ (n f : ℕ) (some : 0 < f) (much : parity < n) where
   unfolding worst stands q
   exact = go (ltb (parity / (n / f + 1)) (n % f)) refl
     where
+      -- where there is a whole turn, all b are gone, and of the rest each takes a
+      all_thick : (a b : ℕ) → (a < 1 → parity < b) → b ≤ parity / (a + 1)
+          → ((parity - b) / a * a + min ((parity - b) / a) b ≤ parity) × (parity < ((parity - b) / a + 1) * a + min ((parity - b) / a + 1) b)
+      all_thick a b much h =
+          let w : ℕ = (parity - b) / a in
+          let under : (a + 1) * b ≤ parity = omega (arith, mul-le-mul_left (a + 1) h, q_low a b much) in
+          let enough : b ≤ w = (le-div_iff_mul-le (turned a b much h)).1 (omega (arith, under)) in
+          let low : a * w ≤ parity - b = mul-div-le (parity - b) a in
+          let high : parity - b < a * (w + 1) = lt-mul-div-succ (parity - b) (turned a b much h) in
+          (omega (arith, low, under), omega (arith, high))
+
       go : (t : Bool) → ltb (parity / (n / f + 1)) (n % f) ≡ t
           → (worst n f (cond t (parity / (n / f + 1)) ((parity - n % f) / (n / f))) ≤ parity)
           × (parity < worst n f (cond t (parity / (n / f + 1)) ((parity - n % f) / (n / f)) + 1))
@@ -82,31 +79,3 @@ module _ (n f : ℕ) (some : 0 < f) (much : parity < n) where
   pub whole : n % f ≤ parity / (n / f + 1) → 0 < n / f
   unfolding q
   whole h = turned (n / f) (n % f) no_turn h
-
-  -- not all fragments can be lost
-  pub below : stands n f < f
-  unfolding worst
-  below = by_contra (suc (stands n f)) f (λ (l : f < suc (stands n f)).
-      let all : f * (n / f) ≤ stands n f * (n / f) = mul-le-mul_right (n / f) (omega arith) in
-      omega (arith, all, exact.0, div-add-mod' n f, mod-lt n some))
-
-  -- any so many lost leave every chunk at most 48 short, of any number of chunks
-  pub endures : (lost : ℕ → Bool) → losses lost f ≤ stands n f → (c : ℕ) → suffice lost f n c ≡ true
-  unfolding missing
-  endures lost few c =
-      suffice_from lost f n c (λ j h.
-      omega (arith, most lost f some (j * n) n, worst_more n f (losses lost f) (stands n f) few, exact.0))
-
-  -- the first v of more than so many take more than 48 bytes of the first chunk,
-  pub too_many : (v : ℕ) → stands n f < v → v ≤ f → parity < missing (firsts v) f n 0
-  too_many v more few = omega (arith, firsts-take n f v some few, exact.1, worst_more n f (stands n f + 1) v (omega arith))
-
-  -- and so leave too little, of one chunk or more
-  pub endures_not : (v c : ℕ) → stands n f < v → v ≤ f → 0 < c → suffice (firsts v) f n c ≡ false
-  endures_not v c more few chunks = suffice_no (firsts v) f n c 0 chunks (too_many v more few)
-
-  -- so it is the greatest
-  pub greatest : (v c : ℕ) → v ≤ f → 0 < c → ((lost : ℕ → Bool) → losses lost f ≡ v → suffice lost f n c ≡ true) → v ≤ stands n f
-  greatest v c few chunks all =
-      by_contra v (stands n f) (λ (l : stands n f < v).
-      clash (all (firsts v) (firsts-lost n f v some few)) (endures_not v c l few chunks))

@@ -1,4 +1,5 @@
 pub mod Exact
+pub mod Stands
 pub mod Flags
 pub mod Cuts
 pub mod Calls

@@ -1,7 +1,7 @@
 -- The claims of specs/Claims.antt, each by citation. Assumes nothing.
 use mathlib.Core.Path.{◌≡◌, refl, sym, ap, ap₂, ◌∙◌}
 use mathlib.Core.Bool.{Bool}
-use mathlib.Core.List.{List, [], ◌∷◌}
+use mathlib.Core.List.{List}
 use Prim.Native.Nat.{ℕ, zero, suc, ◌+◌}
 use native.Mathlib.Omega.{arith}
 use borrow.Author.Tests.{le-ltb, ne_eqb}
@@ -9,18 +9,18 @@ use lib.Dec.{eqb, ltb}
 use Rattle.base_rules.specs.Answer.{Answer}
 use Rattle.base_rules.specs.Round.{ceil}
 use Rattle.cut_rules.specs.Missing.{losses, firsts}
-use Rattle.cut_rules.specs.Plan.{plan_fault, plan_of, figures_of}
 use Rattle.cut_rules.specs.Sizes as size
 use Rattle.cut_rules.proofs.PlanCases.{within}
 use Rattle.cut_rules.proofs.Sufficing.{suffice_no}
 use Rattle.endurance_rules.specs.Claims.{is_handed_out, Endures, EnduresNot, Greatest, Below, AssuredWithin, StandsIs, NoFec}
 use Rattle.endurance_rules.specs.Claims.{FirstOnes, NoneRefused, NoNewRefusals, OneEndured, examples, Worked}
-use Rattle.endurance_rules.specs.Endure.{stands, stands_of, endure_call, endured_number}
+use Rattle.endurance_rules.specs.Endure.{stands, stands_of, endured_number}
 use Rattle.endurance_rules.specs.declared.Endured.{Endured}
 use Rattle.endurance_rules.specs.declared.Endured.TheVariants.{Losses, Refused}
-use Rattle.endurance_rules.proofs.Calls.{refused_by}
+use Rattle.endurance_rules.proofs.Calls as calls
 use Rattle.endurance_rules.proofs.Cuts as cuts
 use Rattle.endurance_rules.proofs.Exact as exact
+use Rattle.endurance_rules.proofs.Stands as standing
 
 -- ---- the figure
 
@@ -28,14 +28,14 @@ use Rattle.endurance_rules.proofs.Exact as exact
 pub endures : Endures
 endures g l taken fec lost few =
     let in_bounds = within g l taken in
-    exact.endures (size.n l) (size.f g l) (cuts.some g l in_bounds) (cuts.much g l in_bounds) lost (omega (arith, few, cuts.stands_fec g l fec))
+    standing.endures (size.n l) (size.f g l) (cuts.some g l in_bounds) (cuts.much g l in_bounds) lost (omega (arith, few, cuts.stands_fec g l fec))
     (size.received_c (size.f g l) (size.s g l) (size.k l))
 
 -- no greater number of losses does
 pub greatest : Greatest
 greatest g l taken fec v few all =
     let in_bounds = within g l taken in
-    let most = exact.greatest (size.n l) (size.f g l) (cuts.some g l in_bounds) (cuts.much g l in_bounds) v
+    let most = standing.greatest (size.n l) (size.f g l) (cuts.some g l in_bounds) (cuts.much g l in_bounds) v
     (size.received_c (size.f g l) (size.s g l) (size.k l)) few (cuts.chunks_some g l in_bounds fec) all in
     omega (arith, most, cuts.stands_fec g l fec)
 
@@ -58,7 +58,7 @@ pub endures_not : EnduresNot
 endures_not g l taken fec =
     let in_bounds = within g l taken in
     let few = cuts.below g l in_bounds in
-    let more = exact.too_many (size.n l) (size.f g l) (cuts.some g l in_bounds) (cuts.much g l in_bounds) (stands_of g l + 1)
+    let more = standing.too_many (size.n l) (size.f g l) (cuts.some g l in_bounds) (cuts.much g l in_bounds) (stands_of g l + 1)
     (omega (arith, cuts.stands_fec g l fec)) (omega (arith, few)) in
     record {
       one_more = cuts.handed-lost g l taken;
@@ -95,12 +95,7 @@ no_fec g l taken plain =
 
 -- the refusals are the plan's
 pub no_new_refusals : NoNewRefusals
-unfolding endure_call plan_of
-no_new_refusals g l number =
-    let values : List ℕ = stands_of g l ∷ size.f g l ∷ [] in (
-      (λ e. sym (refused_by (plan_fault g l) number values (figures_of g l) (sym e)).0),
-      (λ e. sym (refused_by (plan_fault g l) number (figures_of g l) values (sym e)).0),
-    )
+no_new_refusals = calls.no_new_refusals
 
 one_answer : (a b : Endured) → endured_number a ≡ endured_number b → a ≡ b
 unfolding endured_number

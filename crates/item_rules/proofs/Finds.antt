@@ -10,7 +10,7 @@ use Rattle.item_rules.specs.declared.Found.TheVariants as found
 use Rattle.item_rules.specs.Run.{Run, next_of, run_of, first_of, named_in, nth_of}
 use Rattle.item_rules.proofs.Steps.{zero_one}
 use Rattle.item_rules.proofs.Runs.{Stands, every-run}
-use Rattle.item_rules.proofs.Occurrences.{first_is_nth}
+use Rattle.item_rules.proofs.FirstOccurrence.{first_is_nth}
 
 module _ (s : List ℕ) (name end : ℕ) where
   -- every occurrence in a run is an item of the packet

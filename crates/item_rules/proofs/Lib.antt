@@ -4,6 +4,7 @@ pub mod Runs
 pub mod Starts
 pub mod Faults
 pub mod Seen
+pub mod FirstOccurrence
 pub mod Occurrences
 pub mod Finds
 pub mod Repeated

@@ -13,21 +13,9 @@ use Rattle.item_rules.specs.declared.Step.TheVariants as step
 use Rattle.item_rules.specs.declared.Found.TheVariants as found
 use Rattle.item_rules.specs.Item.{step_in}
 use Rattle.item_rules.specs.Run.{Run, item, padding, refused, next_of, run_of, first_of, has_name, named_in, nth_of}
-use Rattle.item_rules.specs.Claims.{FirstIsNth}
 use Rattle.item_rules.proofs.Steps.{zero_one}
+use Rattle.item_rules.proofs.FirstOccurrence.{first_is_nth}
 use Rattle.item_rules.proofs.Runs.{falls, every-run}
-
--- the first item of a name is occurrence 0
-pub first_is_nth : FirstIsNth
-unfolding first_of nth_of named_in
-first_is_nth name (item i r) = go (eqb i.name name) (first_is_nth name r)
-  where
-    go : (b : Bool) → first_of name r ≡ nth_of name 0 r
-        → cond b (found.At i) (first_of name r) ≡ get_or (map found.At (cond b (i ∷ named_in name r) (named_in name r))) 0 found.Nothing
-    go true behind = refl
-    go false behind = behind
-first_is_nth name (padding n) = refl
-first_is_nth name (refused n) = refl
 
 -- ---- one of a list, or nothing
 

@@ -8,7 +8,7 @@ use Rattle.item_rules.specs.Item.{values_of, number_of}
 use Rattle.item_rules.specs.Run.{found_number}
 use Rattle.item_rules.specs.Claims.{OneStep, OneFound, FirstIsNth, AsItWas, Twice, NeverTwice}
 use Rattle.item_rules.specs.Claims.{StartsAt, RawItem, UnusedIs}
-use Rattle.item_rules.proofs.Occurrences as occurrences
+use Rattle.item_rules.proofs.FirstOccurrence as first_occurrence
 use Rattle.item_rules.proofs.Repeated as repeated
 use Rattle.item_rules.proofs.Starts as starts
 
@@ -55,7 +55,7 @@ one_found found.Nothing found.Nothing e = refl
 
 -- the first of a name is its occurrence 0
 pub first_is_nth : FirstIsNth
-first_is_nth = occurrences.first_is_nth
+first_is_nth = first_occurrence.first_is_nth
 
 -- where repeats are forbidden the leftmost item at fault is the one that it was,
 pub as_it_was : AsItWas

@@ -14,7 +14,8 @@ use Rattle.item_rules.specs.declared.Found.{Found}
 use Rattle.item_rules.specs.declared.Found.TheVariants as found
 use Rattle.item_rules.specs.Run.{refused, first_of, named_in, nth_of}
 use Rattle.item_rules.proofs.Steps.{zero_one}
-use Rattle.item_rules.proofs.Occurrences.{first_is_nth, listed, unlisted, none_named}
+use Rattle.item_rules.proofs.FirstOccurrence.{first_is_nth}
+use Rattle.item_rules.proofs.Occurrences.{listed, unlisted, none_named}
 use Rattle.item_rules.proofs.Repeated.{faults_still, faults_never}
 use Rattle.tag_rules.specs.declared.Located.{Located}
 use Rattle.tag_rules.specs.declared.Located.TheVariants as located
