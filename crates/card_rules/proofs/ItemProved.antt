@@ -1,12 +1,12 @@
 -- The claims of specs/Claims.antt on what is told of items. Assumes nothing.
 use mathlib.Core.Path.{◌≡◌, refl, sym, ap, subst, ◌∙◌}
 use mathlib.Core.Bool.{false, not}
-use mathlib.Core.List.{List, [], ◌∷◌, ◌++◌}
+use mathlib.Core.List.{List, ◌∷◌}
 use Prim.Native.Nat.{ℕ, ◌+◌, ◌^◌, ◌<◌, ◌≤◌, min}
 use native.Mathlib.Omega.{arith}
 use borrow.Author.Tests.{ltb-false}
 use lib.Dec.{eqb, lit<}
-use lib.ListN.{length, get_or, take, replicate}
+use lib.ListN.{length, get_or}
 use Rattle.base_rules.specs.Answer.{Answer, granted, refused, answered}
 use Rattle.base_rules.specs.Bytes.{Bytes, splice, bytes_of}
 use Rattle.base_rules.proofs.Ceil as ceils
@@ -32,9 +32,10 @@ use Rattle.walk_rules.specs.Names.{deepest, names_of}
 use Rattle.walk_rules.specs.Step.{handed_number, end_of, step_from, walk_call}
 use Rattle.walk_rules.proofs.StepLaws.{by_steps, by_walker, end_within}
 use Rattle.walk_rules.proofs.StepNumbers.{walk_number}
-use Rattle.card_rules.specs.Told.{refusal_in, in_widths, told_length, too_short, room_for, told_of, CardTold}
+use Rattle.card_rules.specs.Told.{refusal_in, in_widths, too_short, room_for, told_of, CardTold}
 use Rattle.card_rules.specs.Items.{found_widths, walker_bytes, walker_from, stepped_number, step_widths, stepped, step_room, walk_step_call}
 use Rattle.card_rules.specs.Claims.{ItemRead, LocatedRead, FoundWhole, NthWhole, HandedRead, StepWhole}
+use Rattle.card_rules.proofs.EndRead.{end_read}
 use Rattle.card_rules.proofs.TellLaws.{fits_room, had_room, told_room}
 
 -- ---- an item that starts in a packet
@@ -161,12 +162,6 @@ module _ (before : List ℕ) (v : Visit) where
           unused = back_at 1 i.unused.0 30 step_told _ refl w.unused;
         },
       )
-
--- zeros, and the padding among them
-end_read : (before : List ℕ) (p : ℕ) → take (told_length step_widths) (splice before 0 (in_widths step_widths (0 ∷ 0 ∷ 0 ∷ 0 ∷ 0 ∷ p ∷ 0 ∷ 0 ∷ [])))
-    ≡ replicate 18 0 ++ (bytes_of 4 p ++ replicate 9 0)
-unfolding splice in_widths bytes_of told_length
-end_read before p = refl
 
 handed_read : (h : Handed) (before after : List ℕ) (fault : ℕ) (values : List ℕ) → handed_number h ≡ answered fault values → HandedWhole h
     → CardTold step_widths (stepped_number h) before after 0 → HandedRead after h

@@ -13,6 +13,7 @@ pub mod SendProved
 pub mod ReceiveProved
 pub mod FillProved
 pub mod WalkProved
+pub mod EndRead
 pub mod ItemProved
 pub mod HeaderProved
 pub mod Proved

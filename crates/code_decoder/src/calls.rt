@@ -24,6 +24,7 @@ fn bad_pair(k: usize, mask: usize, chunk: usize) -> bool
 
 // Fills in the missing bytes of a chunk of k data bytes and 48 parity bytes: those whose byte of the mask is not 0. Where no chunk of
 // the code has the other bytes, the missing ones are 0 after it; 8 where the sizes cannot be.
+#[tactic(auto, using(code_rules::proofs::CallCases::chunk_short))]
 pub fn fill_chunk(k: usize, mask: &[u8], chunk: &mut [u8]) -> Filled
     ensures { ChunkFilled k mask.now chunk.old chunk.new result }
 {

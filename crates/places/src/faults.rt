@@ -1,7 +1,7 @@
 // What a record is refused for, and a fragment by the place that holds its number.
 ghost use Rattle.std.specs.Prelude.{◌≡◌, false, get_or};
 ghost use Rattle.places_rules.specs.Places.{place_at};
-ghost use Rattle.places_rules.specs.Faults.{bad_figures, bad_code, bad_place, bad_table, bad_size_in, mismatch as mismatchOf, place_fault};
+ghost use Rattle.places_rules.specs.Faults.{bad_figures, bad_code, bad_place, bad_table, bad_size_in, mismatch as mismatch_of, place_fault};
 
 use crate::record::{is_last, place_at};
 use crate::{DELIVERED, FOUR, Place, SPOILED, Table};
@@ -106,7 +106,7 @@ fn bad_size_in(p: Place, h: Header) -> bool
 
 // Whether a fragment is of another cut than the place's.
 fn mismatch(p: Place, h: Header) -> bool
-    ensures { result ≡ mismatchOf p h }
+    ensures { result ≡ mismatch_of p h }
 {
     if p.count != h.count {
         return true;

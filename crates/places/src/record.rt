@@ -1,7 +1,7 @@
 // The record, read and changed.
 ghost use Rattle.std.specs.Prelude.{◌≡◌, true, cond, eqb, set};
 ghost use Rattle.places_rules.specs.Places.{free, free_place, fresh_table, place_at, with_place, key_of, holds, held_at, open_at, displaced_at};
-ghost use Rattle.places_rules.specs.Places.{turned as turnedOf, opened_by, is_last, offset_of, kept_in, in_condition};
+ghost use Rattle.places_rules.specs.Places.{turned as turned_of, opened_by, is_last, offset_of, kept_in, in_condition};
 
 use crate::{Displaced, FOUR, FREE, OPEN, Place, Table};
 use base::{MOST_F, PLACE};
@@ -126,7 +126,7 @@ pub fn displaced_at(t: Table, i: usize) -> Displaced
 
 // The table when place i is opened: where it was not free, the next one is displaced next.
 pub fn turned(t: Table, i: usize) -> Table
-    ensures { result ≡ turnedOf t i }
+    ensures { result ≡ turned_of t i }
 {
     let places = t.places;
     if is_free(t, i) {

@@ -1,3 +1,2 @@
--- What the proofs of several functions use.
-pub mod Held
+-- What specs/ claims, proved.
 pub mod Proved

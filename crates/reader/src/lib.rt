@@ -1,5 +1,5 @@
-// A reader over one TAG packet, as a struct. The borrow checker covers no function over a struct that holds a slice, so each of these is thin: the
-// work is done by calls on the slice and the numbers, and `first`, `step_at` and `place_after` are for callers that hold no such struct.
+// A reader over one TAG packet, as a struct. Each of these is thin: the work is done by calls on the slice and the numbers, and `first`, `step_at` and
+// `place_after` are for callers that hold no such struct.
 #![tactic(auto)]
 
 ghost use Rattle.std.specs.Prelude.{◌≡◌};

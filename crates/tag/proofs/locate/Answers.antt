@@ -9,14 +9,12 @@ returns-then-n-ne0 c = locate_told _ _ _ _ _ (refused-first _ _ _ _ _ c.check-n.
 
 pub returns-then-m-ne0 : goal.returns-then-m-ne0
 returns-then-m-ne0 c =
-    let k = c in
-    locate_told _ _ _ _ _ (refused_second _ _ _ _ _ _ k.check-n.ensures k.if-n-ne0.false k.check-m.ensures c.if-m-ne0.true)
+    locate_told _ _ _ _ _ (refused_second _ _ _ _ _ _ c.check-n.ensures c.if-n-ne0.false c.check-m.ensures c.if-m-ne0.true)
 
 pub returns-in-At : goal.returns-in-At
 returns-in-At c =
-    let k = c in
-    locate_told _ _ _ _ _ (sym (is_located _ _ _ _ _ _ _ _ k.check-n.ensures k.if-n-ne0.false
-    k.check-m.ensures k.if-m-ne0.false
+    locate_told _ _ _ _ _ (sym (is_located _ _ _ _ _ _ _ _ c.check-n.ensures c.if-n-ne0.false
+    c.check-m.ensures c.if-m-ne0.false
     (sym c.first_in-f.ensures.0 ∙ c.in-At.is) refl))
 
 pub returns-in-At-g : goal.returns-in-At-g
@@ -31,8 +29,7 @@ returns-in-At-g c =
 
 pub returns-in-Nothing-g : goal.returns-in-Nothing-g
 returns-in-Nothing-g c =
-    let k = c in
-    locate_told _ _ _ _ _ (sym (is_located _ _ _ _ _ _ _ _ k.check-n.ensures k.if-n-ne0.false
-    k.check-m.ensures k.if-m-ne0.false
+    locate_told _ _ _ _ _ (sym (is_located _ _ _ _ _ _ _ _ c.check-n.ensures c.if-n-ne0.false
+    c.check-m.ensures c.if-m-ne0.false
     (sym c.first_in-f.ensures.0 ∙ c.in-Nothing.is)
     (sym c.first_in-g.ensures.0 ∙ c.in-Nothing-g.is)))

@@ -9,8 +9,7 @@ overflow_add-result c = omega (arith, handed_fits _ _ _ _ (sym c.read_at-step.en
 
 pub returns-in-Item : goal.returns-in-Item
 returns-in-Item c =
-    let k = c in
-    after_is _ _ _ _ (sym k.read_at-step.ensures.0 ∙ k.in-Item.is)
+    after_is _ _ _ _ (sym c.read_at-step.ensures.0 ∙ c.in-Item.is)
 
 pub returns-in-End : goal.returns-in-End
 returns-in-End c = after_is _ _ _ _ (sym c.read_at-step.ensures.0 ∙ c.in-End.is)

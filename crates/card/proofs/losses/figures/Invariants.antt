@@ -1,0 +1,14 @@
+-- `figures` meets its contract: behind the losses and f the first i flags stand as numbers after i turns. Assumes nothing.
+use mathlib.Core.Path.{◌≡◌, refl, ◌∙◌}
+use Prim.Native.Nat.{◌+◌, ◌-◌, ◌≤◌}
+use native.Mathlib.Omega.{arith}
+use lib.ListN.{length, length-set, replicate}
+use Rattle.base_rules.specs.Bounds.{most_f}
+use Rattle.card_rules.proofs.EndureLaws.{Laid, laid_two, laid_flag, laid_all}
+use Rattle.card.proofs.losses.figures.Given as goal
+
+abbrev pub invariant-loop-i : goal.invariant-loop-i
+invariant-loop-i l = (l.i ≤ most_f) × (length l.told ≡ most_f + 2) × Laid l.most l.f l.lost l.told (2 + l.i)
+
+abbrev pub decreases-loop-i : goal.decreases-loop-i
+decreases-loop-i l = most_f - l.i

@@ -1,0 +1,35 @@
+-- `tell_endurance` meets its contract: a refusal tells nothing. Assumes nothing.
+use mathlib.Core.Path.{◌≡◌, ap}
+use native.Mathlib.Omega.{arith}
+use lib.ListN.{length, length-map}
+use Rattle.base_rules.specs.Bounds.{most_f}
+use Rattle.base_rules.specs.Tests.{bit}
+use Rattle.places_rules.proofs.Records.{as_long}
+use Rattle.card_rules.specs.Told.{told_length}
+use Rattle.card_rules.proofs.EndureLaws.{told_losses, told_nothing}
+use Rattle.card.proofs.losses.tell_endurance.Goals as goal
+
+pub tell-requires : goal.tell-requires
+unfolding told_length
+tell-requires c =
+    let wide = c in
+    let start = wide in
+    let lost = start.args.e.lost in
+    let long : length lost ≡ most_f = omega arith in (
+      omega (arith, ap length c.figures.ensures, ap length wide.widths.ensures, long, length-map lost bit),
+      ap told_length wide.widths.ensures,
+    )
+
+pub returns-in-Losses : goal.returns-in-Losses
+returns-in-Losses c =
+    let said = c in
+    let laid = said in
+    let wide = laid in
+    let known = wide in
+    let start = known in
+    told_losses start.args.e start.args.told.now known.in-Losses.is wide.widths.ensures laid.figures.ensures said.tell.ensures
+
+pub returns-in-Refused : goal.returns-in-Refused
+returns-in-Refused c =
+    let start = c in
+    told_nothing start.args.e start.args.told.now c.in-Refused.is
