@@ -1,9 +1,7 @@
 -- The claim of specs/Claims.antt on a filling, by R4 of `code_rules`. Assumes nothing.
 use mathlib.Core.Path.{◌≡◌, sym, ap, ◌∙◌}
-use mathlib.Core.List.{List}
-use Prim.Native.Nat.{ℕ}
 use Rattle.code_rules.proofs.Proved.{r4}
-use Rattle.card_rules.specs.Blocks.{kept_of, filled_number, CardFilled}
+use Rattle.card_rules.specs.Blocks.{kept_of, filled_number}
 use Rattle.card_rules.specs.Claims.{OneFilling}
 
 -- no second answer fits a filling's promise: the block after it and its number are determined

@@ -29,7 +29,7 @@ use Rattle.walk_rules.specs.declared.Handed.TheVariants as handed
 use Rattle.walk_rules.specs.declared.Walked.{Walked}
 use Rattle.walk_rules.specs.declared.Walker.{Walker}
 use Rattle.walk_rules.specs.Names.{deepest, names_of}
-use Rattle.walk_rules.specs.Step.{handed_number, end_of, step_from, walk_step, walk_call}
+use Rattle.walk_rules.specs.Step.{handed_number, end_of, step_from, walk_call}
 use Rattle.walk_rules.proofs.StepLaws.{by_steps, by_walker, end_within}
 use Rattle.walk_rules.proofs.StepNumbers.{walk_number}
 use Rattle.card_rules.specs.Told.{refusal_in, in_widths, told_length, too_short, room_for, told_of, CardTold}

@@ -67,7 +67,7 @@ typed_place l us s i b =
       rsz = omega (arith, fields.1.1.1.1.1.0);
       size = omega (arith, fields.1.1.1.1.1.1.0);
       last = omega (arith, fields.1.1.1.1.1.1.1.0);
-      kept = as_long p.kept _ fields.1.1.1.1.1.1.1.1.0.1.0.1;
+      kept = fields.1.1.1.1.1.1.1.1.0.1.0.1;
     })
     l
     us

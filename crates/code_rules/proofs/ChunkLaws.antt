@@ -1,6 +1,6 @@
 -- A chunk tried with the tables that its class shares: what the kernels compute by them is the guess of the missing bytes, and its test.
 -- Assumes nothing.
-use mathlib.Core.Path.{◌≡◌, ap, ◌∙◌}
+use mathlib.Core.Path.{◌≡◌, ◌∙◌}
 use mathlib.Core.Bool.{Bool}
 use mathlib.Core.List.{List}
 use Prim.Native.Nat.{ℕ, ◌+◌}

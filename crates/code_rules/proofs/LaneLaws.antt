@@ -7,7 +7,7 @@ use native.Mathlib.Numerals.{add-one}
 use native.Mathlib.Decide.{ℕ_discrete}
 use native.Mathlib.Omega.{arith}
 use lib.ListN.{length, take, drop, get_or, set, replicate, length-append, length-replicate, length-drop, length-set, get_or-replicate}
-use lib.Seq.{ext_get_or, get_or-set_same, get_or-set_other, take_all, length-take-le}
+use lib.Seq.{ext_get_or, get_or-set_same, get_or-set_other, length-take-le}
 use Rattle.field_rules.specs.Field.{◌⊕◌, ◌⊗◌, times2, alpha}
 use Rattle.field_rules.proofs.Sums.{add_0_l, add_0_r, add_self, add_swap}
 use Rattle.field_rules.proofs.Products.{mul_0_l, mul_comm}

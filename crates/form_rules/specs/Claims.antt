@@ -1,5 +1,5 @@
 -- What is claimed of forming (document 01, "The four places"): the proofs are in proofs/Proved.antt.
-use Rattle.std.specs.Prelude.{◌≡◌, true, false, List, ℕ, ◌≤◌}
+use Rattle.std.specs.Prelude.{◌≡◌, true, List, ℕ, ◌≤◌}
 use Rattle.base_rules.specs.Bounds.{most_k}
 use Rattle.places_rules.specs.declared.Place.{Place}
 use Rattle.form_rules.specs.Agree.{enough_in, Agrees}

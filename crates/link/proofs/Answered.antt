@@ -100,10 +100,10 @@ names_one p q =
     sym a.2 ∙ ap named_by (one_received a.0 b.0 (a.1 ∙ sym b.1)) ∙ b.2
 
 -- a refusal names none
-names_not-refused : (n : ℕ) {d : Displaced} {x : ℕ × List ℕ} → Names d x → x ≡ number_of (Refused n) → ⊥
-names_not-refused n {d} by_kept e = let z : Kept d ≡ Refused n = one_received _ _ e in let y : ◌≡◌ {A = ℕ} 0 1 = cc in omega arith
-names_not-refused n {d} (by_delivered l m) e = let z : Delivered l m d ≡ Refused n = one_received _ _ e in let y : ◌≡◌ {A = ℕ} 0 1 = cc in omega arith
-names_not-refused n {d} by_damaged e = let z : Damaged d ≡ Refused n = one_received _ _ e in let y : ◌≡◌ {A = ℕ} 0 1 = cc in omega arith
+names_not_refused : (n : ℕ) {d : Displaced} {x : ℕ × List ℕ} → Names d x → x ≡ number_of (Refused n) → ⊥
+names_not_refused n {d} by_kept e = let z : Kept d ≡ Refused n = one_received _ _ e in let y : ◌≡◌ {A = ℕ} 0 1 = cc in omega arith
+names_not_refused n {d} (by_delivered l m) e = let z : Delivered l m d ≡ Refused n = one_received _ _ e in let y : ◌≡◌ {A = ℕ} 0 1 = cc in omega arith
+names_not_refused n {d} by_damaged e = let z : Damaged d ≡ Refused n = one_received _ _ e in let y : ◌≡◌ {A = ℕ} 0 1 = cc in omega arith
 
 -- ---- one call
 
@@ -135,7 +135,7 @@ module _ {lent : List ℕ} (all : length lent ≡ all_places) {ls : List Line} {
   module _ {d : Displaced} (names : Names d e.left.answer) where
     not-refused : (n : ℕ) → e.left ≡ reception (Refused n) s.table s.bytes e.lent → ⊥
     unfolding reception
-    not-refused n q = names_not-refused n names (ap (λ (y : Reception). y.answer) q)
+    not-refused n q = names_not_refused n names (ap (λ (y : Reception). y.answer) q)
 
     -- where the number is held, or a place is free, none is
     names_none : (four ≤ held_at s.table (number_in e) → displaced_at s.table (open_at s.table) ≡ None) → Names None e.left.answer

@@ -145,7 +145,7 @@ begins n none t = tt
 begins n (one_more {l = l} k none) t =
     let h : hears l.0 ≡ true = and_left (hears l.0) _ t in
     (heard_is k ∙ h, number_is k h ∙ eqb-true _ n (and_right (hears l.0) _ t) ∙ sym (its_key n))
-begins n (one_more k (one_more j b)) t = begins n (one_more j b) t
+begins n (one_more k (one_more {l = l} j b)) t = begins n (one_more {l = l} j b) t
 
 -- before it is enough, what is heard has the number n or one of the others
 abbrev allowed : ℕ → List ℕ → Arrival → List Line → Bool

@@ -223,8 +223,8 @@ hands_out_lem r =
     }
 
 -- there are such runs, and in each of them the packet is handed out once
-pub handed-out_once : ThreeOthers
-handed-out_once = record { some = playable (opening ++ three_others) tests.three.can_come; every = hands_out_lem }
+pub handed_out_once : ThreeOthers
+handed_out_once = record { some = playable (opening ++ three_others) tests.three.can_come; every = hands_out_lem }
 
 -- ---- a fourth displaces it
 

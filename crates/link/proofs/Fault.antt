@@ -15,7 +15,6 @@ use Rattle.places_rules.proofs.Checks as checks
 use Rattle.sender_rules.specs.Calls.{packet_fault}
 use Rattle.sender_rules.specs.Fragments.{payload_for, header_for}
 use Rattle.sender_rules.proofs.FragmentLengths.{size-fec, size_most}
-use Rattle.link.specs.Demand.{count}
 use Rattle.link.proofs.Basic.{same_or_not}
 use Rattle.link.proofs.Enough.{size_of}
 use Rattle.link.proofs.Own.{is_last_of, Mine, SizeKnown, full_size}

@@ -19,7 +19,6 @@ use Rattle.places_rules.specs.declared.Displaced.TheVariants.{None}
 use Rattle.places_rules.specs.Places.{four, place_at, key_in, key_of, holds, held_at, open_at, turned, opened_by}
 use Rattle.places_rules.specs.Places.{kept_in}
 use Rattle.places_rules.specs.Faults.{place_fault}
-use Rattle.places_rules.proofs.Checks as checks
 use Rattle.places_rules.proofs.Ranges.{InRange, Belongs, range_from, belongs, belongs_opened, range_kept, range_opened}
 use Rattle.places_rules.proofs.Keys.{key_opened}
 use Rattle.receiver_rules.specs.Promise.{Reception, reception, State, payload_of, keep_at, SettledAfter}

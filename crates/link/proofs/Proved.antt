@@ -6,7 +6,7 @@ use Rattle.link.specs.Reached.{StaysInRange, GoesRound, HeldOnce, PartsApart, Op
 use Rattle.link.specs.Useless.{SomeKeep, Falls, SomeUseless}
 use Rattle.link.specs.Examples.{ThreeOthers, FourOthers}
 use Rattle.link.proofs.Alarm as alarm
-use Rattle.link.proofs.Examples.{handed-out_once, displaced-last}
+use Rattle.link.proofs.Examples.{handed_out_once, displaced-last}
 use Rattle.link.proofs.Heard as heard
 use Rattle.link.proofs.Holdings as holdings
 use Rattle.link.proofs.Link as link
@@ -101,7 +101,7 @@ pub some_run : SomeRun
 some_run = runs.some_run
 
 pub three_others : ThreeOthers
-three_others = handed-out_once
+three_others = handed_out_once
 
 pub four_others : FourOthers
 four_others = displaced-last

@@ -95,14 +95,14 @@ granted-or-refused : {y : Outcome} (values left : List ℕ) (x : ℕ) (left' : L
     → y ≡ outcome (refused x) left' → ⊥
 granted-or-refused values left x left' p q = let z : ◌≡◌ {A = ℕ} 0 1 = cc in omega arith
 
-pub refuses_every-packet : (S : Sender) → Sends S → RefusesEveryPacket S → ⊥
-refuses_every-packet S sends bad =
+pub refuses_every_packet : (S : Sender) → Sends S → RefusesEveryPacket S → ⊥
+refuses_every_packet S sends bad =
     let refused = bad.refuses (plain_at 1400) 0 (packet_with 1) 0 room (takes_one 1 (lit< tt)) in
     let good = leaves_one 1 (lit< tt) S sends in
     granted-or-refused good.0 _ refused.0 refused.1 good.1 refused.2
 
-pub refuses_every-packet_whole : (S : WholeSender) → SendsAll S → RefusesEveryPacket (any_index S) → ⊥
-refuses_every-packet_whole S sends bad =
+pub refuses_every_packet_whole : (S : WholeSender) → SendsAll S → RefusesEveryPacket (any_index S) → ⊥
+refuses_every_packet_whole S sends bad =
     let refused = bad.refuses (plain_at 1400) 0 (packet_with 1) 0 room (takes_one 1 (lit< tt)) in
     let good = leaves_all 1 (lit< tt) S sends in
     granted-or-refused good.0 _ refused.0 refused.1 good.1 refused.2

@@ -22,7 +22,7 @@ use Rattle.receiver_rules.specs.declared.Received.TheVariants.{Refused}
 use Rattle.receiver_rules.specs.Promise.{Reception, reception, State, keep_at, Settled, waits, delivers, damaged}
 use Rattle.sender_rules.specs.Fragments.{payload_for}
 use Rattle.link.specs.Run.{Call, after, Made, Holds, number_in, come}
-use Rattle.link.specs.Demand.{Takes, count, key_for, enough_after, Names, by_kept, by_delivered, by_damaged}
+use Rattle.link.specs.Demand.{Takes, key_for, enough_after, Names, by_kept, by_delivered, by_damaged}
 use Rattle.link.specs.Steps.{DisplacedBy}
 use Rattle.link.proofs.Basic.{same_or_not, held_found, held_absent, held_none, held_only, holds_yes, holds_number, holds_other}
 use Rattle.link.proofs.View.{Good, View, unheard, refuses, keeps, opens}

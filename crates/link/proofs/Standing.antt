@@ -20,7 +20,6 @@ use Rattle.places_rules.specs.declared.Table.{Table}
 use Rattle.places_rules.specs.declared.Displaced.{Displaced}
 use Rattle.places_rules.specs.Places.{four, free, spoiled, place_at, key_of, key_in, holds, is_last, offset_of}
 use Rattle.places_rules.specs.Places.{kept_in, in_condition}
-use Rattle.places_rules.proofs.Checks as checks
 use Rattle.places_rules.proofs.Ranges.{InRange}
 use Rattle.places_rules.proofs.Records.{offset_last, offset_other}
 use Rattle.places_rules.proofs.Keys.{key-kept, key-closed}

@@ -7,17 +7,15 @@ use Prim.Native.Nat.{ℕ, ◌<◌}
 use native.Mathlib.Omega.{arith}
 use lib.ListN.{length}
 use Rattle.base_rules.proofs.Logic.{either, clash}
-use Rattle.base_rules.specs.Bytes.{splice}
 use Rattle.cut_rules.specs.declared.Settings.{Settings}
-use Rattle.cut_rules.specs.Missing.{losses}
 use Rattle.header_rules.specs.Read.{fault_of}
 use Rattle.places_rules.specs.declared.Displaced.{Displaced}
 use Rattle.places_rules.specs.declared.Displaced.TheVariants as displaced
-use Rattle.places_rules.specs.Places.{four, free, held_at}
+use Rattle.places_rules.specs.Places.{four, held_at}
 use Rattle.receiver_rules.specs.declared.Received.TheVariants.{Kept, Delivered, Refused}
 use Rattle.receiver_rules.specs.Promise.{displaced_values, number_of, Reception, reception, State}
-use Rattle.link.specs.Run.{Call, after, Made, Run, start, next, Reached, Holds, ShownOpen, number_in, come, lost, All}
-use Rattle.link.specs.Demand.{Takes, count, key_for, Own, enough_after, HandsOut, Handed, HeldAfter}
+use Rattle.link.specs.Run.{Call, after, Made, Run, start, next, Reached, Holds, ShownOpen, number_in, come, All}
+use Rattle.link.specs.Demand.{Takes, key_for, Own, enough_after, HandsOut, Handed, HeldAfter}
 use Rattle.link.specs.Steps.{Answered, DisplacedBy, Promised, HandedOut, T2}
 use Rattle.link.proofs.Basic.{less_or-not}
 use Rattle.link.proofs.View.{Good, View, unheard, refuses, keeps, opens}

@@ -116,8 +116,8 @@ falls = record {
   withholds = withholds;
   invents = invents;
   false_count = false_count;
-  refuses_every-packet = senders.refuses_every-packet;
-  refuses_every-packet_whole = senders.refuses_every-packet_whole;
+  refuses_every_packet = senders.refuses_every_packet;
+  refuses_every_packet_whole = senders.refuses_every_packet_whole;
   sends_fixed = senders.sends_fixed;
   sends_fixed_whole = senders.sends_fixed_whole;
   one_fragment = senders.one_fragment;
@@ -245,8 +245,8 @@ some_useless =
       withholds = (refuser, withholder);
       invents = (liar, inventor);
       false_count = (liar, miscounter);
-      refuses_every-packet = (any_index refusing, record { refuses = λ g n packet i out takes. (40, out, refl) });
-      refuses_every-packet_whole = (refusing, record { refuses = λ g n packet i out takes. (40, out, refl) });
+      refuses_every_packet = (any_index refusing, record { refuses = λ g n packet i out takes. (40, out, refl) });
+      refuses_every_packet_whole = (refusing, record { refuses = λ g n packet i out takes. (40, out, refl) });
       sends_fixed = (empty, record { same = λ g n packet packet' i out takes takes'. refl });
       sends_fixed_whole = (empties, record { same = λ g n packet packet' i out takes takes'. refl });
       one_fragment = (any_index first-only, record { same = λ g n packet i j out takes below below'. refl });

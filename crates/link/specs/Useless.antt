@@ -191,8 +191,8 @@ pub record Falls : Type 0 where
   pub withholds : (R : Receiver) → Keeps R → Withholds R → ⊥
   pub invents : (R : Receiver) → Keeps R → Invents R → ⊥
   pub false_count : (R : Receiver) → Keeps R → FalseCount R → ⊥
-  pub refuses_every-packet : (S : Sender) → Sends S → RefusesEveryPacket S → ⊥
-  pub refuses_every-packet_whole : (S : WholeSender) → SendsAll S → RefusesEveryPacket (any_index S) → ⊥
+  pub refuses_every_packet : (S : Sender) → Sends S → RefusesEveryPacket S → ⊥
+  pub refuses_every_packet_whole : (S : WholeSender) → SendsAll S → RefusesEveryPacket (any_index S) → ⊥
   pub sends_fixed : (S : Sender) → Sends S → SendsFixed S → ⊥
   pub sends_fixed_whole : (S : WholeSender) → SendsAll S → SendsFixed (any_index S) → ⊥
   pub one_fragment : (S : Sender) → Sends S → OneFragment S → ⊥
@@ -209,8 +209,8 @@ pub record SomeUseless : Type 0 where
   pub withholds : (R : Receiver) × Withholds R
   pub invents : (R : Receiver) × Invents R
   pub false_count : (R : Receiver) × FalseCount R
-  pub refuses_every-packet : (S : Sender) × RefusesEveryPacket S
-  pub refuses_every-packet_whole : (S : WholeSender) × RefusesEveryPacket (any_index S)
+  pub refuses_every_packet : (S : Sender) × RefusesEveryPacket S
+  pub refuses_every_packet_whole : (S : WholeSender) × RefusesEveryPacket (any_index S)
   pub sends_fixed : (S : Sender) × SendsFixed S
   pub sends_fixed_whole : (S : WholeSender) × SendsFixed (any_index S)
   pub one_fragment : (S : Sender) × OneFragment S

@@ -1,5 +1,5 @@
 -- What a record is refused for (14), and a fragment by the place that holds its number (9 to 12): document 01, "Numbers given back".
-use Rattle.std.specs.Prelude.{Bool, true, false, not, cond, ◌||◌, ◌&&◌, [], ◌∷◌, ℕ, ◌*◌, ltb, leb, eqb, get_or}
+use Rattle.std.specs.Prelude.{Bool, false, not, cond, ◌||◌, ◌&&◌, [], ◌∷◌, ℕ, ◌*◌, ltb, leb, eqb, get_or}
 use Rattle.std.specs.Bool.{beq}
 use Rattle.base_rules.specs.Bounds.{most_f, bad_k, place}
 use Rattle.base_rules.specs.Tests.{first}

@@ -1,5 +1,5 @@
 -- The four places and the record of what they hold (document 01, "The four places").
-use Rattle.std.specs.Prelude.{Bool, true, false, not, cond, ◌&&◌, List, ℕ, ◌+◌, ◌-◌, ◌*◌, ◌%◌, leb, eqb, get_or, set, replicate}
+use Rattle.std.specs.Prelude.{Bool, true, false, not, cond, ◌&&◌, ℕ, ◌+◌, ◌-◌, ◌*◌, ◌%◌, leb, eqb, get_or, set, replicate}
 use Rattle.base_rules.specs.Bounds.{most_f, place}
 use Rattle.header_rules.specs.declared.Header.{Header}
 use Rattle.places_rules.specs.declared.Place.{Place}

@@ -84,12 +84,13 @@ module _ (t : Table) (i : ℕ) where
 module _ {t : Table} {i : ℕ} {d : Displaced} {b out : List ℕ} (below : i < four) (room : most_l ≤ length out) where
   settled_left : {y : Reception} → Settled t i d b out y → (a : Received) → y.answer ≡ number_of a → Left t i b out y a
   unfolding reception
-  settled_left (waits e) a q = subst (Left t i b out _) (received_one (Kept d) a q) refl
+  settled_left (waits e) a q = subst (Left t i b out (reception (Kept d) t b out)) (received_one (Kept d) a q) refl
   settled_left (delivers P e agrees) a q =
-      subst (Left t i b out _) (received_one (Delivered (length P) (missing_in (place_at t i)) d) a q)
+      subst (Left t i b out (reception (Delivered (length P) (missing_in (place_at t i)) d) (closed_at t i delivered) b (splice out 0 P)))
+      (received_one (Delivered (length P) (missing_in (place_at t i)) d) a q)
       (writes out P room (a3 P agrees.accepted).1, refl, closed-missing t i delivered)
   settled_left (damaged e none) a q =
-      subst (Left t i b out _) (received_one (Damaged d) a q) (refl, refl, refl, λ size. closed_condition t i below size spoiled)
+      subst (Left t i b out (reception (Damaged d) (closed_at t i spoiled) b out)) (received_one (Damaged d) a q) (refl, refl, refl, λ size. closed_condition t i below size spoiled)
 
 module _ (own : Address) (s : State) (datagram out : List ℕ) (y : Reception) (step : Step own s datagram out y) where
   -- where a number is due it is the answer, alone, and record, lent bytes and packet buffer stay

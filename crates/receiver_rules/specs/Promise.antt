@@ -1,7 +1,7 @@
 -- The promise of `receive` (document 01, "The four places" and "Numbers given back"): what a call answers and leaves, for every record,
 -- configuration, datagram and buffer. A relation where a packet is formed, since the paper says which packet and not how it is found;
 -- equations everywhere else.
-use Rattle.std.specs.Prelude.{◌≡◌, Bool, true, false, not, cond, ◌&&◌, ◌||◌, List, [], ◌∷◌, ℕ, ◌+◌, ◌*◌, ltb, eqb, length, drop}
+use Rattle.std.specs.Prelude.{◌≡◌, Bool, true, false, not, cond, ◌||◌, List, [], ◌∷◌, ℕ, ◌+◌, ◌*◌, ltb, eqb, length, drop}
 use Rattle.base_rules.specs.Bounds.{most_l, place}
 use Rattle.base_rules.specs.Tests.{first}
 use Rattle.base_rules.specs.Bytes.{splice}

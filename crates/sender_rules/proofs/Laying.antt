@@ -16,7 +16,7 @@ use Rattle.base_rules.proofs.ChunkSize.{k_fits}
 use Rattle.base_rules.proofs.Firsts.{skip, none_due}
 use Rattle.base_rules.proofs.Splice.{splice-length, splice_next, splice_start}
 use Rattle.cut_rules.specs.Cells.{fragment_of}
-use Rattle.cut_rules.specs.Sizes.{c, k, z, n, h, L, f, s}
+use Rattle.cut_rules.specs.Sizes.{c, k, z, n, L, f, s}
 use Rattle.cut_rules.specs.declared.Settings.{Settings}
 use Rattle.cut_rules.specs.declared.Figures.{Figures}
 use Rattle.cut_rules.proofs.ChunkSizes.{c_some}

@@ -11,7 +11,6 @@ use Rattle.cut_rules.specs.declared.Address.{Address}
 use Rattle.header_rules.specs.declared.Header.{Header}
 use Rattle.header_rules.specs.Read.{fields_of, fault_of}
 use Rattle.packed_rules.specs.Claims.{TypedTable}
-use Rattle.places_rules.specs.declared.Place.{Place}
 use Rattle.places_rules.specs.declared.Table.{Table}
 use Rattle.places_rules.specs.declared.Displaced.{Displaced}
 use Rattle.places_rules.specs.Places.{open_now, place_at, key_in, displaced_at}

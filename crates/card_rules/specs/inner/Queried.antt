@@ -2,7 +2,6 @@
 use Rattle.std.specs.Prelude.{List, [], ◌∷◌, ◌++◌, ℕ}
 use Rattle.base_rules.specs.Answer.{Answer, granted, refused}
 use Rattle.places_rules.specs.Places.{free, open_now, delivered, spoiled}
-use Rattle.receiver_rules.specs.declared.Received.TheVariants.{Delivered, Refused}
 use Rattle.receiver_rules.specs.declared.Seen.{Seen}
 use Rattle.receiver_rules.specs.declared.Seen.TheVariants as seen
 use Rattle.receiver_rules.specs.declared.Shown.{Shown}

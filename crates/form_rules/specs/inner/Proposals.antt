@@ -1,5 +1,5 @@
 -- What the parts of forming are handed and hand on.
-use Rattle.std.specs.Prelude.{◌≡◌, true, false, List, [], ◌++◌, ℕ, zero, suc, ◌+◌, ◌*◌, ◌≤◌, length, take, drop}
+use Rattle.std.specs.Prelude.{◌≡◌, true, false, List, [], ◌++◌, ℕ, zero, suc, ◌+◌, ◌≤◌, length, take, drop}
 use Rattle.base_rules.specs.Bounds.{place, parity}
 use Rattle.places_rules.specs.declared.Place.{Place}
 use Rattle.places_rules.specs.Faults.{bad_place}

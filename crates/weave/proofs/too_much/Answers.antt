@@ -1,0 +1,19 @@
+-- `too_much` meets its contract: a fragment longer than a place is too much by itself. Assumes nothing.
+use mathlib.Core.Path.{refl}
+use native.Mathlib.Omega.{arith}
+use native.Mathlib.Nat.{mul-le-mul}
+use Rattle.weave_rules.specs.Calls.{too_much}
+use Rattle.weave_rules.proofs.CallCases.{f_most, over_place_lem}
+use Rattle.weave.proofs.too_much.Goals as goal
+
+pub returns-then-s-gt-PLACE : goal.returns-then-s-gt-PLACE
+returns-then-s-gt-PLACE c =
+    let a = c.args in
+    over_place_lem a.f a.s c.requires c.if-s-gt-PLACE.true
+
+pub overflow_mul-result : goal.overflow_mul-result
+overflow_mul-result c = omega (arith, mul-le-mul (f_most c.args.f c.requires) c.if-s-gt-PLACE.false)
+
+pub returns : goal.returns
+unfolding too_much
+returns c = refl
