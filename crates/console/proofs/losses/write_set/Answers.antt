@@ -1,7 +1,4 @@
-use Prim.Native.Nat.{◌≤◌, ◌-◌}
 use borrow.Author.Rules.{rules}
-use Rattle.base_rules.specs.Bounds.{most_f}
-use Rattle.text_rules.specs.Wrote.{Wrote}
 use Rattle.text_rules.proofs.Writing.{chain}
 use Rattle.console.proofs.losses.write_set.Goals as goal
 

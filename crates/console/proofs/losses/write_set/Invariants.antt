@@ -2,7 +2,6 @@
 use Prim.Native.Nat.{◌≤◌, ◌-◌}
 use Rattle.base_rules.specs.Bounds.{most_f}
 use Rattle.text_rules.specs.Wrote.{Wrote}
-use Rattle.text_rules.proofs.Writing.{chain}
 use Rattle.console.proofs.losses.write_set.Given as goal
 
 abbrev pub invariant-loop-i : goal.invariant-loop-i

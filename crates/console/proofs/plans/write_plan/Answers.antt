@@ -1,7 +1,5 @@
-use Prim.Native.Nat.{◌≤◌, ◌-◌}
 use native.Mathlib.Omega.{arith}
 use borrow.Author.Rules.{rules}
-use Rattle.text_rules.specs.Wrote.{Wrote}
 use Rattle.text_rules.proofs.Writing.{chain, goes}
 use Rattle.console.proofs.plans.write_plan.Goals as goal
 

@@ -1,8 +1,6 @@
 -- `plans::write_plan` meets its contract: at each turn the figures so far stand behind the word. Assumes nothing.
 use Prim.Native.Nat.{◌≤◌, ◌-◌}
-use native.Mathlib.Omega.{arith}
 use Rattle.text_rules.specs.Wrote.{Wrote}
-use Rattle.text_rules.proofs.Writing.{chain, goes}
 use Rattle.console.proofs.plans.write_plan.Given as goal
 
 abbrev pub invariant-loop-i : goal.invariant-loop-i

@@ -1,6 +1,5 @@
 -- `words::blanks` is safe and ends: there are no more blanks than letters. Assumes nothing.
 use Prim.Native.Nat.{◌≤◌, ◌-◌}
-use native.Mathlib.Omega.{arith}
 use lib.ListN.{length}
 use Rattle.console.proofs.words.blanks.Given as goal
 

@@ -1,0 +1,11 @@
+-- `readout::answer_packets` meets its contract: the bytes read fit the buffers. Assumes nothing.
+use mathlib.Core.Path.{ap}
+use native.Mathlib.Omega.{arith}
+use Rattle.console.specs.inner.Sized.{size_of}
+use Rattle.console.proofs.readout.answer_packets.Goals as goal
+
+pub slice_bounds-packet-end : goal.slice_bounds-packet-end
+slice_bounds-packet-end c = omega (arith, ap size_of c.in-Of.is)
+
+pub slice_bounds-standing-end : goal.slice_bounds-standing-end
+slice_bounds-standing-end c = omega (arith, ap size_of c.in-Of-bytes_of.is)

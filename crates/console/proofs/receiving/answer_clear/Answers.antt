@@ -1,0 +1,14 @@
+-- `receiving::answer_clear` meets its contract: the seat has the bytes that are lent. Assumes nothing.
+use mathlib.Core.Path.{ap}
+use native.Mathlib.Omega.{arith}
+use Rattle.console.specs.inner.Sized.{size_of}
+use Rattle.console.proofs.receiving.answer_clear.Goals as goal
+
+pub overflow_add-end : goal.overflow_add-end
+overflow_add-end c = omega (arith, c.decimal_to.ensures, ap size_of c.in-Of.is)
+
+pub slice_bounds-clear-end : goal.slice_bounds-clear-end
+slice_bounds-clear-end c =
+    let P = c.requires in
+    let Decimal-to = c.decimal_to in
+    omega (arith, P, Decimal-to.ensures, ap size_of c.in-Of.is)
