@@ -6,10 +6,6 @@ use Rattle.lister.proofs.head_line.Goals as goal
 pub returns : goal.returns
 unfolding head_line
 returns c =
-    let minor = c in
-    let major = minor in
-    let seq = major in
-    let front = seq in
-    lays_more _ _ _ _ front.plain-to.ensures
-    (lays_more _ _ _ _ seq.decimal-to.ensures
-    (lays_more _ _ _ _ major.plain-to-2.ensures (lays_more _ _ _ _ minor.decimal-to-2.ensures c.number_line.ensures)))
+    lays_more _ _ _ _ c.plain-to.ensures
+    (lays_more _ _ _ _ c.decimal-to.ensures
+    (lays_more _ _ _ _ c.plain-to-2.ensures (lays_more _ _ _ _ c.decimal-to-2.ensures c.number_line.ensures)))

@@ -8,10 +8,6 @@ use Rattle.lister.proofs.item_line.Goals as goal
 pub returns : goal.returns
 unfolding item_line
 returns c =
-    let name = c in
-    let blank = name in
-    let depth = blank in
-    let raw = depth in
-    lays_more _ _ _ _ depth.decimal-to.ensures
-    (lays_more _ _ _ _ blank.plain-to.ensures
-    (lays_more _ _ _ _ (lays_same _ _ (ap hex_of raw.bytes4-name.ensures) name.hex-to.ensures) c.number_line.ensures))
+    lays_more _ _ _ _ c.decimal-to.ensures
+    (lays_more _ _ _ _ c.plain-to.ensures
+    (lays_more _ _ _ _ (lays_same _ _ (ap hex_of c.bytes4-name.ensures) c.hex-to.ensures) c.number_line.ensures))

@@ -5,12 +5,10 @@ use Rattle.lister.proofs.lay.Goals as goal
 
 pub returns-in-Refused : goal.returns-in-Refused
 returns-in-Refused c =
-    let known = c in
-    lays_same _ _ (packet-refused _ _ known.check-checked.ensures _ known.in-Refused.is) c.refused_line.ensures
+    lays_same _ _ (packet-refused _ _ c.check-checked.ensures _ c.in-Refused.is) c.refused_line.ensures
 
 pub returns-in-Packet : goal.returns-in-Packet
 returns-in-Packet c =
-    let known = c in
-    let text = packet_passes _ _ known.check-checked.ensures _ _ known.in-Packet.is
+    let text = packet_passes _ _ c.check-checked.ensures _ _ c.in-Packet.is
     c.payload.ensures.0 in
     lays_same _ _ text c.list_payload.ensures

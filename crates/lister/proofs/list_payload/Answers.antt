@@ -5,16 +5,13 @@ use Rattle.lister.proofs.list_payload.Goals as goal
 
 pub returns-then-n-ne0 : goal.returns-then-n-ne0
 returns-then-n-ne0 c =
-    let test = c in
-    lays_same _ _ (payload_refused _ _ test.open_walk-opened.ensures _ test.if-n-ne0.true) c.refused_line.ensures
+    lays_same _ _ (payload_refused _ _ c.open_walk-opened.ensures _ c.if-n-ne0.true) c.refused_line.ensures
 
 pub item_lines-requires : goal.item_lines-requires
 item_lines-requires c =
-    let test = c in
-    (test.open_walk-opened.ensures, walked _ _ test.open_walk-opened.ensures test.if-n-ne0.false)
+    (c.open_walk-opened.ensures, walked _ _ c.open_walk-opened.ensures c.if-n-ne0.false)
 
 pub returns : goal.returns
 returns c =
-    let test = c in
     let lines = lays_more _ _ _ _ c.head_line-to.ensures c.item_lines.ensures in
-    lays_same _ _ (payload_walked _ _ test.open_walk-opened.ensures _ test.if-n-ne0.false) lines
+    lays_same _ _ (payload_walked _ _ c.open_walk-opened.ensures _ c.if-n-ne0.false) lines

@@ -4,7 +4,5 @@ use Rattle.lister.proofs.number_line.Goals as goal
 
 pub returns : goal.returns
 returns c =
-    let Before = c in
-    let number = Before in
-    lays_more _ _ _ _ number.plain-to.ensures
-    (lays_more _ _ _ _ number.decimal-to.ensures c.plain.ensures)
+    lays_more _ _ _ _ c.plain-to.ensures
+    (lays_more _ _ _ _ c.decimal-to.ensures c.plain.ensures)
