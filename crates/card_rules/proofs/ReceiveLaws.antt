@@ -1,7 +1,7 @@
 -- The record that crosses to C as bytes: what is none is refused, and what is packed again is all of it. Assumes nothing.
 use mathlib.Core.Path.{◌≡◌, refl, sym, ap, ◌∙◌, subst}
 use mathlib.Core.Bool.{Bool, not, cond}
-use mathlib.Core.List.{List, [], ◌∷◌, map}
+use mathlib.Core.List.{List, [], ◌∷◌}
 use Prim.Native.Nat.{ℕ, zero, suc, ◌<◌, ◌≤◌}
 use native.Mathlib.Nat.{le_of_suc-le-suc}
 use native.Mathlib.Omega.{arith}
@@ -44,19 +44,19 @@ use Rattle.card_rules.proofs.TellLaws.{whole}
 -- ---- the record
 
 -- what each element of an array has, for an array that is a value
-pub each_has : {A D : Type 0} (to : A → D) (own : D → List Val → Fml) (P : A → Type 0) → ((x : A) (vs : List Val) → shadow (own (to x) vs) → P x)
-    → (l : List A) (us : List Val) → shadow (each D own (map to l) us) → (i : ℕ) (d : A) → i < length l → P (get_or l i d)
-each_has to own P h [] us s i d b = absurd (omega arith)
-each_has to own P h (x ∷ l) [] s i d b = absurd s
-each_has to own P h (x ∷ l) (u ∷ us) s zero d b = h x (u ∷ []) s.0
-each_has to own P h (x ∷ l) (u ∷ us) s (suc i) d b = each_has to own P h l us s.1 i d (le_of_suc-le-suc b)
+pub each_has : {A : Type 0} (own : A → List Val → Fml) (P : A → Type 0) → ((x : A) (vs : List Val) → shadow (own x vs) → P x)
+    → (l : List A) (us : List Val) → shadow (each A own l us) → (i : ℕ) (d : A) → i < length l → P (get_or l i d)
+each_has own P h [] us s i d b = absurd (omega arith)
+each_has own P h (x ∷ l) [] s i d b = absurd s
+each_has own P h (x ∷ l) (u ∷ us) s zero d b = h x (u ∷ []) s.0
+each_has own P h (x ∷ l) (u ∷ us) s (suc i) d b = each_has own P h l us s.1 i d (le_of_suc-le-suc b)
 
 -- so do the places of a record
 pub typed_place : (l : List Place) (us : List Val)
-    → shadow (each (a-place.the_field).row.Denot (a-place.the_field).row.own_val (map (a-place.the_type).to l) us) → (i : ℕ) → i < length l
+    → shadow (each (a-place.the_row).Denot (a-place.the_row).own_val l us) → (i : ℕ) → i < length l
     → Typed (get_or l i free_place)
 typed_place l us s i b =
-    each_has (a-place.the_type).to (a-place.the_field).row.own_val Typed
+    each_has (a-place.the_row).own_val Typed
     (λ p vs own.
     let fields = own.1.1 in
     record {

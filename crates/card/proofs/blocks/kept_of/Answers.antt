@@ -1,12 +1,12 @@
-use mathlib.Core.Path.{◌≡◌, sym, ap, ◌∙◌}
+use mathlib.Core.Path.{sym, ap, ◌∙◌}
 use mathlib.Core.Bool.{false}
-use Prim.Native.Nat.{◌-◌, ◌≤◌, ◌<◌}
+use Prim.Native.Nat.{◌<◌}
 use native.Mathlib.Nat.{zero-add}
 use native.Mathlib.Omega.{arith}
-use lib.ListN.{length, length-set, length-replicate, replicate}
+use lib.ListN.{length-set, length-replicate, replicate}
 use Rattle.base_rules.specs.Bounds.{most_f}
 use Rattle.card_rules.specs.Blocks.{is_kept, kept_of}
-use Rattle.card_rules.proofs.FlagLaws.{Flags, flags_none, flags_more, flags-all}
+use Rattle.card_rules.proofs.FlagLaws.{flags_none, flags_more, flags-all}
 use Rattle.card.proofs.blocks.kept_of.Goals as goal
 
 pub loop-i-init : goal.loop-i-init

@@ -1,13 +1,10 @@
 -- `kept_of` meets its contract: after i turns the first i values stand in the array. Assumes nothing.
-use mathlib.Core.Path.{◌≡◌, sym, ap, ◌∙◌}
-use mathlib.Core.Bool.{false}
-use Prim.Native.Nat.{◌-◌, ◌≤◌, ◌<◌}
-use native.Mathlib.Nat.{zero-add}
-use native.Mathlib.Omega.{arith}
-use lib.ListN.{length, length-set, length-replicate, replicate}
+use mathlib.Core.Path.{◌≡◌}
+use Prim.Native.Nat.{◌-◌, ◌≤◌}
+use lib.ListN.{length}
 use Rattle.base_rules.specs.Bounds.{most_f}
-use Rattle.card_rules.specs.Blocks.{is_kept, kept_of}
-use Rattle.card_rules.proofs.FlagLaws.{Flags, flags_none, flags_more, flags-all}
+use Rattle.card_rules.specs.Blocks.{is_kept}
+use Rattle.card_rules.proofs.FlagLaws.{Flags}
 use Rattle.card.proofs.blocks.kept_of.Given as goal
 
 abbrev pub invariant-loop-i : goal.invariant-loop-i

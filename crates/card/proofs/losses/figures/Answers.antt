@@ -1,9 +1,9 @@
 use mathlib.Core.Path.{◌≡◌, refl, ◌∙◌}
-use Prim.Native.Nat.{◌+◌, ◌-◌, ◌≤◌}
+use Prim.Native.Nat.{◌+◌}
 use native.Mathlib.Omega.{arith}
 use lib.ListN.{length, length-set, replicate}
 use Rattle.base_rules.specs.Bounds.{most_f}
-use Rattle.card_rules.proofs.EndureLaws.{Laid, laid_two, laid_flag, laid_all}
+use Rattle.card_rules.proofs.EndureLaws.{laid_two, laid_flag, laid_all}
 use Rattle.card.proofs.losses.figures.Goals as goal
 
 pub loop-i-init : goal.loop-i-init

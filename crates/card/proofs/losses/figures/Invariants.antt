@@ -1,10 +1,9 @@
 -- `figures` meets its contract: behind the losses and f the first i flags stand as numbers after i turns. Assumes nothing.
-use mathlib.Core.Path.{◌≡◌, refl, ◌∙◌}
+use mathlib.Core.Path.{◌≡◌}
 use Prim.Native.Nat.{◌+◌, ◌-◌, ◌≤◌}
-use native.Mathlib.Omega.{arith}
-use lib.ListN.{length, length-set, replicate}
+use lib.ListN.{length}
 use Rattle.base_rules.specs.Bounds.{most_f}
-use Rattle.card_rules.proofs.EndureLaws.{Laid, laid_two, laid_flag, laid_all}
+use Rattle.card_rules.proofs.EndureLaws.{Laid}
 use Rattle.card.proofs.losses.figures.Given as goal
 
 abbrev pub invariant-loop-i : goal.invariant-loop-i

@@ -4,7 +4,6 @@ use native.Mathlib.Omega.{arith}
 use lib.ListN.{length, length-map}
 use Rattle.base_rules.specs.Bounds.{most_f}
 use Rattle.base_rules.specs.Tests.{bit}
-use Rattle.places_rules.proofs.Records.{as_long}
 use Rattle.card_rules.specs.Told.{told_length}
 use Rattle.card_rules.proofs.EndureLaws.{told_losses, told_nothing}
 use Rattle.card.proofs.losses.tell_endurance.Goals as goal

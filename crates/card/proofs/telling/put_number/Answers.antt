@@ -1,8 +1,7 @@
-use mathlib.Core.Path.{◌≡◌, refl, ◌∙◌}
-use Prim.Native.Nat.{◌-◌, ◌≤◌}
+use mathlib.Core.Path.{refl, ◌∙◌}
+use Prim.Native.Nat.{◌≤◌}
 use native.Mathlib.Omega.{arith}
 use lib.ListN.{length, length-set}
-use Rattle.base_rules.specs.Bytes.{splice, bytes_of}
 use Rattle.card_rules.proofs.TellLaws.{byte_put, bytes_put}
 use Rattle.card.proofs.telling.put_number.Goals as goal
 

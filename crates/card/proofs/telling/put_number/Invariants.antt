@@ -1,11 +1,9 @@
 -- `put_number` meets its contract: the bytes of what is left of the number, in front of those that stand already, are those of the number.
 -- Assumes nothing.
-use mathlib.Core.Path.{◌≡◌, refl, ◌∙◌}
+use mathlib.Core.Path.{◌≡◌}
 use Prim.Native.Nat.{◌-◌, ◌≤◌}
-use native.Mathlib.Omega.{arith}
-use lib.ListN.{length, length-set}
+use lib.ListN.{length}
 use Rattle.base_rules.specs.Bytes.{splice, bytes_of}
-use Rattle.card_rules.proofs.TellLaws.{byte_put, bytes_put}
 use Rattle.card.proofs.telling.put_number.Given as goal
 
 abbrev pub invariant-loop-left : goal.invariant-loop-left

@@ -1,9 +1,7 @@
 use mathlib.Core.Path.{refl}
-use Prim.Native.Nat.{◌-◌}
 use native.Mathlib.Omega.{arith}
 use borrow.Author.Rules.{rules}
-use lib.ListN.{length}
-use Rattle.card_rules.proofs.TellLaws.{Telling, tells_none, tells_room, tells_more, tells_all, tells_short}
+use Rattle.card_rules.proofs.TellLaws.{tells_none, tells_room, tells_more, tells_all, tells_short}
 use Rattle.card.proofs.telling.tell.Goals as goal
 
 pub returns-then-told-n : goal.returns-then-told-n

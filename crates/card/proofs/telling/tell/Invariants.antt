@@ -1,9 +1,7 @@
 -- `tell` meets its contract: at each turn what is still to be told stands right behind what is told. Assumes nothing.
-use mathlib.Core.Path.{refl}
 use Prim.Native.Nat.{◌-◌}
-use native.Mathlib.Omega.{arith}
 use lib.ListN.{length}
-use Rattle.card_rules.proofs.TellLaws.{Telling, tells_none, tells_room, tells_more, tells_all, tells_short}
+use Rattle.card_rules.proofs.TellLaws.{Telling}
 use Rattle.card.proofs.telling.tell.Given as goal
 
 abbrev pub invariant-loop-i : goal.invariant-loop-i
