@@ -1,10 +1,8 @@
 -- `by_bytes` is `register_of`. The loop keeps what the bytes that are left make of the register. Assumes nothing.
-use mathlib.Core.Path.{◌≡◌, refl, sym, ap, ◌∙◌}
-use Prim.Native.Nat.{◌+◌, ◌-◌, ◌≤◌}
-use native.Mathlib.Omega.{arith}
+use mathlib.Core.Path.{◌≡◌}
+use Prim.Native.Nat.{◌-◌, ◌≤◌}
 use lib.ListN.{length, drop}
 use Rattle.crc_rules.specs.Crc.{register_of}
-use Rattle.crc_rules.proofs.Over.{one_more, no_more}
 use Rattle.crc.proofs.by_bytes.Given as goal
 
 abbrev pub invariant-loop-i : goal.invariant-loop-i

@@ -1,12 +1,8 @@
 -- `by_eights` is `register_of`. The loop keeps what the bytes that are left make of the register. Assumes nothing.
-use mathlib.Core.Path.{◌≡◌, refl, ap, ◌∙◌}
-use mathlib.Core.List.{List}
-use Prim.Native.Nat.{ℕ, ◌+◌, ◌-◌, ◌≤◌}
-use native.Mathlib.Omega.{arith}
-use lib.ListN.{length, take, drop, length-drop}
-use lib.Seq.{length-take-le, take_all}
+use mathlib.Core.Path.{◌≡◌}
+use Prim.Native.Nat.{◌-◌, ◌≤◌}
+use lib.ListN.{length, drop}
 use Rattle.crc_rules.specs.Crc.{register_of}
-use Rattle.crc_rules.proofs.Over.{part_more}
 use Rattle.crc.proofs.by_eights.Given as goal
 
 abbrev pub invariant-loop-a : goal.invariant-loop-a

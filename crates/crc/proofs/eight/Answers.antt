@@ -1,11 +1,8 @@
-use mathlib.Core.Path.{◌≡◌, refl, sym, ap, ◌∙◌}
-use Prim.Native.Nat.{◌-◌, ◌≤◌}
+use mathlib.Core.Path.{refl, sym, ap, ◌∙◌}
 use native.Mathlib.Omega.{arith}
 use borrow.Author.Rules.{rules}
 use lib.Bits.{bit_xor}
-use lib.ListN.{drop}
 use Rattle.base_rules.proofs.ByteLaws.{bytes_from}
-use Rattle.crc_rules.specs.Crc.{register_of}
 use Rattle.crc_rules.proofs.Over.{eight_more, no_more}
 use Rattle.crc.proofs.eight.Goals as goal
 

@@ -1,13 +1,10 @@
 -- `eight` is `register_of`. The loop keeps the sum of what is added at the end and what the bytes that are left make of the register.
 -- Assumes nothing.
-use mathlib.Core.Path.{◌≡◌, refl, sym, ap, ◌∙◌}
+use mathlib.Core.Path.{◌≡◌}
 use Prim.Native.Nat.{◌-◌, ◌≤◌}
-use native.Mathlib.Omega.{arith}
 use lib.Bits.{bit_xor}
 use lib.ListN.{drop}
-use Rattle.base_rules.proofs.ByteLaws.{bytes_from}
 use Rattle.crc_rules.specs.Crc.{register_of}
-use Rattle.crc_rules.proofs.Over.{eight_more, no_more}
 use Rattle.crc.proofs.eight.Given as goal
 
 abbrev pub invariant-loop-b : goal.invariant-loop-b

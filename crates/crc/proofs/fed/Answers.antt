@@ -1,8 +1,7 @@
 use mathlib.Core.Path.{◌≡◌, sym, ap, ◌∙◌}
-use Prim.Native.Nat.{ℕ, zero, suc, ◌+◌, ◌-◌, ◌<◌, ◌≤◌}
+use Prim.Native.Nat.{ℕ, suc, ◌+◌, ◌-◌, ◌<◌, ◌≤◌}
 use native.Mathlib.Omega.{arith}
 use borrow.Author.Rules.{rules}
-use Rattle.crc_rules.specs.Crc.{feed}
 use Rattle.crc_rules.specs.inner.Shifts.{shift, shift8, feed_at_once}
 use Rattle.crc_rules.proofs.AtOnce.{at_once}
 use Rattle.crc.proofs.fed.Goals as goal

@@ -1,10 +1,8 @@
 -- `fed` is `feed`, by the short cut. The loop keeps what the shifts that are left make of the register. Assumes nothing.
-use mathlib.Core.Path.{◌≡◌, sym, ap, ◌∙◌}
-use Prim.Native.Nat.{ℕ, zero, suc, ◌+◌, ◌-◌, ◌<◌, ◌≤◌}
-use native.Mathlib.Omega.{arith}
+use mathlib.Core.Path.{◌≡◌}
+use Prim.Native.Nat.{ℕ, zero, suc, ◌-◌, ◌≤◌}
 use Rattle.crc_rules.specs.Crc.{feed}
-use Rattle.crc_rules.specs.inner.Shifts.{shift, shift8, feed_at_once}
-use Rattle.crc_rules.proofs.AtOnce.{at_once}
+use Rattle.crc_rules.specs.inner.Shifts.{shift}
 use Rattle.crc.proofs.fed.Given as goal
 
 unfoldable pub shifts : ℕ → ℕ → ℕ

@@ -1,11 +1,7 @@
 -- `product` meets its contract: what is added so far and what the bits that are left give are together a times b. Assumes nothing.
-use mathlib.Core.Path.{◌≡◌, sym, ap, ap₂, ◌∙◌}
-use Prim.Native.Nat.{ℕ, suc, ◌+◌, ◌-◌, ◌*◌, ◌/◌, ◌%◌, ◌≤◌, ◌<◌}
-use native.Mathlib.Nat.{mod-eq_of_lt}
-use native.Mathlib.Omega.{arith}
-use Rattle.field_rules.specs.Field.{◌⊕◌, times2, mul_bits, ◌⊗◌}
-use Rattle.field_rules.proofs.Sums.{add_0_l}
-use Rattle.field_rules.proofs.Shifts.{turn, none_left}
+use mathlib.Core.Path.{◌≡◌}
+use Prim.Native.Nat.{◌-◌, ◌≤◌}
+use Rattle.field_rules.specs.Field.{◌⊕◌, mul_bits}
 use Rattle.field.proofs.product.Given as goal
 
 abbrev pub invariant-loop : goal.invariant-loop

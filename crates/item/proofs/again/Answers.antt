@@ -1,5 +1,5 @@
 -- `item::again` meets its contract: each arm says what was found.
-use mathlib.Core.Path.{◌≡◌, refl, sym, ap, ◌∙◌}
+use mathlib.Core.Path.{sym, ◌∙◌}
 use Rattle.item.proofs.again.Goals as goal
 
 pub returns-in-At : goal.returns-in-At

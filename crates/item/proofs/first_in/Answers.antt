@@ -1,7 +1,5 @@
 use native.Mathlib.Omega.{arith}
-use Prim.Native.Nat.{◌+◌, ◌-◌}
-use mathlib.Core.Path.{◌≡◌, refl, sym, ap, ◌∙◌}
-use Rattle.item_rules.specs.Run.{run_of, first_of}
+use mathlib.Core.Path.{refl, sym, ◌∙◌}
 use Rattle.item_rules.proofs.Steps.{item_fits}
 use Rattle.item_rules.proofs.Runs.{item_begins, falls, first_here, first_next, first_end, first-refused}
 use Rattle.item_rules.proofs.Numbers.{found_told}

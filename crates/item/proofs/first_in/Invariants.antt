@@ -1,11 +1,7 @@
 -- `item::first_in` meets its contract. The invariant: the search from `from` on is the search from `at` on. The measure is what is left.
-use native.Mathlib.Omega.{arith}
-use Prim.Native.Nat.{◌+◌, ◌-◌}
-use mathlib.Core.Path.{◌≡◌, refl, sym, ap, ◌∙◌}
+use Prim.Native.Nat.{◌-◌}
+use mathlib.Core.Path.{◌≡◌}
 use Rattle.item_rules.specs.Run.{run_of, first_of}
-use Rattle.item_rules.proofs.Steps.{item_fits}
-use Rattle.item_rules.proofs.Runs.{item_begins, falls, first_here, first_next, first_end, first-refused}
-use Rattle.item_rules.proofs.Numbers.{found_told}
 use Rattle.item.proofs.first_in.Given as goal
 
 abbrev pub invariant-loop-i : goal.invariant-loop-i

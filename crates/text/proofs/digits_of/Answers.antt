@@ -1,10 +1,8 @@
 use mathlib.Core.Path.{sym, ◌≡◌, ◌∙◌}
-use mathlib.Core.List.{◌++◌}
-use Prim.Native.Nat.{◌+◌, ◌-◌, ◌^◌, ◌<◌}
+use Prim.Native.Nat.{◌+◌, ◌-◌}
 use native.Mathlib.Omega.{arith}
 use borrow.Author.Rules.{rules}
-use lib.ListN.{length, drop, length-set}
-use Rattle.text_rules.specs.Text.{decimal_of}
+use lib.ListN.{length-set}
 use Rattle.text_rules.proofs.Putting.{digits_none, digits_more, digits_all, places_left}
 use Rattle.text.proofs.digits_of.Goals as goal
 

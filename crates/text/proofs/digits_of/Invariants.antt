@@ -1,12 +1,9 @@
 -- `digits_of` meets its contract: the digits of what is left and those that stand already are the digits of the number. Assumes nothing.
-use mathlib.Core.Path.{sym, ◌≡◌, ◌∙◌}
+use mathlib.Core.Path.{◌≡◌}
 use mathlib.Core.List.{◌++◌}
-use Prim.Native.Nat.{◌+◌, ◌-◌, ◌^◌, ◌<◌}
-use native.Mathlib.Omega.{arith}
-use borrow.Author.Rules.{rules}
-use lib.ListN.{length, drop, length-set}
+use Prim.Native.Nat.{◌+◌, ◌^◌, ◌<◌}
+use lib.ListN.{length, drop}
 use Rattle.text_rules.specs.Text.{decimal_of}
-use Rattle.text_rules.proofs.Putting.{digits_none, digits_more, digits_all, places_left}
 use Rattle.text.proofs.digits_of.Given as goal
 
 abbrev pub invariant-loop-rest : goal.invariant-loop-rest

@@ -1,13 +1,8 @@
 -- `hex` meets its contract: what stands after i bytes is the text of the first i. Assumes nothing.
-use mathlib.Core.Path.{ap, ◌∙◌}
 use Prim.Native.Nat.{◌≤◌, ◌-◌}
-use native.Mathlib.Omega.{arith}
-use borrow.Author.Rules.{rules}
-use lib.Seq.{take_all}
 use lib.ListN.{length, take}
 use Rattle.text_rules.specs.Text.{hex_of}
-use Rattle.text_rules.proofs.Laws.{laid_length, Lays, lays_none, lays_same, lays_more}
-use Rattle.text_rules.proofs.Digits.{hex_none, hex_next}
+use Rattle.text_rules.proofs.Laws.{Lays}
 use Rattle.text.proofs.hex.Given as goal
 
 abbrev pub invariant-loop-i : goal.invariant-loop-i

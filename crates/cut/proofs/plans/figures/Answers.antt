@@ -4,7 +4,6 @@ use Prim.Native.Nat.{ℕ, ◌*◌, ◌≤◌}
 use native.Mathlib.Nat.{mul-le-mul}
 use native.Mathlib.Omega.{arith}
 use Rattle.base_rules.specs.Bounds.{most_l, most_k}
-use Rattle.cut_rules.specs.Sizes as size
 use Rattle.cut_rules.proofs.ChunkSizes as chunk
 use Rattle.cut_rules.proofs.PlanCases as cases
 use Rattle.cut.proofs.plans.figures.Goals as goal

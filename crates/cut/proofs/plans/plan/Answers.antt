@@ -1,13 +1,11 @@
 -- `plan` meets its contract: each return is the law for its number, and the last the law of a cut. Assumes nothing.
 use mathlib.Core.Path.{◌≡◌, ap, ap₂, ◌∙◌, sym}
-use mathlib.Core.Bool.{true}
-use Prim.Native.Nat.{ℕ, ◌<◌}
+use Prim.Native.Nat.{ℕ}
 use native.Mathlib.Omega.{arith}
-
 use Rattle.base_rules.specs.Answer.{granted}
 use Rattle.base_rules.specs.Round.{ceil}
 use Rattle.base_rules.proofs.Ceil as ceils
-use Rattle.cut_rules.specs.Plan.{fit, number_of}
+use Rattle.cut_rules.specs.Plan.{number_of}
 use Rattle.cut_rules.specs.Sizes as size
 use Rattle.cut_rules.proofs.PlanCases as cases
 use Rattle.cut_rules.specs.declared.Settings.{Settings}

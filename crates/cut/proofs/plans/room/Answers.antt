@@ -1,5 +1,4 @@
 -- `room` meets its contract: it is S, where m is 0 and where the share or the MTU is the smaller. Assumes nothing.
-use Prim.Native.Nat.{◌-◌}
 use native.Mathlib.Omega.{arith}
 use Rattle.cut_rules.proofs.PlanCases as cases
 use Rattle.cut.proofs.plans.room.Goals as goal
