@@ -46,7 +46,8 @@ pub fn place_at(t: Table, i: usize) -> Place
     free_place()
 }
 
-// The table with place i as p; past the fourth nothing changes.
+// The table with place i as p; past the fourth nothing changes. Never made part of its caller, on whose stack its copies would lie all along.
+#[inline(never)]
 pub fn with_place(t: Table, i: usize, p: Place) -> Table
     ensures { result ≡ with_place t i p }
 {
