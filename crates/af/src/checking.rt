@@ -1,11 +1,12 @@
 // Checking a packet: document 01's AF checks, 20 to 25.
 ghost use Rattle.std.specs.Prelude.{◌≡◌, ◌≤◌, length};
 ghost use Rattle.base_rules.specs.Bounds.{least_l};
+ghost use Rattle.base_rules.specs.Refusal.{fault_in};
 ghost use Rattle.af_rules.specs.Packet.{ar_of, cf_of};
 ghost use Rattle.af_rules.specs.Calls.{bad_length, bad_crc, af_fault, check_call, number_of};
 
-use crate::{CRC, Checked, Figures, MAJOR, PT, SYNC, crc_for};
-use base::{LEAST_L, MOST_L};
+use crate::{CRC, Figures, MAJOR, PT, SYNC, crc_for};
+use base::{LEAST_L, MOST_L, Refusal};
 
 // Where the fields stand that follow "AF".
 const LEN_AT: usize = 2;
@@ -34,10 +35,7 @@ fn cf_of(packet: &[u8]) -> bool
 fn bad_length(packet: &[u8]) -> bool
     ensures { result ≡ bad_length packet.now }
 {
-    if packet.len() != base::read4(packet, LEN_AT) as usize + LEAST_L {
-        return true;
-    }
-    MOST_L < packet.len()
+    packet.len() != base::read4(packet, LEN_AT) as usize + LEAST_L || MOST_L < packet.len()
 }
 
 // Whether the CRC field of the packet is not the one that is due.
@@ -49,40 +47,37 @@ fn bad_crc(packet: &[u8]) -> bool
     base::read2(packet, end) != crc_for(cf_of(packet), &packet[..end])
 }
 
-// The AF checks in order: the first number that is due, 0 for none.
-fn fault(packet: &[u8]) -> u8
-    ensures { result ≡ af_fault packet.now }
+// The AF checks in order: the first that fails refuses.
+fn fault(packet: &[u8]) -> Result<(), Refusal>
+    ensures { fault_in result ≡ af_fault packet.now }
 {
     if packet.len() < LEAST_L {
-        return 20;
+        return Err(Refusal::AfShort);
     }
     if base::read2(packet, 0) != SYNC {
-        return 21;
+        return Err(Refusal::AfSync);
     }
     if bad_length(packet) {
-        return 22;
+        return Err(Refusal::AfLength);
     }
     if ar_of(packet) / 16 % 8 != MAJOR {
-        return 23;
+        return Err(Refusal::AfMajor);
     }
     if base::byte_at(packet, PT_AT) != PT {
-        return 24;
+        return Err(Refusal::AfType);
     }
     if bad_crc(packet) {
-        return 25;
+        return Err(Refusal::AfCrc);
     }
-    0
+    Ok(())
 }
 
 // Checks a packet: SEQ, CF, the minor revision and LEN, or 20 to 25, the first that is due.
-pub fn check(packet: &[u8]) -> Checked
+pub fn check(packet: &[u8]) -> Result<Figures, Refusal>
     ensures { number_of result ≡ check_call packet.now }
 {
-    let number = fault(packet);
-    if number != 0 {
-        return Checked::Refused(number);
-    }
-    Checked::Packet(Figures {
+    fault(packet)?;
+    Ok(Figures {
         seq: base::read2(packet, SEQ_AT),
         cf: cf_of(packet),
         minor: ar_of(packet) % 16,

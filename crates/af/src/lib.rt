@@ -7,7 +7,7 @@ mod wrapping;
 ghost use Rattle.std.specs.Prelude.{◌≡◌};
 ghost use Rattle.af_rules.specs.Packet.{payload_of, payload_place, crc_for};
 
-pub use af_rules::{Checked, Figures};
+pub use af_rules::Figures;
 use base::LEAST_L;
 pub use checking::check;
 pub use wrapping::{MOST_PAYLOAD, wrap};

@@ -1,4 +1,4 @@
-// Wrapping a payload: the header in front, the CRC behind.
+// Wrapping a payload: the header in front, the CRC behind. Each part is put where a `requires` leaves room, so that no answer is read there.
 ghost use Rattle.std.specs.Prelude.{◌≡◌, ◌++◌, ◌+◌, ◌≤◌, length, take};
 ghost use Rattle.base_rules.specs.Answer.{outcome};
 ghost use Rattle.base_rules.specs.Bytes.{splice, bytes_of};
@@ -7,7 +7,7 @@ ghost use Rattle.af_rules.specs.Packet.{header_bytes, crc_bytes, most_payload, a
 ghost use Rattle.af_rules.specs.Calls.{wrap_call};
 
 use crate::{HEADER, MAJOR, PT, SYNC, crc_for};
-use base::{LEAST_L, MOST_L, Written};
+use base::{LEAST_L, MOST_L, Refusal};
 
 // The minor revision that is written.
 const MINOR: u8 = 0;
@@ -25,7 +25,7 @@ fn ar_with(cf: bool) -> u8
     }
 }
 
-// The header of a payload of len bytes.
+// The header of a payload of len bytes. One array in the order of the bytes: laid part by part, each part would need its place as a number.
 fn header(seq: u16, cf: bool, len: u32) -> [u8; HEADER]
     ensures { result ≡ header_of seq cf len }
 {
@@ -52,8 +52,8 @@ fn put_front(seq: u16, cf: bool, payload: &[u8], out: &mut [u8])
     ensures { out.new ≡ splice out.old 0 (header_of seq cf (length payload.now) ++ payload.now) }
 {
     let front = header(seq, cf, payload.len() as u32);
-    base::put(out, 0, &front);
-    base::put(out, HEADER, payload);
+    let _ = base::put(out, 0, &front);
+    let _ = base::put(out, HEADER, payload);
 }
 
 // The CRC field of the first `end` bytes, behind them.
@@ -62,20 +62,21 @@ fn put_crc(cf: bool, end: usize, out: &mut [u8])
     ensures { out.new ≡ splice out.old end (bytes_of crc_bytes (crc_for cf (take end out.old))) }
 {
     let field = base::bytes2(crc_for(cf, &out[..end]));
-    base::put(out, end, &field);
+    let _ = base::put(out, end, &field);
 }
 
 // Writes the packet of a payload at the front of out; 22 or 1 where that cannot be, and then out stays as it is.
-pub fn wrap(seq: u16, cf: bool, payload: &[u8], out: &mut [u8]) -> Written
+pub fn wrap(seq: u16, cf: bool, payload: &[u8], out: &mut [u8]) -> Result<(), Refusal>
     ensures { outcome (number_of result) out.new ≡ wrap_call seq cf payload.now out.old }
 {
+    // A test for each refusal, in the order in which they are due: a function for each, with `?`, would hold the same test.
     if MOST_PAYLOAD < payload.len() {
-        return Written::Refused(22);
+        return Err(Refusal::AfLength);
     }
     if out.len() < payload.len() + LEAST_L {
-        return Written::Refused(1);
+        return Err(Refusal::Room);
     }
     put_front(seq, cf, payload, out);
     put_crc(cf, HEADER + payload.len(), out);
-    Written::Done
+    Ok(())
 }

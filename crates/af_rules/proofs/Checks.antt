@@ -1,24 +1,24 @@
 -- The AF checks: which number is due after which tests, and what a packet that passes is known to be. Assumes nothing.
-use mathlib.Core.Path.{◌≡◌, refl, ap, ◌∙◌}
+use mathlib.Core.Path.{◌≡◌, refl, ◌∙◌}
 use mathlib.Core.Bool.{Bool, true, false, not}
 use mathlib.Core.List.{List, [], ◌∷◌}
 use Prim.Native.Nat.{ℕ, suc, ◌+◌, ◌%◌, ◌≤◌}
-use native.Mathlib.Nat.{pos_of_ne-zero}
 use native.Mathlib.Omega.{arith}
 use borrow.Author.Tests.{ltb-false, le-ltb, eq-eqb, ne_eqb}
 use lib.Dec.{ltb, eqb}
 use lib.ListN.{length}
-use Rattle.base_rules.specs.Answer.{granted, refused}
+use Rattle.std.specs.Prelude.{Result, Ok, Err}
+use Rattle.base_rules.specs.Refusal.{number}
+use Rattle.base_rules.specs.declared.Refusal.{Refusal}
 use Rattle.base_rules.specs.Bounds.{least_l, most_l}
 use Rattle.base_rules.specs.Tests.{first, bit}
-use Rattle.base_rules.proofs.Answers.{grants, refuses}
+use Rattle.base_rules.proofs.Answers.{one_told}
+use Rattle.base_rules.proofs.ByFault.{told_ok, told_err}
 use Rattle.base_rules.proofs.Firsts.{skip, none_due, clear, clear_rest}
 use Rattle.base_rules.proofs.Logic.{or_left, or_right, same, same_from, bit_one}
 use Rattle.af_rules.specs.Packet.{sync, major, packet_type, sync_of, len_of, seq_of, ar_of, major_of, minor_of, pt_of, cf_of, covered_of, crc_of, crc_for}
-use Rattle.af_rules.specs.Calls.{bad_length, bad_crc, af_fault, check_call, number_of}
+use Rattle.af_rules.specs.Calls.{bad_length, bad_crc, af_fault, check_call, values_of, number_of}
 use Rattle.af_rules.specs.declared.Figures.{Figures}
-use Rattle.af_rules.specs.declared.Checked.{Checked}
-use Rattle.af_rules.specs.declared.Checked.TheVariants.{Packet, Refused}
 
 -- ---- the tests from each number on
 
@@ -132,18 +132,18 @@ passing s e =
 
 module _ (s : List ℕ) where
   -- where a number is due, the check refuses with it
-  pub check_refused : (n : ℕ) → n ≡ af_fault s → (n ≡ 0 → ⊥) → refused n ≡ check_call s
-  unfolding check_call
-  check_refused n e some = refuses n (af_fault s) _ (pos_of_ne-zero some) e
+  pub check_refused : (e : Refusal) → number e ≡ af_fault s → number_of (Err e) ≡ check_call s
+  unfolding check_call number_of
+  check_refused e due = told_err (af_fault s) values_of _ e due
 
   -- where none is due, it answers SEQ, CF, the minor revision out of AR, and LEN
   pub check_granted : (p : Figures) (ar : ℕ) → 0 ≡ af_fault s → p.seq ≡ seq_of s → p.cf ≡ cf_of s → ar ≡ ar_of s → p.minor ≡ ar % 16
-      → p.len ≡ len_of s → number_of (Packet p) ≡ check_call s
-  unfolding check_call number_of
+      → p.len ≡ len_of s → number_of (Ok p) ≡ check_call s
+  unfolding check_call number_of values_of
   check_granted p ar e is-seq is-cf is-ar is-minor is-len =
       let values : p.seq ∷ bit p.cf ∷ p.minor ∷ p.len ∷ [] ≡ seq_of s ∷ bit (cf_of s) ∷ minor_of s ∷ len_of s ∷ [] = simp
       (is-seq, is-cf, is-minor, is-ar, is-len) in
-      ap granted values ∙ grants (af_fault s) _ e
+      told_ok (af_fault s) values_of _ p e values
 
 -- no second answer fits
 made : ℕ → Bool → ℕ → ℕ → Figures
@@ -153,9 +153,10 @@ figures_one : (p q : Figures) → p.seq ≡ q.seq → p.cf ≡ q.cf → p.minor 
     → made p.seq p.cf p.minor p.len ≡ made q.seq q.cf q.minor q.len
 figures_one p q e₁ e₂ e₃ e₄ = cc
 
-pub one_checked : (a b : Checked) → number_of a ≡ number_of b → a ≡ b
-unfolding number_of made
-one_checked (Packet p) (Packet q) e = ap Packet (figures_one p q (cc) (bit_one p.cf q.cf (cc)) (cc) (cc))
-one_checked (Packet p) (Refused n) e = cc
-one_checked (Refused n) (Packet q) e = cc
-one_checked (Refused m) (Refused n) e = cc
+one_figures : (p q : Figures) → values_of p ≡ values_of q → p ≡ q
+unfolding values_of made
+one_figures p q e = figures_one p q (cc) (bit_one p.cf q.cf (cc)) (cc) (cc)
+
+pub one_checked : (a b : Result Figures Refusal) → number_of a ≡ number_of b → a ≡ b
+unfolding number_of
+one_checked a b e = one_told values_of one_figures a b e

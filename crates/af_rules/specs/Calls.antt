@@ -1,13 +1,14 @@
 -- What the calls on AF packets answer (document 01, "AF layer" and "Numbers given back").
-use Rattle.std.specs.Prelude.{Bool, not, ◌||◌, List, [], ◌∷◌, ℕ, ◌+◌, ltb, eqb, length}
+use Rattle.std.specs.Prelude.{Bool, not, ◌||◌, List, [], ◌∷◌, ℕ, ◌+◌, ltb, eqb, length, Result}
 use Rattle.base_rules.specs.Bounds.{least_l, most_l}
 use Rattle.base_rules.specs.Tests.{first, bit}
-use Rattle.base_rules.specs.Answer.{Answer, granted, refused, answered, Outcome, settled}
+use Rattle.base_rules.specs.Answer.{Answer, answered, Outcome, settled}
+use Rattle.base_rules.specs.Refusal.{told}
+use Rattle.base_rules.specs.declared.Refusal.{Refusal}
 use Rattle.base_rules.specs.Bytes.{splice}
 use Rattle.af_rules.specs.Packet.{sync, major, packet_type, most_payload, sync_of, len_of, seq_of, pt_of, cf_of, major_of, minor_of, covered_of, crc_of}
 use Rattle.af_rules.specs.Packet.{crc_for, packet_of}
-use Rattle.af_rules.specs.declared.Checked.{Checked}
-use Rattle.af_rules.specs.declared.Checked.TheVariants.{Packet, Refused}
+use Rattle.af_rules.specs.declared.Figures.{Figures}
 
 -- document 01, 22: length not LEN + 12 or over 8,192
 unfoldable pub bad_length : List ℕ → Bool
@@ -33,10 +34,13 @@ af_fault s =
 unfoldable pub check_call : List ℕ → Answer
 check_call s = answered (af_fault s) (seq_of s ∷ bit (cf_of s) ∷ minor_of s ∷ len_of s ∷ [])
 
+-- the values that the answer carries, in the same order
+unfoldable pub values_of : Figures → List ℕ
+values_of p = p.seq ∷ bit p.cf ∷ p.minor ∷ p.len ∷ []
+
 -- document 01's number and the values, for each case
-unfoldable pub number_of : Checked → Answer
-number_of (Packet p) = granted (p.seq ∷ bit p.cf ∷ p.minor ∷ p.len ∷ [])
-number_of (Refused n) = refused n
+unfoldable pub number_of : Result Figures Refusal → Answer
+number_of r = told values_of r
 
 -- "wrapping a payload over 8,180 bytes gives 22, then ROOM": with `room` bytes lent for a payload of len bytes
 unfoldable pub wrap_fault : ℕ → ℕ → ℕ

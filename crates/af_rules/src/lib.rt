@@ -9,10 +9,3 @@ pub struct Figures {
     pub minor: u8,
     pub len: u32,
 }
-
-// The answer to a check.
-#[derive(Clone, Copy)]
-pub enum Checked {
-    Packet(Figures),
-    Refused(u8),
-}

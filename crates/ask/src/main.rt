@@ -2,21 +2,13 @@
 // done by the library; here a line is collected from what each read brings.
 #![tactic(auto)]
 
-ghost use Rattle.std.specs.Prelude.{◌≤◌, length, IfOk};
-ghost use Rattle.ask.specs.inner.Held.{held_of};
+ghost use Rattle.std.specs.Prelude.{◌≤◌, length, IfOk, IfSome};
 
 use std::io;
 use std::io::{Read, Write};
 
 // The most bytes that one read brings.
 const CHUNK: usize = 4096;
-
-// How many bytes of the next line are held, or nothing where the input has ended.
-#[derive(Clone, Copy)]
-enum Held {
-    Bytes(usize),
-    Nothing,
-}
 
 // Room for an answer and its newline. A function of its own, so that a proof has a name for the array
 // and not its elements.
@@ -69,37 +61,36 @@ fn take_all<W: Write>(
     ensures { IfOk result (λ n. n ≤ length line.new) }
 {
     let mut n = used;
-    let mut i = 0;
-    while i < chunk.len() {
-        n = take_byte(writer, chunk[i], line, n, seat)?;
-        i += 1;
+    for byte in chunk {
+        n = take_byte(writer, *byte, line, n, seat)?;
     }
     Ok(n)
 }
 
-// Reads once. The end of the input ends the line that is held, too.
+// Reads once, and says how many bytes of the next line are held, or none where the input has ended. The
+// end of the input ends the line that is held, too.
 fn take_some<R: Read, W: Write>(
     reader: &mut R,
     writer: &mut W,
     line: &mut [u8],
     used: usize,
     seat: &mut [u8],
-) -> io::Result<Held>
+) -> io::Result<Option<usize>>
     requires { used ≤ length line.old }
-    ensures { IfOk result (λ held. held_of held ≤ length line.new) }
+    ensures { IfOk result (λ held. IfSome held (λ n. n ≤ length line.new)) }
 {
     let mut chunk = [0u8; CHUNK];
     let n = reader.read(&mut chunk)?;
     if n == 0 {
         reply(writer, &line[..used], seat)?;
-        return Ok(Held::Nothing);
+        return Ok(None);
     }
     let held = take_all(writer, &chunk[..n], line, used, seat)?;
-    Ok(Held::Bytes(held))
+    Ok(Some(held))
 }
 
 // Answers every line of the input. A proved loop has to end, and nothing says that the input does.
-// So the loop counts its reads down, from a number that no run uses up.
+// So the loop has a number of reads that no run uses up.
 fn answer_all<R: Read, W: Write>(
     reader: &mut R,
     writer: &mut W,
@@ -107,13 +98,11 @@ fn answer_all<R: Read, W: Write>(
     seat: &mut [u8],
 ) -> io::Result<()> {
     let mut used = 0;
-    let mut reads = u64::MAX;
-    while reads > 0 {
-        let Held::Bytes(n) = take_some(reader, writer, line, used, seat)? else {
-            return Ok(());
+    for _ in 0..u64::MAX {
+        let Some(n) = take_some(reader, writer, line, used, seat)? else {
+            break;
         };
         used = n;
-        reads -= 1;
     }
     Ok(())
 }

@@ -9,11 +9,10 @@ ghost use Rattle.bandwidth_rules.specs.Read.{held_in, bandwidth_of, bandwidth_nu
 ghost use Rattle.bandwidth_rules.specs.Write.{width_call, none_call};
 ghost use Rattle.bandwidth_rules.specs.Seen.{seen_of};
 
-pub use bandwidth_rules::{Bandwidth, Watched, Widths};
-use base::Written;
+pub use bandwidth_rules::{Watched, Widths};
+use base::Refusal;
 use item::{Bits, Repeats};
 use tag::Located;
-use widths::Whole;
 
 // "rbw_", and the bits of its value.
 const RBW: u32 = 0x7262775F;
@@ -21,50 +20,48 @@ const RBW: u32 = 0x7262775F;
 const RBW_BITS: u32 = 16;
 
 // What an item of so many bits with that value says.
-fn held_in(bits: Bits, value: &[u8]) -> Bandwidth
+fn held_in(bits: Bits, value: &[u8]) -> Result<Option<f32>, Refusal>
     ensures { result ≡ held_in bits.0 value.now }
 {
     if bits.0 == RBW_BITS {
         let n = base::read2(value, 0);
-        return Bandwidth::Width(widths::figure(n));
+        return Ok(Some(widths::figure(n)));
     }
     if bits.0 == 0 {
-        Bandwidth::NotAvailable
+        Ok(None)
     } else {
-        Bandwidth::Refused(60)
+        Err(Refusal::Width)
     }
 }
 
 // The bandwidth, as the first "rbw_" has it in the packet, or else in the standing packet; an empty standing packet is none. Refused with the TAG
 // layer's numbers as every finding is, and then with 60 where the item has neither 16 bits nor 0.
-pub fn read(packet: &[u8], standing: &[u8], repeats: Repeats) -> Bandwidth
+pub fn read(packet: &[u8], standing: &[u8], repeats: Repeats) -> Result<Option<f32>, Refusal>
     ensures { (result ≡ bandwidth_of repeats packet.now standing.now)
         × (bandwidth_number result ≡ bandwidth_call repeats packet.now standing.now) }
 {
-    let l = tag::locate(packet, standing, repeats, RBW);
-    match l {
+    match tag::locate(packet, standing, repeats, RBW)? {
         Located::Packet(i) => held_in(i.bits, tag::value(packet, i)),
         Located::Standing(i) => held_in(i.bits, tag::value(standing, i)),
-        Located::Refused(n) => Bandwidth::Refused(n),
     }
 }
 
 // Writes the item of a figure into the first ten bytes. Refused with 61 where x is no multiple of 1/256 from 0 to 255 + 255/256, or is minus zero; then
 // with 1 where there is no room.
-pub fn write_width(x: f32, out: &mut [u8]) -> Written
+pub fn write_width(x: f32, out: &mut [u8]) -> Result<(), Refusal>
     ensures { outcome (number_of result) out.new ≡ width_call x out.old }
 {
     match widths::whole_of(x) {
-        Whole::Of(n) => {
+        Some(n) => {
             let value = base::bytes2(n);
             write::write(RBW, Bits(RBW_BITS), &value, out)
         }
-        Whole::Nothing => Written::Refused(61),
+        None => Err(Refusal::Figure),
     }
 }
 
 // Writes the item of no figure, of 0 bits, into the first eight bytes, or is refused with 1 where there is no room.
-pub fn write_none(out: &mut [u8]) -> Written
+pub fn write_none(out: &mut [u8]) -> Result<(), Refusal>
     ensures { outcome (number_of result) out.new ≡ none_call out.old }
 {
     let value = [0u8; 0];

@@ -9,6 +9,7 @@ use lib.ListN.{length}
 use borrow.Author.Tests.{eq-eqb, ne_eqb}
 use Rattle.base_rules.specs.Tests.{first, among}
 use Rattle.base_rules.proofs.Logic.{either}
+use Rattle.base_rules.specs.Refusal.{number, told}
 use Rattle.item_rules.specs.declared.Item.{Item}
 use Rattle.item_rules.specs.declared.Repeats.{Repeats}
 use Rattle.item_rules.specs.Run.{bad_ptr, dmy, fault_of, faults_of, forbids, has_name, or_else}
@@ -70,7 +71,7 @@ other_by zero bits none e = (
         (λ f. let q : ◌≡◌ {A = ℕ} 60 0 = rw (f, eq-eqb bits 0 z) at e in omega (arith, q))
 
 pub other_length : OtherLength
-unfolding bandwidth_number bandwidth_call bandwidth_fault
+unfolding bandwidth_number told number bandwidth_call bandwidth_fault
 other_length w s t e =
     other_by (locate_fault w s t rbw) (bits_told s t) (locate_not_60 w s t rbw)
     (refused_by 60 (bandwidth_fault w s t) (bandwidth_values w s t) (sym (ap bandwidth_number e) ∙ read_number w s t)).0

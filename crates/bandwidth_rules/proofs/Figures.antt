@@ -10,11 +10,11 @@ use lib.Ieee.{Float, nan, inf, fin, binary32, up, down, fits, lt}
 use lib.Ieee.Exact.{HasValue}
 use lib.Ieee.Fits.{down_pos}
 use lib.Ieee.Order.{transfer}
+use Rattle.std.specs.Prelude.{Some, None}
 use Rattle.base_rules.proofs.Logic.{either, clash, and_left, and_right}
 use Rattle.item_rules.proofs.Steps.{zero_one}
 use Rattle.bandwidth_rules.specs.Figure.{figures, figure_of, in256ths, is_figure, whole_of}
 use Rattle.bandwidth_rules.specs.Claims.{OnlyFigure, OneFigure, OrderKept, FigureOf, FigureTested, OthersOut, others}
-use Rattle.bandwidth_rules.specs.declared.Whole.TheVariants as whole
 use Rattle.bandwidth_rules.proofs.Exact.{figure_exact, same-value}
 use Rattle.bandwidth_rules.proofs.Range.{figure_fits}
 
@@ -71,31 +71,31 @@ unfolding others is_figure in256ths
 others-out = refl
 
 -- which figure a float is, by what is known of it: it is that of n,
-pub whole_of_lem : (x : Float) (n : ℕ) → T (fits binary32 x) → FigureOf x n → whole.Of n ≡ whole_of x
+pub whole_of_lem : (x : Float) (n : ℕ) → T (fits binary32 x) → FigureOf x n → Some n ≡ whole_of x
 unfolding whole_of
-whole_of_lem x n held f = let t = (figure_tested x held).passes n f in ap whole.Of (sym t.1) ∙ sym (simp t.0)
+whole_of_lem x n held f = let t = (figure_tested x held).passes n f in ap Some (sym t.1) ∙ sym (simp t.0)
 
 -- or of none
-pub whole_none : (x : Float) → T (fits binary32 x) → ((n : ℕ) → FigureOf x n → ⊥) → whole.Nothing ≡ whole_of x
+pub whole_none : (x : Float) → T (fits binary32 x) → ((n : ℕ) → FigureOf x n → ⊥) → None ≡ whole_of x
 unfolding whole_of
 whole_none x held none = either (is_figure x) (λ t. absurd (none _ ((figure_tested x held).is t))) (λ f. sym (simp f))
 
 -- and back
-pub of_whole : (x : Float) (n : ℕ) → whole_of x ≡ whole.Of n → (is_figure x ≡ true) × (in256ths x ≡ n)
+pub of_whole : (x : Float) (n : ℕ) → whole_of x ≡ Some n → (is_figure x ≡ true) × (in256ths x ≡ n)
 unfolding whole_of
 of_whole x n e = either (is_figure x) (λ t. (t, of_is (rw t at e))) (λ f. absurd (of_not (rw f at e)))
   where
-    of_is : {m : ℕ} → whole.Of m ≡ whole.Of n → m ≡ n
+    of_is : {m : ℕ} → Some m ≡ Some n → m ≡ n
     of_is q = cc
 
-    of_not : whole.Nothing ≡ whole.Of n → ⊥
+    of_not : None ≡ Some n → ⊥
     of_not q = zero_one (cc)
 
-pub none_whole : (x : Float) → whole_of x ≡ whole.Nothing → is_figure x ≡ false
+pub none_whole : (x : Float) → whole_of x ≡ None → is_figure x ≡ false
 unfolding whole_of
 none_whole x e = either (is_figure x) (λ t. absurd (of_not (rw t at e))) (λ f. f)
   where
-    of_not : {m : ℕ} → whole.Of m ≡ whole.Nothing → ⊥
+    of_not : {m : ℕ} → Some m ≡ None → ⊥
     of_not q = zero_one (cc)
 
 -- ---- the order

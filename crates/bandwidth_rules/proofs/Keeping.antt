@@ -11,13 +11,13 @@ use lib.Seq.{get_or-append-add}
 use borrow.Author.Tests.{eq-eqb, ne_eqb, eqb-true, ltb-true, ltb-false}
 use lib.Ieee as Ieee
 use lib.Ieee.{Float}
+use Rattle.std.specs.Prelude.{Result, Ok, Err, Option, Some, None}
+use Rattle.base_rules.specs.declared.Refusal.{Refusal}
 use Rattle.base_rules.specs.Tests.{among}
 use Rattle.base_rules.proofs.Logic.{either, clash}
 use Rattle.bandwidth_rules.specs.Figure.{figures, figure_of, in256ths}
 use Rattle.bandwidth_rules.specs.Seen.{no_widths, wider, narrower, with_width, seen_of, seen_all}
 use Rattle.bandwidth_rules.specs.Claims.{sent_in, AllSent, SoFarIs, SoFar}
-use Rattle.bandwidth_rules.specs.declared.Bandwidth.{Bandwidth}
-use Rattle.bandwidth_rules.specs.declared.Bandwidth.TheVariants as bandwidth
 use Rattle.bandwidth_rules.specs.declared.Widths.{Widths}
 use Rattle.bandwidth_rules.proofs.Figures.{figure_tested, order_kept}
 
@@ -134,16 +134,16 @@ so_more v sent n h (some a before l e is w k) =
     simp a (some refl sent n refl refl (wider_best v.widest sent n h w) (narrower_best v.narrowest sent n h k))
 
 -- after any answers
-so_all : (v : Widths) (sent : List ℕ) (answers : List Bandwidth) → AllSent answers → So v sent → So (seen_all v answers) (sent ++ sent_in answers)
+so_all : (v : Widths) (sent : List ℕ) (answers : List (Result (Option Float) Refusal)) → AllSent answers → So v sent → So (seen_all v answers) (sent ++ sent_in answers)
 unfolding seen_all seen_of sent_in
 so_all v sent [] all so = subst (So v) (sym (append-nil sent)) so
-so_all v sent (bandwidth.Width x ∷ more) all so =
+so_all v sent (Ok (Some x) ∷ more) all so =
     let f = (figure_tested x all.0.0).is all.0.1 in
     let n : ℕ = in256ths x in
     let here : So (with_width v x) (sent ++ (n ∷ [])) = subst (λ (y : Float). So (with_width v y) (sent ++ (n ∷ []))) (sym f.1) (so_more v sent n f.0 so) in
     subst (So (seen_all (with_width v x) more)) (append_assoc sent (n ∷ []) (sent_in more)) (so_all (with_width v x) (sent ++ (n ∷ [])) more all.1 here)
-so_all v sent (bandwidth.NotAvailable ∷ more) all so = so_all v sent more all.1 so
-so_all v sent (bandwidth.Refused n ∷ more) all so = so_all v sent more all.1 so
+so_all v sent (Ok None ∷ more) all so = so_all v sent more all.1 so
+so_all v sent (Err n ∷ more) all so = so_all v sent more all.1 so
 
 -- a list with one at its end is not empty
 empty : (before : List ℕ) (n : ℕ) → [] ≡ before ++ (n ∷ []) → ⊥

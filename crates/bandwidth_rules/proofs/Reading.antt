@@ -11,6 +11,11 @@ use borrow.Author.Tests.{eq-eqb, eqb-true, ne_eqb}
 use lib.Ieee.{Float, to_bits, of_bits, binary32}
 use lib.Ieee.Bits.{of_bits-to_bits}
 use lib.Ieee.Exact.{HasValue}
+use Rattle.std.specs.Prelude.{Result, Ok, Err, Option, Some, None}
+use Rattle.base_rules.specs.declared.Refusal.{Refusal}
+use Rattle.base_rules.specs.declared.Refusal.TheVariants as refusal
+use Rattle.base_rules.specs.Refusal.{number, told}
+use Rattle.base_rules.proofs.Answers.{one_refusal}
 use Rattle.base_rules.specs.Answer.{answered}
 use Rattle.base_rules.specs.Bytes.{Bytes, number_at}
 use Rattle.base_rules.specs.Round.{ceil}
@@ -23,18 +28,16 @@ use Rattle.item_rules.specs.Item.{bytes_for}
 use Rattle.item_rules.specs.Run.{or_else}
 use Rattle.item_rules.proofs.Steps.{zero_one}
 use Rattle.tag_rules.specs.Find.{locate_of, value_of, shown_by}
-use Rattle.tag_rules.specs.Calls.{located_number, locate_call, locate_fault, locate_values}
+use Rattle.tag_rules.specs.Calls.{values_at, located_number, locate_call, locate_fault, locate_values}
 use Rattle.tag_rules.specs.declared.Located.{Located}
 use Rattle.tag_rules.specs.declared.Located.TheVariants as located
 use Rattle.tag_rules.specs.Claims.{Shown}
 use Rattle.tag_rules.proofs.Inside.{found_in}
 use Rattle.tag_rules.proofs.Numbers.{locate_number}
 use Rattle.bandwidth_rules.specs.Figure.{figures, figure_of}
-use Rattle.bandwidth_rules.specs.Read.{rbw, rbw_bits, held_in, said_by, bandwidth_of, bandwidth_number, bits_told}
+use Rattle.bandwidth_rules.specs.Read.{rbw, rbw_bits, held_in, pattern_of, said_by, bandwidth_of, bandwidth_number, bits_told}
 use Rattle.bandwidth_rules.specs.Read.{bandwidth_fault, bandwidth_values, bandwidth_call}
 use Rattle.bandwidth_rules.specs.Claims.{Sent, ReadSent, TwoBytes, ReadExact, OneBandwidth}
-use Rattle.bandwidth_rules.specs.declared.Bandwidth.{Bandwidth}
-use Rattle.bandwidth_rules.specs.declared.Bandwidth.TheVariants as bandwidth
 use Rattle.bandwidth_rules.proofs.Exact.{figure_exact}
 use Rattle.bandwidth_rules.proofs.Range.{figure_fits}
 use Rattle.bandwidth_rules.proofs.Figures.{figure_test}
@@ -43,9 +46,9 @@ use Rattle.bandwidth_rules.proofs.Figures.{figure_test}
 
 -- by the two tests of the bits
 held_by : (b c : Bool) (x : Float)
-    → bandwidth_number (cond b (bandwidth.Width x) (cond c bandwidth.NotAvailable (bandwidth.Refused 60)))
+    → bandwidth_number (cond b (Ok (Some x)) (cond c (Ok None) (Err refusal.Width)))
     ≡ answered (first ((not (b || c), 60) ∷ [])) (cond b (to_bits binary32 x ∷ []) [])
-unfolding bandwidth_number answered first
+unfolding bandwidth_number told pattern_of number answered first
 held_by true c x = refl
 held_by false true x = refl
 held_by false false x = refl
@@ -59,16 +62,16 @@ told_held bits value vs e = rw e (held_by (eqb bits rbw_bits) (eqb bits 0) (figu
 
 module _ (s t : List ℕ) where
   -- what is said has the number of the search, or else that of the bits
-  said_number : (l : Located) (fault : ℕ) (vs : List ℕ) → located_number l ≡ answered fault vs → bandwidth_number (said_by s t l)
+  said_number : (l : Result Located Refusal) (fault : ℕ) (vs : List ℕ) → located_number l ≡ answered fault vs → bandwidth_number (said_by s t l)
       ≡ answered (or_else fault (first ((not (eqb (get_or vs 2 0) rbw_bits || eqb (get_or vs 2 0) 0), 60) ∷ [])))
       (cond (eqb (get_or vs 2 0) rbw_bits) (to_bits binary32 (figure_of (number_at 2 (shown_by s t l) 0)) ∷ []) [])
-  unfolding located_number said_by bandwidth_number answered
-  said_number (located.Packet i) zero vs e = told_held i.bits.0 (value_of s i) vs (sym (cc))
-  said_number (located.Packet i) (suc n) vs e = absurd (zero_one (cc))
-  said_number (located.Standing i) zero vs e = told_held i.bits.0 (value_of t i) vs (sym (cc))
-  said_number (located.Standing i) (suc n) vs e = absurd (zero_one (cc))
-  said_number (located.Refused n) zero vs e = absurd (zero_one (cc))
-  said_number (located.Refused n) (suc m) vs e = simp (ne_eqb (suc m) 0 (λ z. omega arith)) e
+  unfolding located_number told values_at said_by bandwidth_number answered
+  said_number (Ok (located.Packet i)) zero vs e = told_held i.bits.0 (value_of s i) vs (sym (cc))
+  said_number (Ok (located.Packet i)) (suc n) vs e = absurd (zero_one (cc))
+  said_number (Ok (located.Standing i)) zero vs e = told_held i.bits.0 (value_of t i) vs (sym (cc))
+  said_number (Ok (located.Standing i)) (suc n) vs e = absurd (zero_one (cc))
+  said_number (Err n) zero vs e = absurd (zero_one (cc))
+  said_number (Err n) (suc m) vs e = simp (ne_eqb (suc m) 0 (λ z. omega arith)) e
 
 module _ (w : Repeats) (s t : List ℕ) where
   -- so is what is read
@@ -77,11 +80,11 @@ module _ (w : Repeats) (s t : List ℕ) where
   read_number = said_number s t (locate_of w s t rbw) (locate_fault w s t rbw) (locate_values s t rbw) (locate_number w s t rbw)
 
   -- so an answer that is the defined one has that number
-  pub read_told : (a : Bandwidth) → a ≡ bandwidth_of w s t → (a ≡ bandwidth_of w s t) × (bandwidth_number a ≡ bandwidth_call w s t)
+  pub read_told : (a : Result (Option Float) Refusal) → a ≡ bandwidth_of w s t → (a ≡ bandwidth_of w s t) × (bandwidth_number a ≡ bandwidth_call w s t)
   read_told a e = (e, ap bandwidth_number e ∙ read_number)
 
   -- the answer is what is said by where the name was found
-  pub read_by : (l : Located) (a : Bandwidth) → l ≡ locate_of w s t rbw → a ≡ said_by s t l → (a ≡ bandwidth_of w s t) × (bandwidth_number a ≡ bandwidth_call w s t)
+  pub read_by : (l : Result Located Refusal) (a : Result (Option Float) Refusal) → l ≡ locate_of w s t rbw → a ≡ said_by s t l → (a ≡ bandwidth_of w s t) × (bandwidth_number a ≡ bandwidth_call w s t)
   unfolding bandwidth_of
   read_by l a p e = read_told a (e ∙ ap (said_by s t) p)
 
@@ -89,41 +92,41 @@ module _ (w : Repeats) (s t : List ℕ) where
 
 module _ (bits : ℕ) (value : List ℕ) where
   -- a figure,
-  pub says_width : (n : ℕ) (x : Float) → bits ≡ rbw_bits → n ≡ number_at 2 value 0 → x ≡ figure_of n → bandwidth.Width x ≡ held_in bits value
+  pub says_width : (n : ℕ) (x : Float) → bits ≡ rbw_bits → n ≡ number_at 2 value 0 → x ≡ figure_of n → Ok (Some x) ≡ held_in bits value
   unfolding held_in
-  says_width n x b e q = ap bandwidth.Width (q ∙ ap figure_of e) ∙ sym (simp (eq-eqb bits rbw_bits b))
+  says_width n x b e q = ap (λ (y : Float). Ok (Some y)) (q ∙ ap figure_of e) ∙ sym (simp (eq-eqb bits rbw_bits b))
 
   -- none available,
-  pub says_none : (bits ≡ rbw_bits → ⊥) → bits ≡ 0 → bandwidth.NotAvailable ≡ held_in bits value
+  pub says_none : (bits ≡ rbw_bits → ⊥) → bits ≡ 0 → Ok None ≡ held_in bits value
   unfolding held_in
   says_none b c = sym (simp (ne_eqb bits rbw_bits b, eq-eqb bits 0 c))
 
   -- or nothing, and is refused
-  pub says_nothing : (bits ≡ rbw_bits → ⊥) → (bits ≡ 0 → ⊥) → bandwidth.Refused 60 ≡ held_in bits value
+  pub says_nothing : (bits ≡ rbw_bits → ⊥) → (bits ≡ 0 → ⊥) → Err refusal.Width ≡ held_in bits value
   unfolding held_in
   says_nothing b c = sym (simp (ne_eqb bits rbw_bits b, ne_eqb bits 0 c))
 
 -- ---- a figure
 
-width_by : (b c : Bool) (x y : Float) → cond b (bandwidth.Width x) (cond c bandwidth.NotAvailable (bandwidth.Refused 60)) ≡ bandwidth.Width y
+width_by : (b c : Bool) (x y : Float) → cond b (Ok (Some x)) (cond c (Ok None) (Err refusal.Width)) ≡ Ok (Some y)
     → (b ≡ true) × (y ≡ x)
 width_by true c x y e = (refl, cc)
 width_by false true x y e = absurd (zero_one (cc))
 width_by false false x y e = absurd (zero_one (cc))
 
-none_by : (b c : Bool) (x : Float) → cond b (bandwidth.Width x) (cond c bandwidth.NotAvailable (bandwidth.Refused 60)) ≡ bandwidth.NotAvailable → c ≡ true
+none_by : (b c : Bool) (x : Float) → cond b (Ok (Some x)) (cond c (Ok None) (Err refusal.Width)) ≡ Ok None → c ≡ true
 none_by true c x e = absurd (zero_one (cc))
 none_by false true x e = refl
 none_by false false x e = absurd (zero_one (cc))
 
 -- an item that says a figure has 16 bits, and the figure is that of its value
-pub held_width : (bits : ℕ) (value : List ℕ) (x : Float) → held_in bits value ≡ bandwidth.Width x → (bits ≡ rbw_bits) × (x ≡ figure_of (number_at 2 value 0))
+pub held_width : (bits : ℕ) (value : List ℕ) (x : Float) → held_in bits value ≡ Ok (Some x) → (bits ≡ rbw_bits) × (x ≡ figure_of (number_at 2 value 0))
 unfolding held_in
 held_width bits value x e =
     let by = width_by (eqb bits rbw_bits) (eqb bits 0) (figure_of (number_at 2 value 0)) x e in (eqb-true bits rbw_bits by.0, by.1)
 
 -- and one that says none has 0
-pub held_none : (bits : ℕ) (value : List ℕ) → held_in bits value ≡ bandwidth.NotAvailable → bits ≡ 0
+pub held_none : (bits : ℕ) (value : List ℕ) → held_in bits value ≡ Ok None → bits ≡ 0
 unfolding held_in
 held_none bits value e = eqb-true bits 0 (none_by (eqb bits rbw_bits) (eqb bits 0) (figure_of (number_at 2 value 0)) e)
 
@@ -140,7 +143,7 @@ two_bytes (a ∷ b ∷ []) e = refl
 two_bytes (a ∷ b ∷ c ∷ v) e = absurd (omega (arith, e))
 
 -- an item that says a figure has the two bytes of it
-held_exact : (s : List ℕ) (i : Item) (x : Float) → Bytes s → Shown s i → held_in i.bits.0 (value_of s i) ≡ bandwidth.Width x → TwoBytes (value_of s i) x
+held_exact : (s : List ℕ) (i : Item) (x : Float) → Bytes s → Shown s i → held_in i.bits.0 (value_of s i) ≡ Ok (Some x) → TwoBytes (value_of s i) x
 unfolding number_at bytes_for ceil
 held_exact s i x bytes shown e =
     let v : List ℕ = value_of s i in
@@ -154,27 +157,27 @@ held_exact s i x bytes shown e =
           (subst (λ (k : ℕ). HasValue (figure_of (number_at 2 v 0)) false k 256) n (figure_exact (number_at 2 v 0) (value_below s i bytes)));
     }
 
-said_exact : (w : Repeats) (s t : List ℕ) (x : Float) → Bytes s → Bytes t → (l : Located) → locate_of w s t rbw ≡ l → said_by s t l ≡ bandwidth.Width x
+said_exact : (w : Repeats) (s t : List ℕ) (x : Float) → Bytes s → Bytes t → (l : Result Located Refusal) → locate_of w s t rbw ≡ l → said_by s t l ≡ Ok (Some x)
     → TwoBytes (shown_by s t l) x
 unfolding said_by
-said_exact w s t x bs bt (located.Packet i) q e = held_exact s i x bs ((found_in w s t rbw i).0 q) e
-said_exact w s t x bs bt (located.Standing i) q e = held_exact t i x bt ((found_in w s t rbw i).1 q) e
-said_exact w s t x bs bt (located.Refused n) q e = absurd (zero_one (cc))
+said_exact w s t x bs bt (Ok (located.Packet i)) q e = held_exact s i x bs ((found_in w s t rbw i).0 q) e
+said_exact w s t x bs bt (Ok (located.Standing i)) q e = held_exact t i x bt ((found_in w s t rbw i).1 q) e
+said_exact w s t x bs bt (Err n) q e = absurd (zero_one (cc))
 
 pub read_exact : ReadExact
 unfolding bandwidth_of
 read_exact w s t x bs bt e = said_exact w s t x bs bt (locate_of w s t rbw) refl e
 
-sent_by : (b c : Bool) (n : ℕ) → n < figures → Sent (cond b (bandwidth.Width (figure_of n)) (cond c bandwidth.NotAvailable (bandwidth.Refused 60)))
+sent_by : (b c : Bool) (n : ℕ) → n < figures → Sent (cond b (Ok (Some (figure_of n))) (cond c (Ok None) (Err refusal.Width)))
 sent_by true c n h = (figure_fits n, (figure_test n h).0)
 sent_by false true n h = tt
 sent_by false false n h = tt
 
-said_sent : (s t : List ℕ) (l : Located) → Bytes s → Bytes t → Sent (said_by s t l)
+said_sent : (s t : List ℕ) (l : Result Located Refusal) → Bytes s → Bytes t → Sent (said_by s t l)
 unfolding said_by held_in
-said_sent s t (located.Packet i) hs ht = sent_by (eqb i.bits.0 rbw_bits) (eqb i.bits.0 0) (number_at 2 (value_of s i) 0) (value_below s i hs)
-said_sent s t (located.Standing i) hs ht = sent_by (eqb i.bits.0 rbw_bits) (eqb i.bits.0 0) (number_at 2 (value_of t i) 0) (value_below t i ht)
-said_sent s t (located.Refused n) hs ht = tt
+said_sent s t (Ok (located.Packet i)) hs ht = sent_by (eqb i.bits.0 rbw_bits) (eqb i.bits.0 0) (number_at 2 (value_of s i) 0) (value_below s i hs)
+said_sent s t (Ok (located.Standing i)) hs ht = sent_by (eqb i.bits.0 rbw_bits) (eqb i.bits.0 0) (number_at 2 (value_of t i) 0) (value_below t i ht)
+said_sent s t (Err n) hs ht = tt
 
 pub read_sent : ReadSent
 unfolding bandwidth_of
@@ -183,15 +186,15 @@ read_sent w s t hs ht = said_sent s t (locate_of w s t rbw) hs ht
 -- ---- no second answer
 
 pub one_bandwidth : OneBandwidth
-unfolding bandwidth_number
-one_bandwidth (bandwidth.Width x) (bandwidth.Width y) p q e =
+unfolding bandwidth_number told pattern_of
+one_bandwidth (Ok (Some x)) (Ok (Some y)) p q e =
     let same : to_bits binary32 x ≡ to_bits binary32 y = cc in
-    ap bandwidth.Width (sym (of_bits-to_bits binary32 x p) ∙ ap (of_bits binary32) same ∙ of_bits-to_bits binary32 y q)
-one_bandwidth (bandwidth.Width x) bandwidth.NotAvailable p q e = absurd (zero_one (cc))
-one_bandwidth (bandwidth.Width x) (bandwidth.Refused n) p q e = absurd (zero_one (cc))
-one_bandwidth bandwidth.NotAvailable (bandwidth.Width y) p q e = absurd (zero_one (cc))
-one_bandwidth bandwidth.NotAvailable bandwidth.NotAvailable p q e = refl
-one_bandwidth bandwidth.NotAvailable (bandwidth.Refused n) p q e = absurd (zero_one (cc))
-one_bandwidth (bandwidth.Refused n) (bandwidth.Width y) p q e = absurd (zero_one (cc))
-one_bandwidth (bandwidth.Refused n) bandwidth.NotAvailable p q e = absurd (zero_one (cc))
-one_bandwidth (bandwidth.Refused n) (bandwidth.Refused m) p q e = cc
+    ap (λ (z : Float). Ok (Some z)) (sym (of_bits-to_bits binary32 x p) ∙ ap (of_bits binary32) same ∙ of_bits-to_bits binary32 y q)
+one_bandwidth (Ok (Some x)) (Ok None) p q e = absurd (zero_one (cc))
+one_bandwidth (Ok (Some x)) (Err n) p q e = absurd (zero_one (cc))
+one_bandwidth (Ok None) (Ok (Some y)) p q e = absurd (zero_one (cc))
+one_bandwidth (Ok None) (Ok None) p q e = refl
+one_bandwidth (Ok None) (Err n) p q e = absurd (zero_one (cc))
+one_bandwidth (Err n) (Ok (Some y)) p q e = absurd (zero_one (cc))
+one_bandwidth (Err n) (Ok None) p q e = absurd (zero_one (cc))
+one_bandwidth (Err n) (Err m) p q e = rw (one_refusal n m cc) refl

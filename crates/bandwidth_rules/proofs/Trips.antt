@@ -6,19 +6,22 @@ use native.Mathlib.Omega.{arith}
 use lib.ListN.{length, take, drop}
 use lib.Seq.{take_all}
 use lib.Ieee.{Float}
+use Rattle.std.specs.Prelude.{Result, Ok, Err, Option, Some, None}
+use Rattle.base_rules.specs.declared.Refusal.{Refusal}
 use Rattle.base_rules.specs.Answer.{granted}
 use Rattle.base_rules.specs.Bytes.{Bytes, number_at, bytes_of}
 use Rattle.base_rules.specs.Round.{ceil}
 use Rattle.base_rules.proofs.ByteLaws.{bytes_take, bytes_drop}
 use Rattle.base_rules.proofs.Numbers.{length-bytes, number_back, bytes_back}
 use Rattle.item_rules.specs.Item.{head, bytes_for, item_at}
+use Rattle.base_rules.specs.Refusal.{told}
 use Rattle.item_rules.specs.declared.Item.{Item}
 use Rattle.item_rules.specs.declared.Repeats.{Repeats}
 use Rattle.item_rules.specs.declared.Repeats.TheVariants.{Forbidden, Allowed}
 use Rattle.item_rules.proofs.Starts.{raw_item}
 use Rattle.item_rules.proofs.Steps.{zero_one}
 use Rattle.tag_rules.specs.Find.{locate_of, value_of, shown_by}
-use Rattle.tag_rules.specs.Calls.{located_number}
+use Rattle.tag_rules.specs.Calls.{values_at, located_number}
 use Rattle.tag_rules.specs.Claims.{Shown}
 use Rattle.tag_rules.specs.declared.Located.{Located}
 use Rattle.tag_rules.specs.declared.Located.TheVariants as located
@@ -33,8 +36,6 @@ use Rattle.bandwidth_rules.specs.Figure.{figure_of, in256ths}
 use Rattle.bandwidth_rules.specs.Read.{rbw, rbw_bits, held_in, said_by, bandwidth_of}
 use Rattle.bandwidth_rules.specs.Write.{width_entry, none_entry}
 use Rattle.bandwidth_rules.specs.Claims.{Placed, ReadsAsItself, NoneReads, StandsAs, WritesBack, NoneBack, ItemsLong}
-use Rattle.bandwidth_rules.specs.declared.Bandwidth.{Bandwidth}
-use Rattle.bandwidth_rules.specs.declared.Bandwidth.TheVariants as bandwidth
 use Rattle.bandwidth_rules.proofs.Figures.{figure_tested, figure_test}
 use Rattle.bandwidth_rules.proofs.Reading.{held_width, held_none, value_below}
 use Rattle.bandwidth_rules.proofs.Named.{Named, named}
@@ -42,12 +43,12 @@ use Rattle.bandwidth_rules.proofs.Named.{Named, named}
 -- ---- written, then read
 
 -- what is said goes by the bits that the search tells and the bytes that it shows
-said_told : (s t : List ℕ) (l : Located) (which name bits : ℕ) (rest : List ℕ) → located_number l ≡ granted (which ∷ name ∷ bits ∷ rest)
+said_told : (s t : List ℕ) (l : Result Located Refusal) (which name bits : ℕ) (rest : List ℕ) → located_number l ≡ granted (which ∷ name ∷ bits ∷ rest)
     → said_by s t l ≡ held_in bits (shown_by s t l)
-unfolding located_number said_by
-said_told s t (located.Packet i) which name bits rest e = ap (λ (b : ℕ). held_in b (value_of s i)) (cc)
-said_told s t (located.Standing i) which name bits rest e = ap (λ (b : ℕ). held_in b (value_of t i)) (cc)
-said_told s t (located.Refused n) which name bits rest e = absurd (zero_one (cc))
+unfolding located_number told values_at said_by
+said_told s t (Ok (located.Packet i)) which name bits rest e = ap (λ (b : ℕ). held_in b (value_of s i)) (cc)
+said_told s t (Ok (located.Standing i)) which name bits rest e = ap (λ (b : ℕ). held_in b (value_of t i)) (cc)
+said_told s t (Err n) which name bits rest e = absurd (zero_one (cc))
 
 -- so an entry of the name that is found as it was written says what its bits and its value do
 module _ (w : Repeats) (before after : List Entry) (e : Entry) (pad standing : List ℕ) (h : Placed w before after e pad standing) (name : e.name ≡ rbw) where
@@ -78,9 +79,9 @@ reads_as_itself w before after x pad standing held t h =
     let is = (figure_tested x held).is t in
     let n : ℕ = in256ths x in
     written_said w before after (width_entry x) pad standing h refl
-    ∙ ap (λ (v : List ℕ). bandwidth.Width (figure_of (number_at 2 v 0))) (whole_kept rbw_bits (bytes_of 2 n) refl ∙ sym (append-nil (bytes_of 2 n)))
-    ∙ ap (λ (k : ℕ). bandwidth.Width (figure_of k)) (number_back 2 n [] is.0)
-    ∙ ap bandwidth.Width (sym is.1)
+    ∙ ap (λ (v : List ℕ). Ok (Some (figure_of (number_at 2 v 0)))) (whole_kept rbw_bits (bytes_of 2 n) refl ∙ sym (append-nil (bytes_of 2 n)))
+    ∙ ap (λ (k : ℕ). Ok (Some (figure_of k))) (number_back 2 n [] is.0)
+    ∙ ap (λ (z : Float). Ok (Some z)) (sym is.1)
 
 pub none_reads : NoneReads
 unfolding held_in
@@ -104,7 +105,7 @@ stands_as s i bits v bytes shown name eb whole ev =
     ∙ sym (append_assoc (bytes_of 4 rbw) (bytes_of 4 bits) (trimmed bits v))
 
 -- the value of an item that says the figure x is the two bytes of its 256ths
-width_stands : (s : List ℕ) (i : Item) (x : Float) → Bytes s → Shown s i → i.name ≡ rbw → held_in i.bits.0 (value_of s i) ≡ bandwidth.Width x
+width_stands : (s : List ℕ) (i : Item) (x : Float) → Bytes s → Shown s i → i.name ≡ rbw → held_in i.bits.0 (value_of s i) ≡ Ok (Some x)
     → StandsAs s i (width_entry x)
 unfolding value_of bytes_for ceil
 width_stands s i x bytes shown name e =
@@ -117,7 +118,7 @@ width_stands s i x bytes shown name e =
     let back : bytes_of 2 n ≡ v = bytes_back 2 v 0 held (omega (arith, two)) ∙ take_all 2 v (omega (arith, two)) in
     stands_as s i rbw_bits (bytes_of 2 (in256ths x)) bytes shown name by.0 refl (sym (ap (bytes_of 2) many ∙ back))
 
-none_stands : (s : List ℕ) (i : Item) → Bytes s → Shown s i → i.name ≡ rbw → held_in i.bits.0 (value_of s i) ≡ bandwidth.NotAvailable
+none_stands : (s : List ℕ) (i : Item) → Bytes s → Shown s i → i.name ≡ rbw → held_in i.bits.0 (value_of s i) ≡ Ok None
     → StandsAs s i none_entry
 unfolding bytes_for ceil
 none_stands s i bytes shown name e =
@@ -129,18 +130,18 @@ none_stands s i bytes shown name e =
     empty (a ∷ v) h = absurd (omega (arith, h))
 
 module _ (w : Repeats) (s t : List ℕ) (i : Item) where
-  said_here : (a : Bandwidth) → bandwidth_of w s t ≡ a → locate_of w s t rbw ≡ located.Packet i → held_in i.bits.0 (value_of s i) ≡ a
+  said_here : (a : Result (Option Float) Refusal) → bandwidth_of w s t ≡ a → locate_of w s t rbw ≡ Ok (located.Packet i) → held_in i.bits.0 (value_of s i) ≡ a
   unfolding bandwidth_of said_by
   said_here a e q = sym (ap (said_by s t) q) ∙ e
 
-  said_there : (a : Bandwidth) → bandwidth_of w s t ≡ a → locate_of w s t rbw ≡ located.Standing i → held_in i.bits.0 (value_of t i) ≡ a
+  said_there : (a : Result (Option Float) Refusal) → bandwidth_of w s t ≡ a → locate_of w s t rbw ≡ Ok (located.Standing i) → held_in i.bits.0 (value_of t i) ≡ a
   unfolding bandwidth_of said_by
   said_there a e q = sym (ap (said_by s t) q) ∙ e
 
-  name_here : locate_of w s t rbw ≡ located.Packet i → i.name ≡ rbw
+  name_here : locate_of w s t rbw ≡ Ok (located.Packet i) → i.name ≡ rbw
   name_here q = subst (Named rbw) q (named rbw w s t)
 
-  name_there : locate_of w s t rbw ≡ located.Standing i → i.name ≡ rbw
+  name_there : locate_of w s t rbw ≡ Ok (located.Standing i) → i.name ≡ rbw
   name_there q = subst (Named rbw) q (named rbw w s t)
 
 pub writes_back : WritesBack

@@ -8,6 +8,7 @@ use native.Mathlib.Omega.{arith}
 use lib.Dec.{ltb}
 use lib.ListN.{length}
 use lib.Ieee.{Float}
+use Rattle.std.specs.Prelude.{Some, None}
 use Rattle.base_rules.specs.Answer.{Outcome, outcome, granted, refused, answer_in, settled}
 use Rattle.base_rules.specs.Bytes.{bytes_of}
 use Rattle.base_rules.specs.Round.{ceil}
@@ -24,7 +25,6 @@ use Rattle.bandwidth_rules.specs.Figure.{in256ths, is_figure, whole_of}
 use Rattle.bandwidth_rules.specs.Read.{rbw, rbw_bits}
 use Rattle.bandwidth_rules.specs.Write.{width_entry, entry_bytes, width_call, none_call}
 use Rattle.bandwidth_rules.specs.Claims.{Figures}
-use Rattle.bandwidth_rules.specs.declared.Whole.TheVariants as whole
 use Rattle.bandwidth_rules.proofs.Figures.{figure_tested, of_whole, none_whole}
 
 -- an item whose value has the bytes of its bits, and that is no bad "*ptr", is refused for room alone
@@ -35,7 +35,7 @@ write_put name bits v out ptr whole =
     simp (same whole, ptr, zero-add, length-item name bits v whole)
 
 -- so is the item of a figure
-pub width_written : (x : Float) (n : ℕ) (v out : List ℕ) (o : Outcome) → whole.Of n ≡ whole_of x → v ≡ bytes_of 2 n
+pub width_written : (x : Float) (n : ℕ) (v out : List ℕ) (o : Outcome) → Some n ≡ whole_of x → v ≡ bytes_of 2 n
     → o ≡ write_call rbw rbw_bits v out → o ≡ width_call x out
 unfolding width_call bad_ptr bytes_for ceil
 width_written x n v out o f ev e =
@@ -49,7 +49,7 @@ unfolding none_call bad_ptr bytes_for ceil
 none_written v out o ev e = e ∙ ap (λ (l : List ℕ). write_call rbw 0 l out) ev ∙ write_put rbw 0 [] out refl refl
 
 -- what is the figure of no number is refused with 61
-pub no_figure : (x : Float) (out : List ℕ) → whole.Nothing ≡ whole_of x → outcome (refused 61) out ≡ width_call x out
+pub no_figure : (x : Float) (out : List ℕ) → None ≡ whole_of x → outcome (refused 61) out ≡ width_call x out
 unfolding width_call
 no_figure x out f = sym (simp (none_whole x (sym f)))
 

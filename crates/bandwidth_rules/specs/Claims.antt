@@ -7,6 +7,9 @@ use Rattle.std.specs.Float.Ieee.Exact.{HasValue}
 use Rattle.base_rules.specs.Answer.{answer_in, refused}
 use Rattle.base_rules.specs.Bytes.{Bytes}
 use Rattle.base_rules.specs.Tests.{among}
+use Rattle.std.specs.Prelude.{Result, Ok, Err, Option, Some, None}
+use Rattle.base_rules.specs.declared.Refusal.{Refusal}
+use Rattle.base_rules.specs.declared.Refusal.TheVariants as refusal
 use Rattle.item_rules.specs.declared.Item.{Item}
 use Rattle.item_rules.specs.declared.Repeats.{Repeats}
 use Rattle.item_rules.specs.declared.Repeats.TheVariants.{Forbidden}
@@ -18,8 +21,6 @@ use Rattle.bandwidth_rules.specs.Figure.{scale, figures, figure_of, in256ths, is
 use Rattle.bandwidth_rules.specs.Read.{rbw, rbw_bits, bandwidth_of, bandwidth_number, bits_told}
 use Rattle.bandwidth_rules.specs.Write.{width_entry, none_entry, entry_bytes, width_call}
 use Rattle.bandwidth_rules.specs.Seen.{no_widths, seen_of, seen_all}
-use Rattle.bandwidth_rules.specs.declared.Bandwidth.{Bandwidth}
-use Rattle.bandwidth_rules.specs.declared.Bandwidth.TheVariants as bandwidth
 use Rattle.bandwidth_rules.specs.declared.Widths.{Widths}
 
 -- ---- the figure
@@ -75,10 +76,10 @@ OthersOut = map is_figure others ≡ replicate (length others) false
 -- ---- reading
 
 -- an answer that says a figure of 16 bits, or none
-abbrev pub Sent : Bandwidth → Type 0
-Sent (bandwidth.Width x) = T (fits binary32 x) × (is_figure x ≡ true)
-Sent bandwidth.NotAvailable = Unit {0}
-Sent (bandwidth.Refused n) = Unit {0}
+abbrev pub Sent : Result (Option Float) Refusal → Type 0
+Sent (Ok (Some x)) = T (fits binary32 x) × (is_figure x ≡ true)
+Sent (Ok None) = Unit {0}
+Sent (Err n) = Unit {0}
 
 -- so does every answer that is read from bytes
 abbrev pub ReadSent : Type 0
@@ -93,22 +94,22 @@ pub record TwoBytes (value : List ℕ) (x : Float) : Type 0 where
 
 -- "the bandwidth as a 32-bit float, exactly equal to the sent figure": so is what is read, by the value that the search for "rbw_" shows
 abbrev pub ReadExact : Type 0
-ReadExact = (w : Repeats) (s t : List ℕ) (x : Float) → Bytes s → Bytes t → bandwidth_of w s t ≡ bandwidth.Width x → TwoBytes (shown_by s t (locate_of w s t rbw)) x
+ReadExact = (w : Repeats) (s t : List ℕ) (x : Float) → Bytes s → Bytes t → bandwidth_of w s t ≡ Ok (Some x) → TwoBytes (shown_by s t (locate_of w s t rbw)) x
 
 -- "60 WIDTH for another bit length", "after the TAG codes": 60 is none of these, so that it says that an item was found which has neither 16 bits nor 0
 abbrev pub OtherLength : Type 0
-OtherLength = (w : Repeats) (s t : List ℕ) → bandwidth_of w s t ≡ bandwidth.Refused 60
+OtherLength = (w : Repeats) (s t : List ℕ) → bandwidth_of w s t ≡ Err refusal.Width
     → (locate_fault w s t rbw ≡ 0) × (bits_told s t ≡ rbw_bits → ⊥) × (bits_told s t ≡ 0 → ⊥)
 
 -- a float in it, if any, is one of 32 bits, as every f32 is
-abbrev pub Of32Bits : Bandwidth → Type 0
-Of32Bits (bandwidth.Width x) = T (fits binary32 x)
-Of32Bits bandwidth.NotAvailable = Unit {0}
-Of32Bits (bandwidth.Refused n) = Unit {0}
+abbrev pub Of32Bits : Result (Option Float) Refusal → Type 0
+Of32Bits (Ok (Some x)) = T (fits binary32 x)
+Of32Bits (Ok None) = Unit {0}
+Of32Bits (Err n) = Unit {0}
 
 -- no second answer fits: two answers with the same number and value are the same answer
 abbrev pub OneBandwidth : Type 0
-OneBandwidth = (a b : Bandwidth) → Of32Bits a → Of32Bits b → bandwidth_number a ≡ bandwidth_number b → a ≡ b
+OneBandwidth = (a b : Result (Option Float) Refusal) → Of32Bits a → Of32Bits b → bandwidth_number a ≡ bandwidth_number b → a ≡ b
 
 -- ---- writing
 
@@ -124,12 +125,12 @@ pub record Placed (w : Repeats) (before after : List Entry) (e : Entry) (pad sta
 -- "a written figure reads as itself": the same float,
 abbrev pub ReadsAsItself : Type 0
 ReadsAsItself = (w : Repeats) (before after : List Entry) (x : Float) (pad standing : List ℕ) → T (fits binary32 x) → is_figure x ≡ true
-    → Placed w before after (width_entry x) pad standing → bandwidth_of w (packet_of (before ++ (width_entry x ∷ after)) pad) standing ≡ bandwidth.Width x
+    → Placed w before after (width_entry x) pad standing → bandwidth_of w (packet_of (before ++ (width_entry x ∷ after)) pad) standing ≡ Ok (Some x)
 
 -- and an item of 0 bits as "not available"
 abbrev pub NoneReads : Type 0
 NoneReads = (w : Repeats) (before after : List Entry) (pad standing : List ℕ)
-    → Placed w before after none_entry pad standing → bandwidth_of w (packet_of (before ++ (none_entry ∷ after)) pad) standing ≡ bandwidth.NotAvailable
+    → Placed w before after none_entry pad standing → bandwidth_of w (packet_of (before ++ (none_entry ∷ after)) pad) standing ≡ Ok None
 
 -- the bytes of p from the start of i on are those of an entry
 abbrev pub StandsAs : List ℕ → Item → Entry → Type 0
@@ -137,13 +138,13 @@ StandsAs p i e = take (length (entry_bytes e)) (drop i.start p) ≡ entry_bytes 
 
 -- "It writes the item back": a figure that was read is written as the ten bytes that it was read from, in the packet that holds them,
 abbrev pub WritesBack : Type 0
-WritesBack = (w : Repeats) (s t : List ℕ) (i : Item) (x : Float) → Bytes s → Bytes t → bandwidth_of w s t ≡ bandwidth.Width x
-    → (locate_of w s t rbw ≡ located.Packet i → StandsAs s i (width_entry x)) × (locate_of w s t rbw ≡ located.Standing i → StandsAs t i (width_entry x))
+WritesBack = (w : Repeats) (s t : List ℕ) (i : Item) (x : Float) → Bytes s → Bytes t → bandwidth_of w s t ≡ Ok (Some x)
+    → (locate_of w s t rbw ≡ Ok (located.Packet i) → StandsAs s i (width_entry x)) × (locate_of w s t rbw ≡ Ok (located.Standing i) → StandsAs t i (width_entry x))
 
 -- and "not available" as the eight
 abbrev pub NoneBack : Type 0
-NoneBack = (w : Repeats) (s t : List ℕ) (i : Item) → Bytes s → Bytes t → bandwidth_of w s t ≡ bandwidth.NotAvailable
-    → (locate_of w s t rbw ≡ located.Packet i → StandsAs s i none_entry) × (locate_of w s t rbw ≡ located.Standing i → StandsAs t i none_entry)
+NoneBack = (w : Repeats) (s t : List ℕ) (i : Item) → Bytes s → Bytes t → bandwidth_of w s t ≡ Ok None
+    → (locate_of w s t rbw ≡ Ok (located.Packet i) → StandsAs s i none_entry) × (locate_of w s t rbw ≡ Ok (located.Standing i) → StandsAs t i none_entry)
 
 -- ten and eight they are
 abbrev pub ItemsLong : Type 0
@@ -152,14 +153,14 @@ ItemsLong = ((x : Float) → length (entry_bytes (width_entry x)) ≡ 10) × (le
 -- ---- the figures so far
 
 -- the numbers of the figures that came, in their order
-unfoldable pub sent_in : List Bandwidth → List ℕ
+unfoldable pub sent_in : List (Result (Option Float) Refusal) → List ℕ
 sent_in [] = []
-sent_in (bandwidth.Width x ∷ more) = in256ths x ∷ sent_in more
-sent_in (bandwidth.NotAvailable ∷ more) = sent_in more
-sent_in (bandwidth.Refused n ∷ more) = sent_in more
+sent_in (Ok (Some x) ∷ more) = in256ths x ∷ sent_in more
+sent_in (Ok None ∷ more) = sent_in more
+sent_in (Err n ∷ more) = sent_in more
 
 -- each answer says a figure, or none
-abbrev pub AllSent : List Bandwidth → Type 0
+abbrev pub AllSent : List (Result (Option Float) Refusal) → Type 0
 AllSent [] = Unit {0}
 AllSent (a ∷ more) = Sent a × AllSent more
 
@@ -174,8 +175,8 @@ pub record SoFarIs (v : Widths) (sent : List ℕ) : Type 0 where
 
 -- "keeps the last figure and shows the widest and narrowest so far"
 abbrev pub SoFar : Type 0
-SoFar = (answers : List Bandwidth) → AllSent answers → SoFarIs (seen_all no_widths answers) (sent_in answers)
+SoFar = (answers : List (Result (Option Float) Refusal)) → AllSent answers → SoFarIs (seen_all no_widths answers) (sent_in answers)
 
 -- ""not available" or a refusal leaves all three as they stood", and the flag, whatever they were
 abbrev pub LeftAsTheyStood : Type 0
-LeftAsTheyStood = (v : Widths) → (seen_of v bandwidth.NotAvailable ≡ v) × ((n : ℕ) → seen_of v (bandwidth.Refused n) ≡ v)
+LeftAsTheyStood = (v : Widths) → (seen_of {E = Refusal} v (Ok None) ≡ v) × ((n : ℕ) → seen_of v (Err n) ≡ v) × ((e : Refusal) → seen_of v (Err e) ≡ v)

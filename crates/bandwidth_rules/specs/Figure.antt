@@ -1,10 +1,9 @@
 -- The figure of "rbw_" as a float of 32 bits (document 004, clause 6.4.3.4; document 02, Item 10). `Float` and its operators are the logic's IEEE 754.
+use Rattle.std.specs.Prelude.{Option, Some, None}
 use Rattle.std.specs.Prelude.{Bool, false, cond, not, ◌&&◌, ℕ, ◌*◌, ◌/◌, ◌%◌, eqb, ltb, pos, Float}
 use Rattle.std.specs.Float.Ieee as Ieee
 use Rattle.std.specs.Float.{nan, inf, fin, binary32}
 use Rattle.std.specs.Float.Ieee.{up, down}
-use Rattle.bandwidth_rules.specs.declared.Whole.{Whole}
-use Rattle.bandwidth_rules.specs.declared.Whole.TheVariants as whole
 
 -- 256.0
 abbrev pub scale : Float
@@ -32,5 +31,5 @@ is_figure (inf s) = false
 is_figure (fin s m e) = not s && eqb (m * up e * 256 % down e) 0 && ltb (in256ths (fin s m e)) figures
 
 -- which figure a float is
-unfoldable pub whole_of : Float → Whole
-whole_of x = cond (is_figure x) (whole.Of (in256ths x)) whole.Nothing
+unfoldable pub whole_of : Float → Option ℕ
+whole_of x = cond (is_figure x) (Some (in256ths x)) None

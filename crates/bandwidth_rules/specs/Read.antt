@@ -2,7 +2,11 @@
 use Rattle.std.specs.Prelude.{cond, not, ◌||◌, List, [], ◌∷◌, ℕ, eqb, get_or}
 use Rattle.std.specs.Float.Ieee.{to_bits}
 use Rattle.std.specs.Float.{binary32}
-use Rattle.base_rules.specs.Answer.{Answer, granted, refused, answered}
+use Rattle.std.specs.Prelude.{Float, Result, Ok, Err, Option, Some, None}
+use Rattle.base_rules.specs.Answer.{Answer, answered}
+use Rattle.base_rules.specs.Refusal.{told}
+use Rattle.base_rules.specs.declared.Refusal.{Refusal}
+use Rattle.base_rules.specs.declared.Refusal.TheVariants as refusal
 use Rattle.base_rules.specs.Bytes.{number_at}
 use Rattle.base_rules.specs.Tests.{first}
 use Rattle.item_rules.specs.Run.{or_else}
@@ -12,8 +16,6 @@ use Rattle.tag_rules.specs.Calls.{locate_fault, locate_values}
 use Rattle.tag_rules.specs.declared.Located.{Located}
 use Rattle.tag_rules.specs.declared.Located.TheVariants as located
 use Rattle.bandwidth_rules.specs.Figure.{figure_of}
-use Rattle.bandwidth_rules.specs.declared.Bandwidth.{Bandwidth}
-use Rattle.bandwidth_rules.specs.declared.Bandwidth.TheVariants as bandwidth
 
 -- the name "rbw_"
 abbrev pub rbw : ℕ
@@ -24,25 +26,28 @@ abbrev pub rbw_bits : ℕ
 rbw_bits = 16
 
 -- what an item of so many bits with that value says: a figure in 16 bits, none available in 0, and 60 WIDTH "for another bit length"
-unfoldable pub held_in : ℕ → List ℕ → Bandwidth
+unfoldable pub held_in : ℕ → List ℕ → Result (Option Float) Refusal
 held_in bits value =
-    cond (eqb bits rbw_bits) (bandwidth.Width (figure_of (number_at 2 value 0))) (cond (eqb bits 0) bandwidth.NotAvailable (bandwidth.Refused 60))
+    cond (eqb bits rbw_bits) (Ok (Some (figure_of (number_at 2 value 0)))) (cond (eqb bits 0) (Ok None) (Err refusal.Width))
 
 -- by where the name was found: the item there, with its value in the packet that holds it; else the TAG layer's refusal
-unfoldable pub said_by : List ℕ → List ℕ → Located → Bandwidth
-said_by s t (located.Packet i) = held_in i.bits.0 (value_of s i)
-said_by s t (located.Standing i) = held_in i.bits.0 (value_of t i)
-said_by s t (located.Refused n) = bandwidth.Refused n
+unfoldable pub said_by : List ℕ → List ℕ → Result Located Refusal → Result (Option Float) Refusal
+said_by s t (Ok (located.Packet i)) = held_in i.bits.0 (value_of s i)
+said_by s t (Ok (located.Standing i)) = held_in i.bits.0 (value_of t i)
+said_by s t (Err n) = Err n
 
 -- document 02: "either the bandwidth .. or "not available", or a refusal"; document 02, Item 1: by the caller's word
-unfoldable pub bandwidth_of : Repeats → List ℕ → List ℕ → Bandwidth
+unfoldable pub bandwidth_of : Repeats → List ℕ → List ℕ → Result (Option Float) Refusal
 bandwidth_of w s t = said_by s t (locate_of w s t rbw)
 
--- document 02's number, and the value, for each case: a figure's is its bit pattern
-unfoldable pub bandwidth_number : Bandwidth → Answer
-bandwidth_number (bandwidth.Width x) = granted (to_bits binary32 x ∷ [])
-bandwidth_number bandwidth.NotAvailable = granted []
-bandwidth_number (bandwidth.Refused n) = refused n
+-- the value of a figure is its bit pattern, and none has no value,
+unfoldable pub pattern_of : Option Float → List ℕ
+pattern_of (Some x) = to_bits binary32 x ∷ []
+pattern_of None = []
+
+-- document 02's number, and the value, for each case
+unfoldable pub bandwidth_number : Result (Option Float) Refusal → Answer
+bandwidth_number r = told pattern_of r
 
 -- the bits of the item that a search tells of, behind which packet it is in and its name
 unfoldable pub bits_told : List ℕ → List ℕ → ℕ

@@ -2,8 +2,8 @@
 use Rattle.std.specs.Prelude.{true, false, cond, List, [], ◌∷◌, pos, Float}
 use Rattle.std.specs.Float.Ieee as Ieee
 use Rattle.std.specs.Float.{fin}
-use Rattle.bandwidth_rules.specs.declared.Bandwidth.{Bandwidth}
-use Rattle.bandwidth_rules.specs.declared.Bandwidth.TheVariants as bandwidth
+use Rattle.std.specs.Prelude.{Result, Ok, Err, Option, Some, None}
+use Rattle.base_rules.specs.declared.Refusal.{Refusal}
 use Rattle.bandwidth_rules.specs.declared.Widths.{Widths}
 
 -- before any has come: 0.0 three times, and the flag says that they are none
@@ -27,13 +27,13 @@ with_width v x = record {
   any = true;
 }
 
--- "not available" or a refusal "leaves all three as they stood"
-unfoldable pub seen_of : Widths → Bandwidth → Widths
-seen_of v (bandwidth.Width x) = with_width v x
-seen_of v bandwidth.NotAvailable = v
-seen_of v (bandwidth.Refused n) = v
+-- "not available" or a refusal, of whatever kind, "leaves all three as they stood"
+unfoldable pub seen_of : {E : Type 0} → Widths → Result (Option Float) E → Widths
+seen_of v (Ok (Some x)) = with_width v x
+seen_of v (Ok None) = v
+seen_of v (Err n) = v
 
 -- after one answer behind the other
-unfoldable pub seen_all : Widths → List Bandwidth → Widths
+unfoldable pub seen_all : Widths → List (Result (Option Float) Refusal) → Widths
 seen_all v [] = v
 seen_all v (a ∷ more) = seen_all (seen_of v a) more

@@ -2,20 +2,7 @@
 // crates `widths` and `bandwidth` have them.
 #![tactic(auto)]
 
-// The bandwidth that was sent, in kHz, as a float of 32 bits; that no figure is available; or the number of the refusal.
-#[derive(Clone, Copy)]
-pub enum Bandwidth {
-    Width(f32),
-    NotAvailable,
-    Refused(u8),
-}
-
-// The number of which a float is the figure, if it is one's.
-#[derive(Clone, Copy)]
-pub enum Whole {
-    Of(u16),
-    Nothing,
-}
+pub use base_rules::Refusal;
 
 // The last figure, the widest and the narrowest so far; and whether any has come. Where none has, the three say nothing.
 #[derive(Clone, Copy)]
@@ -26,9 +13,10 @@ pub struct Widths {
     pub any: bool,
 }
 
-// What a packet answers, and the figures so far with it.
+// What a packet answers: the bandwidth that was sent, in kHz, as a float of 32 bits, or None where no figure is available; and the figures so far with
+// it.
 #[derive(Clone, Copy)]
 pub struct Watched {
-    pub answer: Bandwidth,
+    pub answer: Result<Option<f32>, Refusal>,
     pub widths: Widths,
 }

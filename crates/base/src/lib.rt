@@ -7,16 +7,13 @@ ghost use Rattle.base_rules.specs.Bounds.{bad_k};
 ghost use Rattle.base_rules.specs.Bytes.{number_at, bytes_of};
 ghost use Rattle.base_rules.specs.Written.{number_of, put_of};
 
-pub use base_rules::{LEAST_L, MOST_F, MOST_K, MOST_L, MOST_M, MOST_MTU, PARITY, PLACE, Written};
+pub use base_rules::{LEAST_L, MOST_F, MOST_K, MOST_L, MOST_M, MOST_MTU, PARITY, PLACE, Refusal};
 
 // Whether k is no count of data bytes of a chunk.
 pub fn bad_k(k: usize) -> bool
     ensures { result ≡ bad_k k }
 {
-    if k == 0 {
-        return true;
-    }
-    MOST_K < k
+    k == 0 || MOST_K < k
 }
 
 // The byte at i, and 0 past the end.
@@ -63,41 +60,32 @@ pub fn read4(s: &[u8], i: usize) -> u32
 pub fn bytes2(x: u16) -> [u8; 2]
     ensures { result ≡ bytes_of 2 x }
 {
-    [(x / 256 % 256) as u8, (x % 256) as u8]
-}
-
-// The low byte of a number.
-fn low(x: u32) -> u8
-    ensures { result ≡ x % 256 }
-{
-    (x % 256) as u8
+    u16::to_be_bytes(x)
 }
 
 // The three low bytes of a number.
 pub fn bytes3(x: u32) -> [u8; 3]
     ensures { result ≡ bytes_of 3 x }
 {
-    [low(x / 65536), low(x / 256), low(x)]
+    let [_, high, middle, low] = x.to_be_bytes();
+    [high, middle, low]
 }
 
 // The four bytes of a number.
 pub fn bytes4(x: u32) -> [u8; 4]
     ensures { result ≡ bytes_of 4 x }
 {
-    [low(x / 16777216), low(x / 65536), low(x / 256), low(x)]
+    u32::to_be_bytes(x)
 }
 
 // Copies s into d from `at` on; 1 ROOM where it would pass the end, and then d stays as it is.
-pub fn put(d: &mut [u8], at: usize, s: &[u8]) -> Written
+pub fn put(d: &mut [u8], at: usize, s: &[u8]) -> Result<(), Refusal>
     ensures { outcome (number_of result) d.new ≡ put_of d.old at s.now }
 {
-    if d.len() < at {
-        return Written::Refused(1);
-    }
-    if d.len() - at < s.len() {
-        return Written::Refused(1);
+    if d.len() < at || d.len() - at < s.len() {
+        return Err(Refusal::Room);
     }
     let end = at + s.len();
     d[at..end].copy_from_slice(s);
-    Written::Done
+    Ok(())
 }

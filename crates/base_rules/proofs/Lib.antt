@@ -6,6 +6,8 @@ pub mod Every
 pub mod Firsts
 pub mod Splice
 pub mod Answers
+pub mod ByFault
+pub mod Refusals
 pub mod Tables
 pub mod ByteLaws
 pub mod Parts

@@ -4,4 +4,5 @@ pub mod Tests
 pub mod Table
 pub mod Bytes
 pub mod Answer
+pub mod Refusal
 pub mod Written

@@ -1,15 +1,15 @@
 -- The answer of the calls that only write, and copying into a part of a buffer (document 01, "Numbers given back").
 use Rattle.std.specs.Prelude.{List, [], ◌∷◌, ℕ, ◌+◌, ltb, length}
 use Rattle.base_rules.specs.Tests.{first}
-use Rattle.base_rules.specs.Answer.{Answer, granted, refused, Outcome, settled}
+use Rattle.base_rules.specs.Answer.{Answer, Outcome, settled}
 use Rattle.base_rules.specs.Bytes.{splice}
-use Rattle.base_rules.specs.declared.Written.{Written}
-use Rattle.base_rules.specs.declared.Written.TheVariants.{Done, Refused}
+use Rattle.std.specs.Prelude.{Result}
+use Rattle.base_rules.specs.Refusal.{told}
+use Rattle.base_rules.specs.declared.Refusal.{Refusal}
 
 -- document 01's number for each case
-unfoldable pub number_of : Written → Answer
-number_of Done = granted []
-number_of (Refused n) = refused n
+unfoldable pub number_of : Result (Unit {0}) Refusal → Answer
+number_of r = told (λ u. []) r
 
 -- 1 ROOM where s, laid down from `at` on, would pass the end of d
 unfoldable pub put_fault : List ℕ → ℕ → List ℕ → ℕ

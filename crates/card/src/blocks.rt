@@ -4,19 +4,21 @@ ghost use Rattle.code_rules.specs.Calls.{encode_call};
 ghost use Rattle.card_rules.specs.Told.{CardWritten};
 ghost use Rattle.card_rules.specs.Blocks.{is_kept, kept_of, filled_number, CardFilled};
 
-use crate::written_number;
-use base::MOST_F;
+use crate::{refused, written_number};
+use base::{MOST_F, Refusal};
 use code_decoder::Filled;
 
 // The number of a filling's answer; no refusal has 256 or 257.
-fn filled_number(a: Filled) -> usize
+fn filled_number(a: Result<Filled, Refusal>) -> usize
     ensures { result ≡ filled_number a }
 {
     match a {
-        Filled::Done => 0,
-        Filled::Nothing => 256,
-        Filled::NotEnough => 257,
-        Filled::Refused(n) => n as usize,
+        Ok(filled) => match filled {
+            Filled::Done => 0,
+            Filled::Nothing => 256,
+            Filled::NotEnough => 257,
+        },
+        Err(e) => refused(e),
     }
 }
 
@@ -32,10 +34,8 @@ fn kept_of(bytes: &[u8]) -> [bool; MOST_F]
     ensures { result ≡ kept_of bytes.now }
 {
     let mut kept = [false; MOST_F];
-    let mut i = 0;
-    while i < MOST_F {
-        kept[i] = is_kept(bytes, i);
-        i += 1;
+    for (i, k) in kept.iter_mut().enumerate() {
+        *k = is_kept(bytes, i);
     }
     kept
 }

@@ -2,13 +2,12 @@
 ghost use Rattle.std.specs.Prelude.{◌≡◌};
 ghost use Rattle.card_rules.specs.Calls.{address_of};
 ghost use Rattle.card_rules.specs.Headers.{address_told, header_told, header_widths, parse_for};
-ghost use Rattle.card_rules.specs.inner.Parsed.{parsed_told};
 ghost use Rattle.card_rules.specs.Told.{CardTold};
 
-use crate::telling::tell;
-use crate::{address_of, bit_of};
+use crate::address_of;
+use crate::telling::{Tells, tell_answer};
 use cut::Address;
-use header::{Header, Parsed};
+use header::Header;
 
 // The bytes that parsing tells, and their widths; card_rules/specs/Headers.antt says of what.
 const TOLD_PARSE: usize = 17;
@@ -16,44 +15,34 @@ const TOLD_PARSE: usize = 17;
 const HEADER_WIDTHS: [usize; 11] = [2, 2, 2, 1, 1, 1, 1, 2, 2, 2, 1];
 
 // What is told of an address.
-fn address_values(a: Address) -> [usize; 3]
+fn address_values(a: Option<Address>) -> [usize; 3]
     ensures { result ≡ address_told a }
 {
     match a {
-        Address::None => [0, 0, 0],
-        Address::Pair { source, dest } => [1, source as usize, dest as usize],
+        None => [0, 0, 0],
+        Some(a) => [1, a.source as usize, a.dest as usize],
     }
 }
 
 // What is told of a header.
-fn header_values(h: Header) -> [usize; 11]
-    ensures { result ≡ header_told h }
-{
-    let address = h.address;
-    let a = address_values(address);
-    let length = cut::header_length(h.fec, address);
-    [
-        h.number as usize,
-        h.index as usize,
-        h.count as usize,
-        bit_of(h.fec),
-        h.rsk as usize,
-        h.rsz as usize,
-        a[0],
-        a[1],
-        a[2],
-        h.plen as usize,
-        length,
-    ]
-}
+impl Tells<11> for Header {
+    ghost values = { header_told };
 
-// Tells what reading a header gave, and gives the number of the answer.
-fn tell_parsed(p: Parsed, told: &mut [u8]) -> usize
-    ensures { CardTold header_widths (parsed_told p) told.old told.new result }
-{
-    match p {
-        Parsed::Fragment(h) => tell(told, TOLD_PARSE, &HEADER_WIDTHS, &header_values(h)),
-        Parsed::Refused(n) => n as usize,
+    fn figures(self) -> [usize; 11] {
+        let a = address_values(self.address);
+        [
+            self.number as usize,
+            self.index as usize,
+            self.count as usize,
+            usize::from(self.fec),
+            self.rsk as usize,
+            self.rsz as usize,
+            a[0],
+            a[1],
+            a[2],
+            self.plen as usize,
+            cut::header_length(self.fec, self.address),
+        ]
     }
 }
 
@@ -69,6 +58,10 @@ pub fn bailhammer_parse(
         told.new result }
 {
     let own = address_of(addressed, source, dest);
-    let p = header::parse(own, datagram);
-    tell_parsed(p, told)
+    tell_answer(
+        header::parse(own, datagram),
+        told,
+        TOLD_PARSE,
+        &HEADER_WIDTHS,
+    )
 }

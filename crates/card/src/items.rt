@@ -2,12 +2,12 @@
 ghost use Rattle.std.specs.Prelude.{◌≡◌, ◌∷◌, length};
 ghost use Rattle.base_rules.specs.Bytes.{number_at};
 ghost use Rattle.item_rules.specs.Item.{values_of};
-ghost use Rattle.tag_rules.specs.Calls.{located_number, locate_call, locate_nth_call};
+ghost use Rattle.tag_rules.specs.Calls.{values_at, locate_call, locate_nth_call};
 ghost use Rattle.card_rules.specs.Told.{CardWritten, CardTold};
 ghost use Rattle.card_rules.specs.Items.{repeats_of, found_widths, walker_bytes, walker_bytes_of, walker_from, walk_open_call};
 ghost use Rattle.card_rules.specs.Items.{step_widths, stepped_number, CardStepped};
 
-use crate::telling::tell;
+use crate::telling::{Tells, tell, tell_answer};
 use item::{Item, Repeats};
 use tag::Located;
 use walk::{Handed, LEVELS, Walker};
@@ -51,14 +51,15 @@ fn found_values(which: usize, i: Item) -> [usize; 7]
     ]
 }
 
-// Tells where a name was found, and gives the number of the answer.
-fn tell_found(l: Located, told: &mut [u8]) -> usize
-    ensures { CardTold found_widths (located_number l) told.old told.new result }
-{
-    match l {
-        Located::Packet(i) => tell(told, TOLD_FIND, &FOUND_WIDTHS, &found_values(0, i)),
-        Located::Standing(i) => tell(told, TOLD_FIND, &FOUND_WIDTHS, &found_values(1, i)),
-        Located::Refused(n) => n as usize,
+// What is told of where a name was found.
+impl Tells<7> for Located {
+    ghost values = { values_at };
+
+    fn figures(self) -> [usize; 7] {
+        match self {
+            Located::Packet(i) => found_values(0, i),
+            Located::Standing(i) => found_values(1, i),
+        }
     }
 }
 
@@ -75,7 +76,7 @@ pub fn bailhammer_find(
         told.old told.new result }
 {
     let l = tag::locate(packet, standing, repeats_of(repeats), name);
-    tell_found(l, told)
+    tell_answer(l, told, TOLD_FIND, &FOUND_WIDTHS)
 }
 
 // Finds the occurrence of a name and number, counted from 0, in a packet alone, tells where it is, and gives 0; else the number of the
@@ -91,7 +92,7 @@ pub fn bailhammer_nth(
         told.new result }
 {
     let l = occurrence::locate_nth(packet, repeats_of(repeats), name, number);
-    tell_found(l, told)
+    tell_answer(l, told, TOLD_FIND, &FOUND_WIDTHS)
 }
 
 // Writes a walk as bytes.
@@ -151,27 +152,30 @@ pub fn bailhammer_walk_open(packet: &[u8], names: &[u8], repeats: usize, walker:
     0
 }
 
-// Tells what a step hands out, and gives the number of the answer.
-fn tell_step(h: Handed, told: &mut [u8]) -> usize
+// Tells what a step hands out, and gives the number of the answer. A walk refuses by a number, which C may have made, so this is no answer for
+// `tell_answer`.
+fn tell_step(h: Result<Handed, u8>, told: &mut [u8]) -> usize
     ensures { CardTold step_widths (stepped_number h) told.old told.new result }
 {
     match h {
-        Handed::Item(v) => {
-            let i = v.item;
-            let values = [
-                1,
-                v.depth,
-                i.name as usize,
-                i.bits.0 as usize,
-                i.from,
-                i.len.0,
-                i.start,
-                i.unused.0 as usize,
-            ];
-            tell(told, TOLD_STEP, &STEP_WIDTHS, &values)
-        }
-        Handed::End(p) => tell(told, TOLD_STEP, &STEP_WIDTHS, &[0, 0, 0, 0, 0, p.0, 0, 0]),
-        Handed::Refused(n) => n as usize,
+        Ok(handed) => match handed {
+            Handed::Item(v) => {
+                let i = v.item;
+                let values = [
+                    1,
+                    v.depth,
+                    i.name as usize,
+                    i.bits.0 as usize,
+                    i.from,
+                    i.len.0,
+                    i.start,
+                    i.unused.0 as usize,
+                ];
+                tell(told, TOLD_STEP, &STEP_WIDTHS, &values)
+            }
+            Handed::End(p) => tell(told, TOLD_STEP, &STEP_WIDTHS, &[0, 0, 0, 0, 0, p.0, 0, 0]),
+        },
+        Err(n) => n as usize,
     }
 }
 
@@ -193,11 +197,9 @@ pub fn bailhammer_walk_step(
     }
     let w = walker_from(walker);
     let x = walk::walk_step(packet, names, w);
-    let h = x.handed;
-    let n = tell_step(h, told);
+    let n = tell_step(x.handed, told);
     if n == 0 {
-        let next = x.next;
-        write_walker(walker, next);
+        write_walker(walker, x.next);
     }
     n
 }

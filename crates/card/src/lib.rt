@@ -11,12 +11,12 @@ mod sending;
 mod telling;
 
 ghost use Rattle.std.specs.Prelude.{◌≡◌};
-ghost use Rattle.base_rules.specs.Tests.{bit};
+ghost use Rattle.base_rules.specs.Refusal.{number};
 ghost use Rattle.base_rules.specs.Written.{number_of};
 ghost use Rattle.card_rules.specs.Calls.{address_of};
 ghost use Rattle.card_rules.specs.Told.{refusal_in};
 
-use base::Written;
+use base::Refusal;
 pub use blocks::{bailhammer_encode, bailhammer_fill};
 use cut::Address;
 pub use headers::bailhammer_parse;
@@ -26,29 +26,29 @@ pub use packets::{bailhammer_check, bailhammer_item, bailhammer_wrap};
 pub use receiving::{bailhammer_clear, bailhammer_query, bailhammer_receive};
 pub use sending::{bailhammer_fragment, bailhammer_fragments, bailhammer_plan};
 
+// The number of a refusal, as it is given back.
+fn refused(e: Refusal) -> usize
+    ensures { result ≡ number e }
+{
+    u8::from(e) as usize
+}
+
 // The number of a writing's answer.
-fn written_number(w: Written) -> usize
+fn written_number(w: Result<(), Refusal>) -> usize
     ensures { result ≡ refusal_in (number_of w) }
 {
     match w {
-        Written::Done => 0,
-        Written::Refused(n) => n as usize,
+        Ok(()) => 0,
+        Err(e) => refused(e),
     }
-}
-
-// A flag as a number.
-fn bit_of(flag: bool) -> usize
-    ensures { result ≡ bit flag }
-{
-    if flag { 1 } else { 0 }
 }
 
 // The address, where there is to be one.
-fn address_of(addressed: usize, source: u16, dest: u16) -> Address
+fn address_of(addressed: usize, source: u16, dest: u16) -> Option<Address>
     ensures { result ≡ address_of addressed source dest }
 {
     if addressed == 0 {
-        return Address::None;
+        return None;
     }
-    Address::Pair { source, dest }
+    Some(Address { source, dest })
 }

@@ -6,11 +6,11 @@ ghost use Rattle.card_rules.specs.Told.{CardTold};
 ghost use Rattle.card_rules.specs.Sending.{settings_of};
 ghost use Rattle.card_rules.specs.Endurance.{with_flags, endure_for, endure_widths};
 
-use crate::bit_of;
+use crate::refused;
 use crate::sending::settings_of;
 use crate::telling::tell;
 use base::MOST_F;
-use endurance::{Endurance, Endured};
+use endurance::Endurance;
 
 // The numbers that are told: the losses stood, f, and one for each fragment.
 const FIGURES: usize = 2 + MOST_F;
@@ -18,7 +18,7 @@ const FIGURES: usize = 2 + MOST_F;
 // The bytes that they take.
 const TOLD_ENDURE: usize = 4 + MOST_F;
 
-// The width of each: two bytes for the losses and for f.
+// The width of each: two bytes for the losses and for f. No constant as the other widths are, since they are too many to write out.
 fn widths() -> [usize; FIGURES]
     ensures { result ≡ endure_widths }
 {
@@ -35,25 +35,25 @@ fn figures(most: usize, f: usize, lost: [bool; MOST_F]) -> [usize; FIGURES]
     let mut told = [0; FIGURES];
     told[0] = most;
     told[1] = f;
-    let mut i = 0;
-    while i < MOST_F {
-        told[2 + i] = bit_of(lost[i]);
-        i += 1;
+    for (i, b) in lost.iter().enumerate() {
+        told[2 + i] = usize::from(*b);
     }
     told
 }
 
-// Tells the losses that a cut stands, f and the set, and gives the number of the answer.
+// Tells the losses that a cut stands, f and the set, and gives the number of the answer. The set stands beside the answer and not in it, so
+// `tell_answer` does not know it.
 fn tell_endurance(e: Endurance, told: &mut [u8]) -> usize
     ensures { CardTold endure_widths (with_flags (endurance_of e)) told.old told.new result }
 {
-    let answer = e.answer;
-    let lost = e.lost;
-    match answer {
-        Endured::Losses { most, f } => {
-            tell(told, TOLD_ENDURE, &widths(), &figures(most, f, lost))
-        }
-        Endured::Refused(n) => n as usize,
+    match e.answer {
+        Ok(stood) => tell(
+            told,
+            TOLD_ENDURE,
+            &widths(),
+            &figures(stood.most, stood.f, e.lost),
+        ),
+        Err(by) => refused(by),
     }
 }
 

@@ -1,13 +1,13 @@
 // AF packets and TAG items for C.
 ghost use Rattle.std.specs.Prelude.{not, eqb};
-ghost use Rattle.af_rules.specs.Calls.{wrap_call, check_call};
+ghost use Rattle.af_rules.specs.Calls.{values_of, wrap_call, check_call};
 ghost use Rattle.write_rules.specs.Write.{write_call};
 ghost use Rattle.card_rules.specs.Told.{CardWritten, CardTold};
 ghost use Rattle.card_rules.specs.Packets.{check_widths};
 
-use crate::telling::tell;
-use crate::{bit_of, written_number};
-use af::Checked;
+use crate::telling::{Tells, tell_answer};
+use crate::written_number;
+use af::Figures;
 use item::Bits;
 
 // Writes the AF packet of a payload at the front of out, with a CRC where cf is not 0, and gives 0; else the number of the refusal.
@@ -21,19 +21,25 @@ pub fn bailhammer_wrap(seq: u16, cf: usize, payload: &[u8], out: &mut [u8]) -> u
 // The bytes that a check tells.
 const TOLD_CHECK: usize = 8;
 
+// What is told of a packet that passes.
+impl Tells<4> for Figures {
+    ghost values = { values_of };
+
+    fn figures(self) -> [usize; 4] {
+        [
+            self.seq as usize,
+            usize::from(self.cf),
+            self.minor as usize,
+            self.len as usize,
+        ]
+    }
+}
+
 // Checks an AF packet, tells SEQ, CF, the minor revision and LEN, and gives 0; else the number of the refusal.
 pub fn bailhammer_check(packet: &[u8], told: &mut [u8]) -> usize
     ensures { CardTold check_widths (check_call packet.now) told.old told.new result }
 {
-    let checked = af::check(packet);
-    match checked {
-        Checked::Packet(p) => {
-            let cf = bit_of(p.cf);
-            let figures = [p.seq as usize, cf, p.minor as usize, p.len as usize];
-            tell(told, TOLD_CHECK, &[2, 1, 1, 4], &figures)
-        }
-        Checked::Refused(n) => n as usize,
-    }
+    tell_answer(af::check(packet), told, TOLD_CHECK, &[2, 1, 1, 4])
 }
 
 // Writes a TAG item at the front of out, and gives 0; else the number of the refusal.

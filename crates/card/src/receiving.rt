@@ -3,14 +3,15 @@ ghost use Rattle.std.specs.Prelude.{◌≡◌, ◌≤◌, length};
 ghost use Rattle.card_rules.specs.Told.{told_length, CardWritten, CardTold};
 ghost use Rattle.card_rules.specs.Calls.{address_of};
 ghost use Rattle.card_rules.specs.Receiving.{places_widths, query_for, clear_for, receipt_told, receipt_widths, told_after, CardReceived};
-ghost use Rattle.card_rules.specs.inner.Queried.{seen_told, shown_told, queried_in};
+ghost use Rattle.card_rules.specs.inner.Queried.{seen_told, shown_told};
+ghost use Rattle.card_rules.specs.inner.Receipt.{received_told};
 ghost use Rattle.receiver_rules.specs.Promise.{number_of};
 
-use crate::address_of;
-use crate::telling::tell;
-use base::Written;
-use places::{DELIVERED, Displaced, FREE, OPEN, SPOILED};
-use receiver::{Queried, Received, Seen, Shown};
+use crate::telling::{Tells, tell_answer};
+use crate::{address_of, refused};
+use base::Refusal;
+use places::{DELIVERED, FREE, OPEN, SPOILED};
+use receiver::{Received, Seen, Shown};
 
 // The bytes that an answer tells, and their widths; card_rules/specs/Receiving.antt says of what.
 const TOLD_RECEIVE: usize = 8;
@@ -20,54 +21,46 @@ const RECEIPT_WIDTHS: [usize; 5] = [1, 2, 2, 1, 2];
 // The bytes that a query tells.
 const TOLD_QUERY: usize = 12;
 
-// What is told of an answer.
-fn receipt_values(handed: usize, length: usize, missing: usize, d: Displaced) -> [usize; 5]
+// What is told of a datagram that was received.
+fn receipt_values(handed: usize, length: usize, missing: usize, d: Option<u16>) -> [usize; 5]
     ensures { result ≡ receipt_told handed length missing d }
 {
     match d {
-        Displaced::None => [handed, length, missing, 0, 0],
-        Displaced::Number(n) => [handed, length, missing, 1, n as usize],
+        None => [handed, length, missing, 0, 0],
+        Some(n) => [handed, length, missing, 1, n as usize],
     }
 }
 
-// Tells an answer, and gives its number.
-fn tell_receipt(a: Received, told: &mut [u8]) -> usize
+// That of each answer: a packet is handed out only where it was delivered.
+impl Tells<5> for Received {
+    ghost values = { received_told };
+
+    fn figures(self) -> [usize; 5] {
+        match self {
+            Received::Kept(d) => receipt_values(0, 0, 0, d),
+            Received::Delivered {
+                length,
+                missing,
+                displaced,
+            } => receipt_values(1, length, missing, displaced),
+            Received::Damaged(d) => receipt_values(0, 0, 0, d),
+        }
+    }
+}
+
+// Tells an answer, and gives its number: what is damaged is refused, and yet tells what it displaced.
+fn tell_receipt(a: Result<Received, Refusal>, told: &mut [u8]) -> usize
     requires { told_length receipt_widths ≤ length told.old }
     ensures { (result ≡ (number_of a).0) × (told.new ≡ told_after a told.old) }
 {
+    let n = tell_answer(a, told, TOLD_RECEIVE, &RECEIPT_WIDTHS);
     match a {
-        Received::Kept(d) => {
-            tell(
-                told,
-                TOLD_RECEIVE,
-                &RECEIPT_WIDTHS,
-                &receipt_values(0, 0, 0, d),
-            );
-            0
-        }
-        Received::Delivered {
-            length,
-            missing,
-            displaced,
-        } => {
-            tell(
-                told,
-                TOLD_RECEIVE,
-                &RECEIPT_WIDTHS,
-                &receipt_values(1, length, missing, displaced),
-            );
-            0
-        }
-        Received::Damaged(d) => {
-            tell(
-                told,
-                TOLD_RECEIVE,
-                &RECEIPT_WIDTHS,
-                &receipt_values(0, 0, 0, d),
-            );
-            13
-        }
-        Received::Refused(n) => n as usize,
+        Ok(received) => match received {
+            Received::Kept(_) => n,
+            Received::Delivered { .. } => n,
+            Received::Damaged(_) => 13,
+        },
+        Err(_) => n,
     }
 }
 
@@ -91,15 +84,13 @@ pub fn bailhammer_receive(
         return bailhammer_query(record_bytes, &[], &mut []);
     }
     let unpacked = packed::unpack(record_bytes);
-    let fault = unpacked.answer;
-    match fault {
-        Written::Refused(n) => n as usize,
-        Written::Done => {
+    match unpacked.answer {
+        Err(e) => refused(e),
+        Ok(()) => {
             let own = address_of(addressed, source, dest);
             let reply = receiver::receive(own, unpacked.table, lent, datagram, out);
-            packed::pack(reply.table, record_bytes);
-            let answer = reply.answer;
-            tell_receipt(answer, told)
+            let _ = packed::pack(reply.table, record_bytes);
+            tell_receipt(reply.answer, told)
         }
     }
 }
@@ -117,32 +108,15 @@ fn seen_values(s: Seen) -> [usize; 2]
 }
 
 // That of all four.
-fn shown_values(p: Shown) -> [usize; 8]
-    ensures { result ≡ shown_told p }
-{
-    let first = p.first;
-    let second = p.second;
-    let third = p.third;
-    let fourth = p.fourth;
-    let a = seen_values(first);
-    let b = seen_values(second);
-    let c = seen_values(third);
-    let d = seen_values(fourth);
-    [a[0], a[1], b[0], b[1], c[0], c[1], d[0], d[1]]
-}
+impl Tells<8> for Shown {
+    ghost values = { shown_told };
 
-// Tells what a query shows, and gives the number of its answer.
-fn tell_places(q: Queried, told: &mut [u8]) -> usize
-    ensures { CardTold places_widths (queried_in q) told.old told.new result }
-{
-    match q {
-        Queried::Places(p) => tell(
-            told,
-            TOLD_QUERY,
-            &[1, 2, 1, 2, 1, 2, 1, 2],
-            &shown_values(p),
-        ),
-        Queried::Refused(n) => n as usize,
+    fn figures(self) -> [usize; 8] {
+        let a = seen_values(self.first);
+        let b = seen_values(self.second);
+        let c = seen_values(self.third);
+        let d = seen_values(self.fourth);
+        [a[0], a[1], b[0], b[1], c[0], c[1], d[0], d[1]]
     }
 }
 
@@ -151,12 +125,11 @@ pub fn bailhammer_query(record_bytes: &[u8], lent: &[u8], told: &mut [u8]) -> us
     ensures { CardTold places_widths (query_for record_bytes.now (length lent.now)) told.old told.new result }
 {
     let unpacked = packed::unpack(record_bytes);
-    let fault = unpacked.answer;
-    match fault {
-        Written::Refused(n) => n as usize,
-        Written::Done => {
+    match unpacked.answer {
+        Err(e) => refused(e),
+        Ok(()) => {
             let shown = receiver::query(unpacked.table, lent);
-            tell_places(shown, told)
+            tell_answer(shown, told, TOLD_QUERY, &[1, 2, 1, 2, 1, 2, 1, 2])
         }
     }
 }
@@ -166,16 +139,14 @@ pub fn bailhammer_clear(record_bytes: &mut [u8], lent: &[u8]) -> usize
     ensures { CardWritten (clear_for record_bytes.old (length lent.now)) record_bytes.new result }
 {
     let unpacked = packed::unpack(record_bytes);
-    let fault = unpacked.answer;
-    match fault {
-        Written::Refused(n) => n as usize,
-        Written::Done => {
+    match unpacked.answer {
+        Err(e) => refused(e),
+        Ok(()) => {
             let cleared = receiver::clear(unpacked.table, lent);
-            let answer = cleared.answer;
-            match answer {
-                Written::Refused(n) => n as usize,
-                Written::Done => {
-                    packed::pack(cleared.table, record_bytes);
+            match cleared.answer {
+                Err(e) => refused(e),
+                Ok(()) => {
+                    let _ = packed::pack(cleared.table, record_bytes);
                     0
                 }
             }

@@ -1,14 +1,14 @@
 // The sender for C: the plan of a cut, one fragment, and all of them.
-ghost use Rattle.std.specs.Prelude.{◌≡◌};
-ghost use Rattle.cut_rules.specs.Plan.{plan_of, number_of};
-ghost use Rattle.sender_rules.specs.Calls.{sent_number, fragment_call, all_number, fragments_call};
+ghost use Rattle.std.specs.Prelude.{◌≡◌, [], ◌∷◌};
+ghost use Rattle.cut_rules.specs.Plan.{plan_of, values_of};
+ghost use Rattle.sender_rules.specs.Calls.{fragment_call, split_values, fragments_call};
 ghost use Rattle.card_rules.specs.Told.{CardTold, SentAs};
 ghost use Rattle.card_rules.specs.Sending.{rule_of, settings_of, twos};
 
 use crate::address_of;
-use crate::telling::tell;
-use cut::{Planned, Rule, Settings};
-use sender::{Sent, SentAll};
+use crate::telling::{Tells, tell_answer};
+use cut::{Figures, Rule, Settings};
+use sender::Split;
 
 // The bytes that a plan, a fragment and all fragments tell.
 const TOLD_PLAN: usize = 20;
@@ -27,7 +27,7 @@ fn rule_of(newer: usize) -> Rule
     Rule::Newer
 }
 
-// The settings.
+// The settings, which C hands in one by one.
 pub(crate) fn settings_of(
     fec: usize,
     m: usize,
@@ -48,18 +48,23 @@ pub(crate) fn settings_of(
     }
 }
 
-// Tells the figures of a plan, and gives the number of the answer.
-fn tell_plan(a: Planned, told: &mut [u8]) -> usize
-    ensures { CardTold (twos 10) (number_of a) told.old told.new result }
-{
-    match a {
-        Planned::Cut(p) => {
-            let figures = [
-                p.c, p.k, p.z, p.n, p.h, p.room, p.total, p.f, p.s, p.assured,
-            ];
-            tell(told, TOLD_PLAN, &[2; 10], &figures)
-        }
-        Planned::Refused(n) => n as usize,
+// What is told of a plan.
+impl Tells<10> for Figures {
+    ghost values = { values_of };
+
+    fn figures(self) -> [usize; 10] {
+        [
+            self.c,
+            self.k,
+            self.z,
+            self.n,
+            self.h,
+            self.room,
+            self.total,
+            self.f,
+            self.s,
+            self.assured,
+        ]
     }
 }
 
@@ -76,16 +81,15 @@ pub fn bailhammer_plan(
     ensures { CardTold (twos 10) (plan_of (settings_of fec m newer mtu addressed 0 0) l) told.old told.new result }
 {
     let a = cut::plan(settings_of(fec, m, newer, mtu, addressed, 0, 0), l);
-    tell_plan(a, told)
+    tell_answer(a, told, TOLD_PLAN, &[2; 10])
 }
 
-// Tells the length of a fragment that was written, and gives the number of the answer.
-fn tell_length(a: Sent, told: &mut [u8]) -> usize
-    ensures { CardTold (twos 1) (sent_number a) told.old told.new result }
-{
-    match a {
-        Sent::Fragment(n) => tell(told, TOLD_FRAGMENT, &[2], &[n]),
-        Sent::Refused(n) => n as usize,
+// What is told of a fragment: its length.
+impl Tells<1> for usize {
+    ghost values = { λ n. n ∷ [] };
+
+    fn figures(self) -> [usize; 1] {
+        [self]
     }
 }
 
@@ -111,19 +115,18 @@ pub fn bailhammer_fragment(
     // With no bytes to write in nothing is written, and up to 1 the same is due.
     if told.len() < TOLD_FRAGMENT {
         let none = sender::fragment(g, pseq, packet, index, &mut []);
-        return tell_length(none, told);
+        return tell_answer(none, told, TOLD_FRAGMENT, &[2]);
     }
     let a = sender::fragment(g, pseq, packet, index, out);
-    tell_length(a, told)
+    tell_answer(a, told, TOLD_FRAGMENT, &[2])
 }
 
-// Tells how what was written is split, and gives the number of the answer.
-fn tell_split(a: SentAll, told: &mut [u8]) -> usize
-    ensures { CardTold (twos 4) (all_number a) told.old told.new result }
-{
-    match a {
-        SentAll::Fragments(p) => tell(told, TOLD_FRAGMENTS, &[2; 4], &[p.f, p.h, p.s, p.last]),
-        SentAll::Refused(n) => n as usize,
+// What is told of all fragments: how what was written is split.
+impl Tells<4> for Split {
+    ghost values = { split_values };
+
+    fn figures(self) -> [usize; 4] {
+        [self.f, self.h, self.s, self.last]
     }
 }
 
@@ -148,8 +151,8 @@ pub fn bailhammer_fragments(
     // As in `bailhammer_fragment`.
     if told.len() < TOLD_FRAGMENTS {
         let none = sender::fragments(g, pseq, packet, &mut []);
-        return tell_split(none, told);
+        return tell_answer(none, told, TOLD_FRAGMENTS, &[2; 4]);
     }
     let a = sender::fragments(g, pseq, packet, out);
-    tell_split(a, told)
+    tell_answer(a, told, TOLD_FRAGMENTS, &[2; 4])
 }

@@ -6,6 +6,7 @@ use native.Mathlib.Omega.{arith}
 use borrow.Author.Tests.{eqb-true, eqb-false, ltb-true}
 use lib.Dec.{ltb, eqb}
 use lib.ListN.{length}
+use Rattle.std.specs.Prelude.{Option}
 use Rattle.base_rules.specs.Bounds.{most_f}
 use Rattle.base_rules.proofs.Logic.{either}
 use Rattle.cut_rules.specs.declared.Address.{Address}
@@ -33,7 +34,7 @@ kept-few : (t : Table) (i : ℕ) (p : Place) (h : Header) → Few p → Few (pla
 unfolding kept_in
 kept-few t i p h few = written_or_free t i (kept_in p h) Few few (λ past. omega arith)
 
-module _ (own : Address) (t : Table) (lent : ℕ) (datagram b payload : List ℕ) (room : ℕ)
+module _ (own : Option Address) (t : Table) (lent : ℕ) (datagram b payload : List ℕ) (room : ℕ)
     (passed : receive_fault own t lent datagram room ≡ 0) where
   few_held : (i : ℕ) → i < four → Few (place_at t i)
   few_held i l = (range_from (place_at t i) (place_fine t (fine_table t lent room (room_passed own t lent datagram room passed)) i l)).count
@@ -58,7 +59,7 @@ module _ (own : Address) (t : Table) (lent : ℕ) (datagram b payload : List ℕ
       (λ e. rw e (kept-few t held (place_at t held) h (few_held held (ltb-true held four e))))
       (λ e. rw e (kept-few (turned t (open_at t)) (open_at t) (opened_by h) h few_opened))
 
-counts_few : (own : Address) (s : State) (datagram out : List ℕ) → due_for own s datagram out ≡ 0
+counts_few : (own : Option Address) (s : State) (datagram out : List ℕ) → due_for own s datagram out ≡ 0
     → (place_at (kept_by s datagram).table (kept_by s datagram).at).count ≤ most_f
 counts_few own s datagram out none =
     keep-few own s.table (length s.bytes) datagram s.bytes (payload_of datagram) (length out) none
@@ -68,7 +69,7 @@ unfolding missing_in losses
 missing_most p few = omega (arith, count_le (lost_in p) 0 p.count)
 
 -- so no more can be missing
-pub missing-few : (own : Address) (s : State) (datagram out : List ℕ) → due_for own s datagram out ≡ 0
+pub missing-few : (own : Option Address) (s : State) (datagram out : List ℕ) → due_for own s datagram out ≡ 0
     → missing_in (place_at (kept_by s datagram).table (kept_by s datagram).at) ≤ most_f
 missing-few own s datagram out none =
     missing_most (place_at (kept_by s datagram).table (kept_by s datagram).at) (counts_few own s datagram out none)

@@ -6,7 +6,10 @@ use Prim.Native.Nat.{ℕ, suc, ◌+◌, ◌≤◌, ◌<◌}
 use native.Mathlib.Omega.{arith}
 use lib.ListN.{length, get_or, set, take, drop, replicate, length-map, get_or-append, get_or-map}
 use lib.Seq.{take_all}
+use Rattle.std.specs.Prelude.{Result, Ok, Err}
 use Rattle.base_rules.specs.Answer.{Answer, granted}
+use Rattle.base_rules.specs.Refusal.{number, told}
+use Rattle.base_rules.specs.declared.Refusal.{Refusal}
 use Rattle.base_rules.specs.Bounds.{most_f}
 use Rattle.base_rules.specs.Bytes.{splice, number_at, bytes_of}
 use Rattle.base_rules.specs.Tests.{bit}
@@ -15,10 +18,9 @@ use Rattle.base_rules.proofs.Numbers.{number_back}
 use Rattle.cut_rules.specs.Plan.{plan_fault}
 use Rattle.cut_rules.specs.Sizes.{f}
 use Rattle.cut_rules.proofs.PlanCases.{within}
-use Rattle.endurance_rules.specs.Endure.{stands_of, flagged, losing, endure_call, endured_number, endurance_of}
+use Rattle.endurance_rules.specs.Endure.{stands_of, flagged, losing, endure_call, losses_values, endured_number, endurance_of}
 use Rattle.endurance_rules.specs.declared.Endurance.{Endurance}
-use Rattle.endurance_rules.specs.declared.Endured.{Endured}
-use Rattle.endurance_rules.specs.declared.Endured.TheVariants.{Losses, Refused}
+use Rattle.endurance_rules.specs.declared.Losses.{Losses}
 use Rattle.packed_rules.proofs.FlagLaws.{filled_more, filled_all}
 use Rattle.endurance_rules.proofs.Cuts.{losing-taken}
 use Rattle.endurance_rules.proofs.Flags.{length-flagged}
@@ -73,18 +75,18 @@ module _ (most f : ℕ) (flags : List Bool) where
 
 module _ (e : Endurance) (before : List ℕ) where
   -- what a cut stands is told: w, f and the set
-  pub told_losses : {most f : ℕ} {widths values after : List ℕ} {r : ℕ} → e.answer ≡ Losses most f → widths ≡ endure_widths
-      → values ≡ most ∷ f ∷ map bit e.lost → CardTold widths (granted values) before after r
+  pub told_losses : {x : Losses} {widths values after : List ℕ} {r : ℕ} → e.answer ≡ Ok x → widths ≡ endure_widths
+      → values ≡ x.most ∷ x.f ∷ map bit e.lost → CardTold widths (granted values) before after r
       → CardTold endure_widths (with_flags (endurance_of e)) before after r
-  unfolding with_flags endured_number
+  unfolding with_flags endured_number losses_values told
   told_losses {values = values} {after = after} {r = r} is w v said =
-      told_as endure_widths before (ap granted v ∙ sym (ap (λ (a : Endured). with_flags (endured_number a, e.lost)) is))
+      told_as endure_widths before (ap granted v ∙ sym (ap (λ (a : Result Losses Refusal). with_flags (endured_number a, e.lost)) is))
       (subst (λ (x : List ℕ). CardTold x (granted values) before after r) w said)
 
   -- of a refusal nothing is
-  pub told_nothing : {n : ℕ} → e.answer ≡ Refused n → CardTold endure_widths (with_flags (endurance_of e)) before before n
-  unfolding with_flags endured_number
-  told_nothing is = told_refused endure_widths before (ap (λ (a : Endured). with_flags (endured_number a, e.lost)) is)
+  pub told_nothing : {n : Refusal} → e.answer ≡ Err n → CardTold endure_widths (with_flags (endurance_of e)) before before (number n)
+  unfolding with_flags endured_number losses_values told
+  told_nothing is = told_refused endure_widths before (ap (λ (a : Result Losses Refusal). with_flags (endured_number a, e.lost)) is)
 
 -- ---- what is told, read back
 

@@ -4,30 +4,30 @@ use mathlib.Core.List.{List, [], ◌∷◌, ◌++◌}
 use Prim.Native.Nat.{ℕ, ◌+◌}
 use native.Mathlib.Omega.{arith}
 use lib.ListN.{length, get_or}
+use Rattle.std.specs.Prelude.{Option, Some, None}
 use Rattle.base_rules.specs.Tests.{bit}
 use Rattle.cut_rules.specs.declared.Address.{Address}
-use Rattle.cut_rules.specs.declared.Address.TheVariants.{None, Pair}
 use Rattle.header_rules.specs.declared.Header.{Header}
 use Rattle.header_rules.specs.Read.{parsed_of}
 use Rattle.header_rules.proofs.Numbers.{told_by_lem}
 use Rattle.card_rules.specs.Headers.{address_told, payload_at, header_told, header_widths, parse_for}
 use Rattle.card_rules.specs.inner.Parsed.{parsed_told}
 
-three : (a : Address) (rest : List ℕ) → get_or (address_told a) 0 0 ∷ get_or (address_told a) 1 0 ∷ get_or (address_told a) 2 0 ∷ rest
+three : (a : Option Address) (rest : List ℕ) → get_or (address_told a) 0 0 ∷ get_or (address_told a) 1 0 ∷ get_or (address_told a) 2 0 ∷ rest
     ≡ address_told a ++ rest
 unfolding address_told
 three None rest = refl
-three (Pair source dest) rest = refl
+three (Some a) rest = refl
 
-three_long : (a : Address) (rest : List ℕ) → length (address_told a ++ rest) ≡ 3 + length rest
+three_long : (a : Option Address) (rest : List ℕ) → length (address_told a ++ rest) ≡ 3 + length rest
 unfolding address_told
 three_long None rest = omega arith
-three_long (Pair source dest) rest = omega arith
+three_long (Some a) rest = omega arith
 
-behind_three : (a : Address) (x y : ℕ) → (get_or (address_told a ++ (x ∷ y ∷ [])) 3 0 ≡ x) × (get_or (address_told a ++ (x ∷ y ∷ [])) 4 0 ≡ y)
+behind_three : (a : Option Address) (x y : ℕ) → (get_or (address_told a ++ (x ∷ y ∷ [])) 3 0 ≡ x) × (get_or (address_told a ++ (x ∷ y ∷ [])) 4 0 ≡ y)
 unfolding address_told
 behind_three None x y = (refl, refl)
-behind_three (Pair source dest) x y = (refl, refl)
+behind_three (Some a) x y = (refl, refl)
 
 -- what is told of a header is as many figures as there are widths
 pub eleven_long : (h : Header) → length (header_told h) ≡ length header_widths
@@ -47,6 +47,6 @@ unfolding header_told
 last-two h = behind_three h.address h.plen (payload_at h)
 
 -- what is told of the parser's answer, by the header's fault
-pub parsed_told_lem : (own : Address) (s : List ℕ) → parsed_told (parsed_of own s) ≡ parse_for own s
+pub parsed_told_lem : (own : Option Address) (s : List ℕ) → parsed_told (parsed_of own s) ≡ parse_for own s
 unfolding parse_for parsed_told
-parsed_told_lem own s = told_by_lem parsed_told header_told (λ h. refl) (λ n. refl) own s
+parsed_told_lem own s = told_by_lem own s header_told

@@ -6,17 +6,17 @@ use Prim.Native.Nat.{ℕ, ◌^◌, ◌<◌}
 use native.Mathlib.Omega.{arith}
 use lib.Dec.{lit<}
 use lib.ListN.{get_or, drop}
+use Rattle.std.specs.Prelude.{Option, Some, None, Result, Ok, Err}
 use Rattle.base_rules.specs.Answer.{Answer, granted, refused, answered}
+use Rattle.base_rules.specs.Refusal.{number, told}
+use Rattle.base_rules.specs.declared.Refusal.{Refusal}
 use Rattle.base_rules.specs.Bytes.{Bytes}
 use Rattle.base_rules.specs.Tests.{bit}
 use Rattle.base_rules.proofs.Logic.{either}
 use Rattle.code_rules.proofs.CallCases.{granted_by, refused_by}
 use Rattle.cut_rules.proofs.PlanCases.{length_most}
 use Rattle.cut_rules.specs.declared.Address.{Address}
-use Rattle.cut_rules.specs.declared.Address.TheVariants.{None, Pair}
 use Rattle.header_rules.specs.declared.Header.{Header}
-use Rattle.header_rules.specs.declared.Parsed.{Parsed}
-use Rattle.header_rules.specs.declared.Parsed.TheVariants.{Fragment, Refused}
 use Rattle.header_rules.specs.Claims.{Fitting, Sound}
 use Rattle.header_rules.specs.Read.{has_fec, address_at, fields_of, body_length, length_of, fault_of, parsed_of}
 use Rattle.header_rules.proofs.Proved.{passed_sound, payload_stands}
@@ -43,10 +43,10 @@ few-length h = omega (arith, length_most h.fec h.address)
 few_bit : (b : Bool) → bit b < 256
 few_bit b = omega (arith, at_most b 1)
 
-address_fits : (a : Address) {widths rest : List ℕ} → Fitting a → Fits widths rest → Fits (1 ∷ 2 ∷ 2 ∷ widths) (address_told a ++ rest)
+address_fits : (a : Option Address) {widths rest : List ℕ} → Fitting a → Fits widths rest → Fits (1 ∷ 2 ∷ 2 ∷ widths) (address_told a ++ rest)
 unfolding Fitting address_told
 address_fits None fit more = then (lit< tt) (then (lit< tt) (then (lit< tt) more))
-address_fits (Pair source dest) fit more = then (lit< tt) (then fit.0 (then fit.1 more))
+address_fits (Some a) fit more = then (lit< tt) (then fit.0 (then fit.1 more))
 
 -- what fits the bytes of the figure i
 abbrev below : ℕ → ℕ
@@ -64,14 +64,14 @@ told_fits h sound =
     then written.number (then index (then count (then (few_bit h.fec) (then written.rsk (then written.rsz
     (address_fits h.address written.address behind))))))
 
-parsed_fits : (own : Address) (s : List ℕ) → Bytes s → (x : Parsed) → x ≡ parsed_of own s → (values : List ℕ) → parsed_told x ≡ granted values
+parsed_fits : (own : Option Address) (s : List ℕ) → Bytes s → (x : Result Header Refusal) → x ≡ parsed_of own s → (values : List ℕ) → parsed_told x ≡ granted values
     → Fits header_widths values
-unfolding parsed_told answered
-parsed_fits own s bytes (Fragment h) is values e =
+unfolding parsed_told told answered
+parsed_fits own s bytes (Ok h) is values e =
     let passed = header_passed own s is refl in
     subst (Fits header_widths) (granted_by 0 (header_told h) values e).1
     (told_fits h (subst Sound (sym passed.1) (passed_sound own s bytes passed.0)))
-parsed_fits own s bytes (Refused n) is values e = let z = refused_by n 0 values e in absurd (omega (arith, z.0, z.1))
+parsed_fits own s bytes (Err n) is values e = let z = refused_by (number n) 0 values e in absurd (omega (arith, z.0, z.1))
 
 -- no figure that parsing tells is cut off
 pub header_whole : HeaderWhole
@@ -106,21 +106,23 @@ above_room widths told (granted values) is some =
     (λ e. let z = rw e at is in absurd (omega arith))
 above_room widths told (refused m) is some = ap refused (sym is)
 
-parsed_refused : (x : Parsed) {n : ℕ} → parsed_told x ≡ refused n → x ≡ Refused n
-unfolding parsed_told refusal_in answered
-parsed_refused (Fragment h) {n} e = let z = refused_by n 0 (header_told h) (sym e) in absurd (omega (arith, z.0, z.1))
-parsed_refused (Refused m) e = ap Refused (ap refusal_in e)
+parsed_refused : (x : Result Header Refusal) {n : ℕ} → parsed_told x ≡ refused n → (e : Refusal) × (x ≡ Err e) × (number e ≡ n)
+unfolding parsed_told told refusal_in answered
+parsed_refused (Ok h) {n} e = let z = refused_by n 0 (header_told h) (sym e) in absurd (omega (arith, z.0, z.1))
+parsed_refused (Err m) e = (m, refl, ap refusal_in e)
 
 -- what parsing refuses for its header receiving refuses with the same number, and leaves all that is lent
 pub refused_alike : RefusedAlike
-unfolding promise.reception promise.number_of
+unfolding promise.reception promise.refused_as
 refused_alike own s told told_afterwards n said some before after r ready bytes promised =
-    let due = header_refused own s refl (parsed_refused (parsed_of own s) (parsed_told_lem own s ∙ above_room header_widths told _ said.number some)) in
+    let refusal = parsed_refused (parsed_of own s) (parsed_told_lem own s ∙ above_room header_widths told _ said.number some) in
+    let by = header_refused own s refl refusal.1 in
+    let due : (n ≡ fault_of own s) × (n ≡ 0 → ⊥) = (sym refusal.2 ∙ by.0, (λ z. by.1 (refusal.2 ∙ z))) in
     let state : State = record { table = table_from before.record_bytes; bytes = before.lent } in
     let is : n ≡ due_for own state s before.out = header_due own _ _ s _ refl ready.room due.0 due.1 in
     let p = with_record own s before after r promised ready.taken ready.tells in
-    let refusal = step-refused own state s before.out (λ z. due.1 (is ∙ z)) p.step in
-    let same : r ≡ n = p.number ∙ ap (λ (o : promise.Reception). o.answer.0) refusal ∙ sym is in (
+    let left = step-refused own state s before.out (λ z. due.1 (is ∙ z)) p.step in
+    let same : r ≡ n = p.number ∙ ap (λ (o : promise.Reception). o.answer.0) left ∙ sym is in (
       same,
       refused_unchanged own s before after r bytes promised (λ z. due.1 (sym same ∙ z))
           (λ z. header_other own s (sym due.0 ∙ sym same ∙ z)),

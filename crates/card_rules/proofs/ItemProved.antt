@@ -7,6 +7,9 @@ use native.Mathlib.Omega.{arith}
 use borrow.Author.Tests.{ltb-false}
 use lib.Dec.{eqb, lit<}
 use lib.ListN.{length, get_or}
+use Rattle.base_rules.specs.Refusal.{number, told, told_number}
+use Rattle.base_rules.specs.declared.Refusal.{Refusal}
+use Rattle.std.specs.Prelude.{Result, Ok, Err}
 use Rattle.base_rules.specs.Answer.{Answer, granted, refused, answered}
 use Rattle.base_rules.specs.Bytes.{Bytes, splice, bytes_of}
 use Rattle.base_rules.proofs.Ceil as ceils
@@ -20,7 +23,7 @@ use Rattle.item_rules.proofs.Steps.{end_few}
 use Rattle.tag_rules.specs.declared.Located.{Located}
 use Rattle.tag_rules.specs.declared.Located.TheVariants as located
 use Rattle.tag_rules.specs.Find.{locate_of, locate_nth_of}
-use Rattle.tag_rules.specs.Calls.{located_number, locate_fault, locate_values, locate_call, nth_fault, locate_nth_call}
+use Rattle.tag_rules.specs.Calls.{values_at, located_number, locate_fault, locate_values, locate_call, nth_fault, locate_nth_call}
 use Rattle.tag_rules.proofs.Numbers.{refused_by, locate_number, nth_number}
 use Rattle.tag_rules.proofs.Proved.{found_shown, nth_shown}
 use Rattle.walk_rules.specs.declared.Visit.{Visit}
@@ -98,17 +101,17 @@ module _ (before : List ℕ) (which : ℕ) (i : Item) where
   )
 
 -- wherever it is
-located_read : (l : Located) (before after : List ℕ) (fault : ℕ) (values : List ℕ) → located_number l ≡ answered fault values
-    → ((i : Item) → l ≡ located.Packet i → ItemWhole i) → ((i : Item) → l ≡ located.Standing i → ItemWhole i)
+located_read : (l : Result Located Refusal) (before after : List ℕ) (fault : ℕ) (values : List ℕ) → located_number l ≡ answered fault values
+    → ((i : Item) → l ≡ Ok (located.Packet i) → ItemWhole i) → ((i : Item) → l ≡ Ok (located.Standing i) → ItemWhole i)
     → CardTold found_widths (answered fault values) before after 0 → LocatedRead after l
-unfolding located_number
-located_read (located.Packet i) before after fault values due p q said =
+unfolding located_number values_at told
+located_read (Ok (located.Packet i)) before after fault values due p q said =
     let told = given found_widths (0 ∷ values_of i) before after (subst (λ (a : Answer). CardTold found_widths a before after 0) (sym due) said) in
-    subst (λ (t : List ℕ). LocatedRead t (located.Packet i)) (sym told) (found_read before 0 i (omega arith) (p i refl))
-located_read (located.Standing i) before after fault values due p q said =
+    subst (λ (t : List ℕ). LocatedRead t (Ok (located.Packet i))) (sym told) (found_read before 0 i (omega arith) (p i refl))
+located_read (Ok (located.Standing i)) before after fault values due p q said =
     let told = given found_widths (1 ∷ values_of i) before after (subst (λ (a : Answer). CardTold found_widths a before after 0) (sym due) said) in
-    subst (λ (t : List ℕ). LocatedRead t (located.Standing i)) (sym told) (found_read before 1 i (omega arith) (q i refl))
-located_read (located.Refused n) before after fault values due p q said = not_given found_widths before after n fault values due said
+    subst (λ (t : List ℕ). LocatedRead t (Ok (located.Standing i))) (sym told) (found_read before 1 i (omega arith) (q i refl))
+located_read (Err n) before after fault values due p q said = not_given found_widths before after (number n) fault values due said
 
 -- where a finding gives 0, what is told reads back as which packet and the item there
 pub found_whole : FoundWhole
@@ -129,10 +132,10 @@ nth_whole word packet name number before after bytes long said =
 
 -- ---- one that a step hands out
 
-abbrev HandedWhole : Handed → Type 0
-HandedWhole (handed.Item v) = (v.depth ≤ deepest) × ItemWhole v.item
-HandedWhole (handed.End p) = p.0 < head
-HandedWhole (handed.Refused n) = Unit {0}
+abbrev HandedWhole : Result Handed ℕ → Type 0
+HandedWhole (Ok (handed.Item v)) = (v.depth ≤ deepest) × ItemWhole v.item
+HandedWhole (Ok (handed.End p)) = p.0 < head
+HandedWhole (Err n) = Unit {0}
 
 handed_whole : (s cs ends : List ℕ) → Bytes s → length s < 2 ^ 64 → (d at : ℕ) → d ≤ deepest → HandedWhole (step_from s cs at d ends).handed
 handed_whole s cs ends bytes long =
@@ -147,7 +150,7 @@ module _ (before : List ℕ) (v : Visit) where
   step_told = splice before 0 (in_widths step_widths (1 ∷ v.depth ∷ values_of v.item))
 
   -- 1, the depth and the name, and the item behind them
-  item_read : v.depth ≤ deepest → ItemWhole v.item → HandedRead step_told (handed.Item v)
+  item_read : v.depth ≤ deepest → ItemWhole v.item → HandedRead step_told (Ok (handed.Item v))
   unfolding splice in_widths bytes_of
   item_read shallow w =
       let i : Item = v.item in (
@@ -163,14 +166,14 @@ module _ (before : List ℕ) (v : Visit) where
         },
       )
 
-handed_read : (h : Handed) (before after : List ℕ) (fault : ℕ) (values : List ℕ) → handed_number h ≡ answered fault values → HandedWhole h
+handed_read : (h : Result Handed ℕ) (before after : List ℕ) (fault : ℕ) (values : List ℕ) → handed_number h ≡ answered fault values → HandedWhole h
     → CardTold step_widths (stepped_number h) before after 0 → HandedRead after h
-unfolding handed_number stepped_number
-handed_read (handed.Item v) before after fault values due whole said =
-    subst (λ (t : List ℕ). HandedRead t (handed.Item v)) (sym (given step_widths _ before after said)) (item_read before v whole.0 whole.1)
-handed_read (handed.End p) before after fault values due whole said =
-    subst (λ (t : List ℕ). HandedRead t (handed.End p)) (sym (given step_widths _ before after said)) (whole, end_read before p.0)
-handed_read (handed.Refused n) before after fault values due whole said =
+unfolding handed_number told_number stepped_number
+handed_read (Ok (handed.Item v)) before after fault values due whole said =
+    subst (λ (t : List ℕ). HandedRead t (Ok (handed.Item v))) (sym (given step_widths _ before after said)) (item_read before v whole.0 whole.1)
+handed_read (Ok (handed.End p)) before after fault values due whole said =
+    subst (λ (t : List ℕ). HandedRead t (Ok (handed.End p))) (sym (given step_widths _ before after said)) (whole, end_read before p.0)
+handed_read (Err n) before after fault values due whole said =
     not_given step_widths before after n fault values due (subst (λ (a : Answer). CardTold step_widths a before after 0) due said)
 
 -- where there is room for it
@@ -186,7 +189,7 @@ pub step_whole : StepWhole
 unfolding walk_step_call walk_call refusal_in
 step_whole packet names walker walker-after told told_afterwards bytes long said =
     let w : Walker = walker_from walker in
-    let h : Handed = (stepped packet names walker).handed in
+    let h : Result Handed ℕ = (stepped packet names walker).handed in
     let whole = by_walker (λ (x : Walked). HandedWhole x.handed) packet names w
     (handed_whole packet (names_of names) w.ends bytes long (min w.depth deepest) w.at (omega arith)) (λ n. tt) in
     either (step_room walker told)

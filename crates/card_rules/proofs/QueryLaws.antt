@@ -7,11 +7,12 @@ use native.Mathlib.Omega.{arith}
 use borrow.Author.Tests.{eq-eqb, ne_eqb}
 use lib.Dec.{eqb}
 use lib.ListN.{length, get_or, length-replicate}
+use Rattle.std.specs.Prelude.{Result, Ok, Err}
 use Rattle.base_rules.specs.Answer.{Answer, granted, refused, answered, outcome}
 use Rattle.base_rules.specs.Bounds.{most_l}
 use Rattle.base_rules.specs.Written.{number_of}
-use Rattle.base_rules.specs.declared.Written.{Written}
-use Rattle.base_rules.specs.declared.Written.TheVariants.{Done, Refused}
+use Rattle.base_rules.specs.Refusal.{number, told}
+use Rattle.base_rules.specs.declared.Refusal.{Refusal}
 use Rattle.base_rules.proofs.Answers.{grants, refuses, writes, leaves}
 use Rattle.code_rules.proofs.CallCases.{granted_by, refused_by}
 use Rattle.packed_rules.specs.Packed.{table-bytes, packed_of, pack_call, unpack_call}
@@ -24,8 +25,6 @@ use Rattle.receiver_rules.specs.Calls.{shown_of, seen_values, queried_number, qu
 use Rattle.receiver_rules.specs.declared.Seen.{Seen}
 use Rattle.receiver_rules.specs.declared.Seen.TheVariants as seen
 use Rattle.receiver_rules.specs.declared.Shown.{Shown}
-use Rattle.receiver_rules.specs.declared.Queried.{Queried}
-use Rattle.receiver_rules.specs.declared.Queried.TheVariants as queried
 use Rattle.card_rules.specs.Told.{refusal_in, CardWritten, CardTold}
 use Rattle.card_rules.specs.Receiving.{place_told, places_told, places_widths, query_for, clear_for}
 use Rattle.card_rules.specs.inner.Queried.{seen_told, shown_told, queried_in}
@@ -73,19 +72,19 @@ module _ {A : Type 0} (values told : A → List ℕ) (one : (x : A) (v : List �
       ∙ sym (to_right (told a) (told b) (told c) (told d))
 
 -- what a query is answered, as it is told
-pub query_told : (q : Queried) (t : Table) (lent : ℕ) → queried_number q ≡ query_call t lent
+pub query_told : (q : Result Shown Refusal) (t : Table) (lent : ℕ) → queried_number q ≡ query_call t lent
     → queried_in q ≡ answered (room_fault t lent most_l) (places_told t)
-unfolding queried_number query_call queried_in shown_told places_told
-query_told (queried.Places p) t lent e =
+unfolding queried_number query_call queried_in told shown_told places_told
+query_told (Ok p) t lent e =
     let shown = granted_by (room_fault t lent most_l) _ _ e in
     ap granted
     (sym (four_spread seen_values seen_told seen_spread p.first p.second p.third p.fourth)
     ∙ ap spread shown.1
     ∙ four_spread shown_of place_told place_spread (place_at t 0) (place_at t 1) (place_at t 2) (place_at t 3))
     ∙ grants (room_fault t lent most_l) (places_told t) shown.0
-query_told (queried.Refused n) t lent e =
-    let due = refused_by n (room_fault t lent most_l) _ e in
-    refuses n (room_fault t lent most_l) (places_told t) due.1 due.0
+query_told (Err n) t lent e =
+    let due = refused_by (number n) (room_fault t lent most_l) _ e in
+    refuses (number n) (room_fault t lent most_l) (places_told t) due.1 due.0
 
 -- ---- the values, one by one
 
@@ -109,14 +108,14 @@ eight p ea eb ec ed =
 
 -- ---- the query's ends
 
-module _ (s : List ℕ) (lent : ℕ) (before : List ℕ) (w : Written) (t : Table) (e : (number_of w, t) ≡ unpack_call s) where
+module _ (s : List ℕ) (lent : ℕ) (before : List ℕ) (w : Result (Unit {0}) Refusal) (t : Table) (e : (number_of w, t) ≡ unpack_call s) where
   -- a query of bytes that are no record gives the number of unpacking and tells nothing
-  pub query_refused : (n : ℕ) → w ≡ Refused n → CardTold places_widths (query_for s lent) before before n
+  pub query_refused : (n : Refusal) → w ≡ Err n → CardTold places_widths (query_for s lent) before before (number n)
   unfolding query_for
   query_refused n is = told_refused places_widths before (refused_record s w t e refused _ n is)
 
   -- a query of a record tells what `query` answers of it
-  pub query_done : {after : List ℕ} {r : ℕ} (q : Queried) → w ≡ Done → queried_number q ≡ query_call t lent
+  pub query_done : {after : List ℕ} {r : ℕ} (q : Result Shown Refusal) → w ≡ Ok tt → queried_number q ≡ query_call t lent
       → CardTold places_widths (queried_in q) before after r → CardTold places_widths (query_for s lent) before after r
   unfolding query_for
   query_done q is asked said = told_as places_widths before (query_told q t lent asked ∙ sym (taken_record s w t e refused _ is)) said
@@ -126,29 +125,29 @@ module _ (s : List ℕ) (lent : ℕ) (before : List ℕ) (w : Written) (t : Tabl
 fresh_length : length (packed_of fresh_table) ≡ table-bytes
 fresh_length = ap length fresh_zeros ∙ length-replicate {A = ℕ} table-bytes 0
 
-module _ (s : List ℕ) (lent : ℕ) (w : Written) (t : Table) (e : (number_of w, t) ≡ unpack_call s) where
+module _ (s : List ℕ) (lent : ℕ) (w : Result (Unit {0}) Refusal) (t : Table) (e : (number_of w, t) ≡ unpack_call s) where
   -- a clearing of bytes that are no record gives the number of unpacking and leaves them
-  pub clear_no_record : (n : ℕ) → w ≡ Refused n → CardWritten (clear_for s lent) s n
+  pub clear_no_record : (n : Refusal) → w ≡ Err n → CardWritten (clear_for s lent) s (number n)
   unfolding clear_for refusal_in
-  clear_no_record n is = handed_on {a = refused n} (sym (refused_record s w t e _ _ n is)) refl
+  clear_no_record n is = handed_on {a = refused (number n)} (sym (refused_record s w t e _ _ n is)) refl
 
-  module _ (v : Written) (x : Table) (cleared : (number_of v, x) ≡ clear_call t lent) (is : w ≡ Done) where
+  module _ (v : Result (Unit {0}) Refusal) (x : Table) (cleared : (number_of v, x) ≡ clear_call t lent) (is : w ≡ Ok tt) where
     due : number_of v ≡ answered (room_fault t lent most_l) []
     unfolding clear_call
     due = ap (λ (y : Answer × Table). y.0) cleared
 
     -- a clearing that `clear` refuses gives its number and leaves the bytes of the record
-    pub clear_refused : (n : ℕ) → v ≡ Refused n → CardWritten (clear_for s lent) s n
-    unfolding clear_for refusal_in number_of
+    pub clear_refused : (n : Refusal) → v ≡ Err n → CardWritten (clear_for s lent) s (number n)
+    unfolding clear_for refusal_in number_of told
     clear_refused n is-v =
-        let by = refused_by n (room_fault t lent most_l) [] (sym (ap number_of is-v) ∙ due) in
-        handed_on {a = refused n}
-        (leaves n (room_fault t lent most_l) [] (packed_of fresh_table) s by.1 by.0 ∙ sym (taken_record s w t e _ _ is))
+        let by = refused_by (number n) (room_fault t lent most_l) [] (sym (ap number_of is-v) ∙ due) in
+        handed_on {a = refused (number n)}
+        (leaves (number n) (room_fault t lent most_l) [] (packed_of fresh_table) s by.1 by.0 ∙ sym (taken_record s w t e _ _ is))
         refl
 
     -- a clearing that is not refused gives 0 and leaves the bytes of a fresh record
-    pub clear_done : (after : List ℕ) (u : Written) → v ≡ Done → outcome (number_of u) after ≡ pack_call x s → CardWritten (clear_for s lent) after 0
-    unfolding clear_for clear_call refusal_in number_of
+    pub clear_done : (after : List ℕ) (u : Result (Unit {0}) Refusal) → v ≡ Ok tt → outcome (number_of u) after ≡ pack_call x s → CardWritten (clear_for s lent) after 0
+    unfolding clear_for clear_call refusal_in number_of told
     clear_done after u is-v packed =
         let fault : ℕ = room_fault t lent most_l in
         let by = granted_by fault [] [] (sym (ap number_of is-v) ∙ due) in

@@ -12,13 +12,14 @@ use denote.Shadow.{shadow}
 use lib.Dec.{ltb, eqb}
 use lib.ListN.{length, get_or}
 use mir.Val.{Val}
+use Rattle.std.specs.Prelude.{Option, Result, Ok, Err}
 use Rattle.base_rules.specs.Answer.{Answer, answered, outcome, bytes_in}
 use Rattle.base_rules.specs.Bounds.{most_l}
 use Rattle.base_rules.specs.Bytes.{splice}
 use Rattle.base_rules.specs.Tests.{first}
 use Rattle.base_rules.specs.Written.{number_of}
-use Rattle.base_rules.specs.declared.Written.{Written}
-use Rattle.base_rules.specs.declared.Written.TheVariants.{Done, Refused}
+use Rattle.base_rules.specs.Refusal.{number, told}
+use Rattle.base_rules.specs.declared.Refusal.{Refusal}
 use Rattle.base_rules.proofs.Firsts.{clear}
 use Rattle.base_rules.proofs.Logic.{either}
 use Rattle.code_rules.proofs.CallCases.{granted_by, refused_by}
@@ -84,7 +85,7 @@ long_record s none =
     (not-false (eqb (length s) table-bytes) (clear (not (eqb (length s) table-bytes)) 1 ((bad_record s, 14) ∷ []) (λ (e : 1 ≡ 0). omega arith) none))
 
 -- and what is packed there is all of it
-pub packed_there : (t : Table) (s y : List ℕ) (w : Written) → length (packed_of t) ≡ table-bytes → length s ≡ table-bytes
+pub packed_there : (t : Table) (s y : List ℕ) (w : Result (Unit {0}) Refusal) → length (packed_of t) ≡ table-bytes → length s ≡ table-bytes
     → outcome (number_of w) y ≡ pack_call t s → y ≡ packed_of t
 unfolding pack_call bytes_in
 packed_there t s y w long as_long e =
@@ -95,29 +96,29 @@ packed_there t s y w long as_long e =
 
 -- ---- the ends of the calls
 
-module _ (s : List ℕ) (w : Written) (t : Table) (e : (number_of w, t) ≡ unpack_call s) where
+module _ (s : List ℕ) (w : Result (Unit {0}) Refusal) (t : Table) (e : (number_of w, t) ≡ unpack_call s) where
   answer_is : number_of w ≡ answered (unpack_fault s) []
   unfolding unpack_call
   answer_is = ap (λ (x : Answer × Table). x.0) e
 
   -- bytes that unpacking refuses end the call with the number it gave
-  pub refused_record {ℓ} : {A : Type ℓ} (refusal : ℕ → A) (call : Table → A) (n : ℕ) → w ≡ Refused n → on_record s refusal call ≡ refusal n
-  unfolding number_of on_record
+  pub refused_record {ℓ} : {A : Type ℓ} (refusal : ℕ → A) (call : Table → A) (n : Refusal) → w ≡ Err n → on_record s refusal call ≡ refusal (number n)
+  unfolding number_of told on_record
   refused_record refusal call n is =
-      let due = refused_by n (unpack_fault s) [] (sym (ap number_of is) ∙ answer_is) in
+      let due = refused_by (number n) (unpack_fault s) [] (sym (ap number_of is) ∙ answer_is) in
       let some : unpack_fault s ≡ 0 → ⊥ = λ z. omega (arith, due.0, due.1) in
       ap (λ (b : Bool). cond b (call (table_from s)) (refusal (unpack_fault s))) (ne_eqb (unpack_fault s) 0 some) ∙ ap refusal (sym due.0)
 
   -- bytes that unpacking takes have no fault, and what it gave is the record in them
-  pub good_record : w ≡ Done → (unpack_fault s ≡ 0) × (t ≡ table_from s)
-  unfolding number_of unpack_call
+  pub good_record : w ≡ Ok tt → (unpack_fault s ≡ 0) × (t ≡ table_from s)
+  unfolding number_of told unpack_call
   good_record is =
       let none : unpack_fault s ≡ 0 = sym (granted_by (unpack_fault s) [] [] (sym (ap number_of is) ∙ answer_is)).0 in
       let there : t ≡ cond (eqb (unpack_fault s) 0) (table_from s) fresh_table = ap (λ (x : Answer × Table). x.1) e in
       (none, there ∙ ap (λ (b : Bool). cond b (table_from s) fresh_table) (eq-eqb (unpack_fault s) 0 none))
 
   -- with bytes that unpacking takes, the call goes on with the record it gave
-  pub taken_record {ℓ} : {A : Type ℓ} (refusal : ℕ → A) (call : Table → A) → w ≡ Done → on_record s refusal call ≡ call t
+  pub taken_record {ℓ} : {A : Type ℓ} (refusal : ℕ → A) (call : Table → A) → w ≡ Ok tt → on_record s refusal call ≡ call t
   unfolding on_record
   taken_record refusal call is =
       let good = good_record is in
@@ -128,7 +129,7 @@ unfolding room_fault bad_room short_fault first answered room_for refusal_in
 asked_short t = either (bad_table t) (λ e. rw e refl) (λ e. rw e refl)
 
 -- a receiving with too few bytes to tell in gives the number of a query with none lent, and changes nothing
-pub receive_short : (own : Address) (datagram : List ℕ) (before after : Held) (r : ℕ) {told : List ℕ}
+pub receive_short : (own : Option Address) (datagram : List ℕ) (before after : Held) (r : ℕ) {told : List ℕ}
     → length before.told < told_length receipt_widths → CardTold places_widths (query_for before.record_bytes 0) [] told r → after ≡ before
     → CardReceived own datagram before after r
 unfolding CardReceived on_record query_for room_for refusal_in
@@ -139,15 +140,15 @@ receive_short own datagram before after r short asked same =
     (λ e. rw (e, none) ((rw e at number) ∙ asked_short (table_from before.record_bytes), same))
     (λ e. rw e (rw e at number, same))
 
-module _ (own : Address) (datagram : List ℕ) (before after : Held) (r : ℕ) (w : Written) (x : Table)
+module _ (own : Option Address) (datagram : List ℕ) (before after : Held) (r : ℕ) (w : Result (Unit {0}) Refusal) (x : Table)
     (e : (number_of w, x) ≡ unpack_call before.record_bytes) where
   -- a receiving with bytes that are no record gives the number of unpacking and changes nothing
-  pub receive_refused : w ≡ Refused r → after ≡ before → CardReceived own datagram before after r
+  pub receive_refused : (n : Refusal) → w ≡ Err n → r ≡ number n → after ≡ before → CardReceived own datagram before after r
   unfolding CardReceived
-  receive_refused is same = subst (λ (X : Type 0). X) (sym (refused_record before.record_bytes w x e _ _ r is)) (refl, same)
+  receive_refused n is number_is same = subst (λ (X : Type 0). X) (sym (refused_record before.record_bytes w x e _ _ n is)) (number_is, same)
 
   -- a receiving that fits the promise of `receive`, packed again and told, fits that of the call for C
-  pub received_there : (o : Address) (v : Written) (t : Table) (a : Received) → w ≡ Done → o ≡ own
+  pub received_there : (o : Option Address) (v : Result (Unit {0}) Refusal) (t : Table) (a : Result Received Refusal) → w ≡ Ok tt → o ≡ own
       → Step o (record { table = x; bytes = before.lent }) datagram before.out (promise.reception a t after.lent after.out)
       → TypedTable t → outcome (number_of v) after.record_bytes ≡ pack_call t before.record_bytes
       → told_length receipt_widths ≤ length before.told
@@ -161,7 +162,7 @@ module _ (own : Address) (datagram : List ℕ) (before after : Held) (r : ℕ) (
       let with_record : ReceivedWith own datagram before after r x = record {
         answer = a;
         table = t;
-        step = subst (λ (z : Address). Step z (record { table = x; bytes = before.lent }) datagram before.out y) is-own step;
+        step = subst (λ (z : Option Address). Step z (record { table = x; bytes = before.lent }) datagram before.out y) is-own step;
         packed = there;
         read_back = ap unpack_call there ∙ unpacks t typed;
         told = said.1;

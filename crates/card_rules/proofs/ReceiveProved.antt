@@ -1,13 +1,15 @@
 -- The claims of specs/Claims.antt on the receiver. Assumes nothing.
 use mathlib.Core.Path.{◌≡◌, refl, sym, ap, ◌∙◌, subst}
 use mathlib.Core.Bool.{false}
-use mathlib.Core.List.{List, []}
+use mathlib.Core.List.{List, [], ◌∷◌}
 use mathlib.Core.Logic.{◌⊎◌, inl, inr}
 use Prim.Native.Nat.{ℕ, zero, suc, ◌<◌, ◌≤◌}
 use native.Mathlib.Omega.{arith}
 use borrow.Author.Tests.{eqb-true, eqb-false, eq-eqb, ne_eqb, ltb-true, ltb-false, lt-ltb, le-ltb}
 use lib.Dec.{eqb, lit<}
 use lib.ListN.{length, length-replicate, get_or-replicate}
+use Rattle.base_rules.specs.declared.Refusal.{Refusal}
+use Rattle.std.specs.Prelude.{Option, Result, Ok, Err, Some, None}
 use Rattle.base_rules.specs.Answer.{refused, Outcome, outcome, settled, answer_in, bytes_in}
 use Rattle.base_rules.specs.Bounds.{most_f, most_l}
 use Rattle.base_rules.specs.Bytes.{Bytes, splice}
@@ -18,12 +20,11 @@ use Rattle.packed_rules.specs.Claims.{Typed, TypedTable}
 use Rattle.packed_rules.proofs.Proved.{unpacks, packs, fresh_zeros}
 use Rattle.places_rules.specs.Places.{four, free_place, fresh_table, place_at}
 use Rattle.places_rules.specs.declared.Table.{Table}
-use Rattle.places_rules.specs.declared.Displaced.{Displaced}
 use Rattle.receiver_rules.specs.Promise as promise
 use Rattle.receiver_rules.specs.Promise.{State, room_fault, Settled, waits, delivers, damaged}
 use Rattle.receiver_rules.specs.Claims.{due_for}
 use Rattle.receiver_rules.specs.declared.Received.{Received}
-use Rattle.receiver_rules.specs.declared.Received.TheVariants.{Kept, Delivered, Damaged, Refused}
+use Rattle.receiver_rules.specs.declared.Received.TheVariants.{Kept, Delivered, Damaged}
 use Rattle.receiver_rules.proofs.Proved.{one_reception, one_received, delivery_writes, count_told}
 use Rattle.receiver_rules.proofs.Unique.{step-settled, step-refused}
 use Rattle.card_rules.specs.Told.{refusal_in, in_widths, told_length, too_short}
@@ -96,7 +97,7 @@ cases before none short full =
     either (too_short receipt_widths before.told) (λ l. short good (ltb-true _ _ l)) (λ l. full good (ltb-false _ _ l)))
     (λ e. none (eqb-false (unpack_fault before.record_bytes) 0 e))
 
-module _ (own : Address) (datagram : List ℕ) (before after : Held) (r : ℕ) (promised : CardReceived own datagram before after r) where
+module _ (own : Option Address) (datagram : List ℕ) (before after : Held) (r : ℕ) (promised : CardReceived own datagram before after r) where
   -- a record and room: `receive` meets its promise
   pub with_record : unpack_fault before.record_bytes ≡ 0 → told_length receipt_widths ≤ length before.told
       → ReceivedWith own datagram before after r (table_from before.record_bytes)
@@ -125,7 +126,7 @@ same_held h k a b c d =
     ∙ ap (λ (x : List ℕ). held k.record_bytes k.lent x h.out) c
     ∙ ap (λ (x : List ℕ). held k.record_bytes k.lent k.told x) d
 
-module _ (own : Address) (datagram : List ℕ) (before after after' : Held) (r r' : ℕ) (t : Table) where
+module _ (own : Option Address) (datagram : List ℕ) (before after after' : Held) (r r' : ℕ) (t : Table) where
   one_with : ReceivedWith own datagram before after r t → ReceivedWith own datagram before after' r' t → (after ≡ after') × (r ≡ r')
   unfolding promise.reception
   one_with p q =
@@ -136,9 +137,9 @@ module _ (own : Address) (datagram : List ℕ) (before after after' : Held) (r r
         same_held after after'
             (p.packed ∙ ap (λ (o : promise.Reception). packed_of o.table) same ∙ sym q.packed)
             (ap (λ (o : promise.Reception). o.bytes) same)
-            (p.told ∙ ap (λ (a : Received). told_after a before.told) answers ∙ sym q.told)
+            (p.told ∙ ap (λ (a : Result Received Refusal). told_after a before.told) answers ∙ sym q.told)
             (ap (λ (o : promise.Reception). o.out) same),
-        p.number ∙ ap (λ (a : Received). (promise.number_of a).0) answers ∙ sym q.number,
+        p.number ∙ ap (λ (a : Result Received Refusal). (promise.number_of a).0) answers ∙ sym q.number,
       )
 
 same_refusal : {before after after' : Held} {r r' n : ℕ} → RefusedWith before after r n → RefusedWith before after' r' n → (after ≡ after') × (r ≡ r')
@@ -155,14 +156,31 @@ one_receipt own datagram before after after' r r' p q =
     (with_record own datagram before after' r' q good room))
 
 -- what settles is answered with 0 or 13
-settles : {t : Table} {i : ℕ} {d : Displaced} {b out : List ℕ} {y : promise.Reception} → Settled t i d b out y → (y.answer.0 ≡ 0 → ⊥)
+settles : {t : Table} {i : ℕ} {d : Option ℕ} {b out : List ℕ} {y : promise.Reception} → Settled t i d b out y → (y.answer.0 ≡ 0 → ⊥)
     → (y.answer.0 ≡ 13 → ⊥) → ⊥
 unfolding promise.reception promise.number_of
 settles (waits e) p q = p refl
 settles (delivers P e a) p q = p refl
 settles (damaged e a) p q = q refl
 
-module _ (own : Address) (datagram : List ℕ) (before after : Held) (r : ℕ) (bytes : Bytes before.record_bytes)
+-- what carries a value is no number alone
+alone : {P : Type 0} {m n x : ℕ} {v : List ℕ} → ◌≡◌ {A = ℕ × List ℕ} (m, x ∷ v) (n, []) → P
+alone {m = m} {n} {x} {v} e =
+    let none : x ∷ v ≡ [] = ap (λ (p : ℕ × List ℕ). p.1) e in
+    let z : ◌≡◌ {A = ℕ} 0 1 = cc in
+    absurd (omega arith)
+
+-- an answer of a number alone tells nothing
+untold : (a : Result Received Refusal) (before : List ℕ) {n : ℕ} → promise.number_of a ≡ (n, []) → told_after a before ≡ before
+unfolding promise.number_of promise.displaced_values told_after
+untold (Ok (Kept None)) before e = alone e
+untold (Ok (Kept (Some n))) before e = alone e
+untold (Ok (Delivered l m d)) before e = alone e
+untold (Ok (Damaged None)) before e = alone e
+untold (Ok (Damaged (Some n))) before e = alone e
+untold (Err e) before is = refl
+
+module _ (own : Option Address) (datagram : List ℕ) (before after : Held) (r : ℕ) (bytes : Bytes before.record_bytes)
     (none : unpack_fault before.record_bytes ≡ 0)
     (p : ReceivedWith own datagram before after r (table_from before.record_bytes)) where
   state : State
@@ -174,14 +192,13 @@ module _ (own : Address) (datagram : List ℕ) (before after : Held) (r : ℕ) (
   due : ℕ
   due = due_for own state datagram before.out
 
-  refused_as : left ≡ promise.reception (Refused due) (table_from before.record_bytes) before.lent before.out → after ≡ before
-  unfolding promise.reception left told_after
+  refused_as : left ≡ promise.refused_as due (table_from before.record_bytes) before.lent before.out → after ≡ before
+  unfolding promise.reception promise.refused_as left
   refused_as same =
-      let answer : p.answer ≡ Refused due = one_received p.answer (Refused due) (ap (λ (o : promise.Reception). o.answer) same) in
       same_held after before
       (p.packed ∙ ap (λ (o : promise.Reception). packed_of o.table) same ∙ packs before.record_bytes bytes none)
       (ap (λ (o : promise.Reception). o.bytes) same)
-      (p.told ∙ ap (λ (a : Received). told_after a before.told) answer)
+      (p.told ∙ untold p.answer before.told (ap (λ (o : promise.Reception). o.answer) same))
       (ap (λ (o : promise.Reception). o.out) same)
 
   unchanged : (r ≡ 0 → ⊥) → (r ≡ 13 → ⊥) → after ≡ before
@@ -207,9 +224,9 @@ refusal : {P : Type 0} {r n : ℕ} → r ≡ n → (n ≡ 0 → ⊥) → Not13 n
 refusal is some other (inl z) = absurd (some (sym is ∙ z))
 refusal is some other (inr z) = absurd (other (sym is ∙ z))
 
-module _ (own : Address) (datagram : List ℕ) (before after : Held) (r : ℕ) (t : Table) (p : ReceivedWith own datagram before after r t)
+module _ (own : Option Address) (datagram : List ℕ) (before after : Held) (r : ℕ) (t : Table) (p : ReceivedWith own datagram before after r t)
     (room : told_length receipt_widths ≤ length before.told) where
-  says : (handed l missing : ℕ) (d : Displaced) (a : Received) → p.answer ≡ a
+  says : (handed l missing : ℕ) (d : Option ℕ) (a : Result Received Refusal) → p.answer ≡ a
       → told_after a before.told ≡ splice before.told 0 (in_widths receipt_widths (receipt_told handed l missing d))
       → Shown before.out after.out handed l → Said before after
   unfolding told_length
@@ -219,27 +236,27 @@ module _ (own : Address) (datagram : List ℕ) (before after : Held) (r : ℕ) (
     missing = missing;
     displaced = d;
     room = omega arith;
-    told = p.told ∙ ap (λ (x : Received). told_after x before.told) is ∙ tells;
+    told = p.told ∙ ap (λ (x : Result Received Refusal). told_after x before.told) is ∙ tells;
     shown = shown;
   }
 
-  settled_says : {t : Table} {i : ℕ} {d : Displaced} {b : List ℕ} {y : promise.Reception} → Settled t i d b before.out y
+  settled_says : {t : Table} {i : ℕ} {d : Option ℕ} {b : List ℕ} {y : promise.Reception} → Settled t i d b before.out y
       → y ≡ promise.reception p.answer p.table after.lent after.out → Said before after
   unfolding promise.reception told_after
   settled_says {d = d} (waits e) is =
-      says 0 0 0 d (Kept d) (one_received p.answer (Kept d) (sym (ap (λ (o : promise.Reception). o.answer) is))) refl
+      says 0 0 0 d (Ok (Kept d)) (one_received p.answer (Ok (Kept d)) (sym (ap (λ (o : promise.Reception). o.answer) is))) refl
       (only_kept (sym (ap (λ (o : promise.Reception). o.out) is)))
   settled_says {d = d} (delivers P e a) is =
-      says 1 (length P) _ d (Delivered (length P) _ d)
-      (one_received p.answer (Delivered (length P) _ d) (sym (ap (λ (o : promise.Reception). o.answer) is)))
+      says 1 (length P) _ d (Ok (Delivered (length P) _ d))
+      (one_received p.answer (Ok (Delivered (length P) _ d)) (sym (ap (λ (o : promise.Reception). o.answer) is)))
       refl
       (handed_out P (sym (ap (λ (o : promise.Reception). o.out) is)))
   settled_says {d = d} (damaged e a) is =
-      says 0 0 0 d (Damaged d) (one_received p.answer (Damaged d) (sym (ap (λ (o : promise.Reception). o.answer) is))) refl
+      says 0 0 0 d (Ok (Damaged d)) (one_received p.answer (Ok (Damaged d)) (sym (ap (λ (o : promise.Reception). o.answer) is))) refl
       (only_kept (sym (ap (λ (o : promise.Reception). o.out) is)))
 
   said : (r ≡ 0) ⊎ (r ≡ 13) → Said before after
-  unfolding promise.reception promise.number_of
+  unfolding promise.reception promise.refused_as promise.number_of
   said given =
       let state : State = record { table = t; bytes = before.lent } in
       let due : ℕ = due_for own state datagram before.out in
@@ -265,7 +282,7 @@ no_silence own datagram before after r p given =
 
 -- a delivery tells a length of at most 8,192, and at most 256 fragments not held
 pub receipt_whole : ReceiptWhole
-unfolding promise.reception
+unfolding promise.refused_as promise.number_of
 receipt_whole own s datagram out y step l m d q =
     let due : ℕ = due_for own s datagram out in (
       (delivery_writes own s datagram out y step l m d q).most,
@@ -273,7 +290,5 @@ receipt_whole own s datagram out y step l m d q =
           (λ e. omega (arith, (count_told own s datagram out y step l m d q).0, missing-few own s datagram out (eqb-true due 0 e)))
           (λ e.
           let is = ap (λ (o : promise.Reception). o.answer) (step-refused own s datagram out (eqb-false due 0 e) step) in
-          let same : Refused due ≡ Delivered l m d = one_received (Refused due) (Delivered l m d) (sym is ∙ q) in
-          let z : ◌≡◌ {A = ℕ} 0 1 = cc in
-          absurd (omega arith)),
+          alone (sym q ∙ is)),
     )

@@ -5,6 +5,7 @@ use mathlib.Core.List.{List, [], ◌∷◌}
 use Prim.Native.Nat.{ℕ}
 use native.Mathlib.Omega.{arith}
 use lib.Dec.{ltb}
+use Rattle.std.specs.Prelude.{Option}
 use Rattle.base_rules.specs.Tests.{first}
 use Rattle.base_rules.proofs.Logic.{either}
 use Rattle.cut_rules.specs.declared.Address.{Address}
@@ -32,7 +33,7 @@ more true n ts here rest = here
 more false n ts here rest = rest
 
 -- neither the checks of a header give it,
-pub header_other : (own : Address) (datagram : List ℕ) → Not13 (fault_of own datagram)
+pub header_other : (own : Option Address) (datagram : List ℕ) → Not13 (fault_of own datagram)
 unfolding fault_of
 header_other own datagram =
     more _ 2 _ (λ e. omega arith)
@@ -55,7 +56,7 @@ held_other t h =
     either (ltb held four) (λ e. rw e (place_other (place_at t held) h)) (λ e. rw e (λ z. omega arith))
 
 -- nor those of a datagram in all,
-pub receive_other : (own : Address) (t : Table) (lent : ℕ) (datagram : List ℕ) (room : ℕ) → Not13 (receive_fault own t lent datagram room)
+pub receive_other : (own : Option Address) (t : Table) (lent : ℕ) (datagram : List ℕ) (room : ℕ) → Not13 (receive_fault own t lent datagram room)
 unfolding receive_fault room_fault
 receive_other own t lent datagram room =
     more _ _ _ (more _ 14 _ (λ e. omega arith) (more _ 1 _ (λ e. omega arith) last))

@@ -7,6 +7,7 @@ use Prim.Native.Nat.{ℕ, zero, suc, ◌+◌, ◌^◌, ◌<◌, ◌≤◌, min}
 use native.Mathlib.Omega.{arith}
 use lib.Dec.{ltb, lit<}
 use lib.ListN.{length, get_or, set, replicate, length-set}
+use Rattle.base_rules.specs.Refusal as refusals
 use Rattle.base_rules.specs.Bytes.{bytes_of}
 use Rattle.base_rules.specs.Tests.{among}
 use Rattle.base_rules.proofs.Numbers.{back_at}
@@ -133,10 +134,10 @@ abbrev Numbered : Walked → Type 0
 Numbered x = (number x ≡ 0) ⊎ (number x ≡ 30)
 
 numbered : (s cs ends : List ℕ) (d at : ℕ) → Numbered (step_from s cs at d ends)
-unfolding refusal_in stepped_number
+unfolding refusal_in stepped_number refusals.number
 numbered s cs ends d at =
     by_steps s cs ends Numbered (λ (a b : ℕ). Unit {0}) (λ a b i q e. inl refl) (λ a p q e. inl refl)
-    (λ a b n q e. inr (refused_is s a (end_of s ends b) n e)) (λ a b q. tt) d at tt
+    (λ a b n q e. inr (ap refusals.number (refused_is s a (end_of s ends b) n e))) (λ a b q. tt) d at tt
 
 module _ (packet names walker told : List ℕ) (long : length walker ≡ walker_bytes) (fits : told_length step_widths ≤ length told) where
   -- the number of the call is that of the step, and the walk in the bytes is not refused

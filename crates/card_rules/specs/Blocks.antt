@@ -1,5 +1,6 @@
 -- What the filling's call for C answers, as card.h says it: the answer of `code_decoder::fill` as one number, and what is kept as bytes.
-use Rattle.std.specs.Prelude.{◌≡◌, Bool, not, List, [], ◌∷◌, ℕ, zero, suc, eqb, get_or}
+use Rattle.base_rules.specs.declared.Refusal.{Refusal}
+use Rattle.std.specs.Prelude.{◌≡◌, Bool, not, List, [], ◌∷◌, ℕ, zero, suc, eqb, get_or, Result}
 use Rattle.base_rules.specs.Bounds.{most_f}
 use Rattle.base_rules.specs.Answer.{Answer, granted, refused}
 use Rattle.code_rules.specs.Calls.{number_of, BlockFilled}
@@ -25,11 +26,11 @@ one_number (granted (v ∷ values)) = v
 one_number (refused n) = n
 
 -- that of a filling: 256 and 257 are its values
-abbrev pub filled_number : Filled → ℕ
+abbrev pub filled_number : Result Filled Refusal → ℕ
 filled_number a = one_number (number_of a)
 
 -- `code_decoder::fill` was answered, and r is the number of its answer
 pub record CardFilled (kept : List ℕ) (f s k : ℕ) (block after : List ℕ) (r : ℕ) : Type 0 where
-  pub answer : Filled
+  pub answer : Result Filled Refusal
   pub left : BlockFilled (kept_of kept) f s k block after answer
   pub number : r ≡ filled_number answer

@@ -1,5 +1,6 @@
 -- What is claimed of the calls for C, in the words of card.h: the proofs are in proofs/Proved.antt.
-use Rattle.std.specs.Prelude.{◌≡◌, List, [], ◌∷◌, ◌++◌, ◌⊎◌, ℕ, ◌+◌, ◌^◌, ◌<◌, ◌≤◌, length, get_or, take, drop, replicate}
+use Rattle.base_rules.specs.declared.Refusal.{Refusal}
+use Rattle.std.specs.Prelude.{◌≡◌, List, [], ◌∷◌, ◌++◌, ◌⊎◌, ℕ, ◌+◌, ◌^◌, ◌<◌, ◌≤◌, length, get_or, take, drop, replicate, Option, Result, Ok, Err}
 use Rattle.base_rules.specs.Answer.{granted, answer_in}
 use Rattle.base_rules.specs.Bounds.{most_f, most_l}
 use Rattle.base_rules.specs.Bytes.{Bytes, splice, number_at, bytes_of}
@@ -13,7 +14,6 @@ use Rattle.endurance_rules.specs.Endure.{stands_of}
 use Rattle.sender_rules.specs.Calls.{fragment_call, fragments_call}
 use Rattle.packed_rules.specs.Packed.{table-bytes, table_from, unpack_fault, unpack_call}
 use Rattle.places_rules.specs.Places.{fresh_table}
-use Rattle.places_rules.specs.declared.Displaced.{Displaced}
 use Rattle.receiver_rules.specs.Promise.{number_of, Reception, room_fault, payload_of, State, Step}
 use Rattle.receiver_rules.specs.declared.Received.TheVariants.{Delivered}
 use Rattle.item_rules.specs.declared.Item.{Item}
@@ -82,13 +82,13 @@ ClearedZeros = (before after : List ℕ) (lent : ℕ) → CardWritten (clear_for
 -- document 01, "What a promise has to say here": no second outcome fits the promise of a receiving, neither what is lent after it nor its number
 abbrev pub OneReceipt : Type 0
 OneReceipt =
-    (own : Address) (datagram : List ℕ) (before after after' : Held) (r r' : ℕ)
+    (own : Option Address) (datagram : List ℕ) (before after after' : Held) (r r' : ℕ)
     → CardReceived own datagram before after r → CardReceived own datagram before after' r' → (after ≡ after') × (r ≡ r')
 
 -- card.h, "Where the number is neither 0, 13 nor 256, no byte lent is changed": the record too, which is packed again, is the bytes it was
 abbrev pub RefusedUnchanged : Type 0
 RefusedUnchanged =
-    (own : Address) (datagram : List ℕ) (before after : Held) (r : ℕ) → Bytes before.record_bytes
+    (own : Option Address) (datagram : List ℕ) (before after : Held) (r : ℕ) → Bytes before.record_bytes
     → CardReceived own datagram before after r → (r ≡ 0 → ⊥) → (r ≡ 13 → ⊥) → after ≡ before
 
 -- what is told of a packet: with 1 its length, and it stands at the front of out; with 0 none was handed out, and out stays
@@ -101,7 +101,7 @@ pub record Said (before after : Held) : Type 0 where
   pub handed : ℕ
   pub l : ℕ
   pub missing : ℕ
-  pub displaced : Displaced
+  pub displaced : Option ℕ
   pub room : told_length receipt_widths ≤ length before.told
   pub told : after.told ≡ splice before.told 0 (in_widths receipt_widths (receipt_told handed l missing displaced))
   pub shown : Shown before.out after.out handed l
@@ -109,14 +109,14 @@ pub record Said (before after : Held) : Type 0 where
 -- card.h, "So a packet that is handed out is always told": a receiving that gives 0 or 13 has told its 8 bytes
 abbrev pub NoSilence : Type 0
 NoSilence =
-    (own : Address) (datagram : List ℕ) (before after : Held) (r : ℕ) → CardReceived own datagram before after r
+    (own : Option Address) (datagram : List ℕ) (before after : Held) (r : ℕ) → CardReceived own datagram before after r
     → (r ≡ 0) ⊎ (r ≡ 13) → Said before after
 
 -- card.h, "its length (2), how many of its fragments are not held (2)": at most 8,192 and 256, neither is cut off
 abbrev pub ReceiptWhole : Type 0
 ReceiptWhole =
-    (own : Address) (s : State) (datagram out : List ℕ) (y : Reception) → Step own s datagram out y
-    → (l m : ℕ) (d : Displaced) → y.answer ≡ number_of (Delivered l m d)
+    (own : Option Address) (s : State) (datagram out : List ℕ) (y : Reception) → Step own s datagram out y
+    → (l m : ℕ) (d : Option ℕ) → y.answer ≡ number_of (Ok (Delivered l m d))
     → (l ≤ most_l) × (m ≤ most_f)
 
 -- ---- a header, read before its datagram is received
@@ -128,13 +128,13 @@ pub data Fits : List ℕ → List ℕ → Type 0 where
 
 -- clause 7.1: no field of a header is cut off where it is told, nor is its length
 abbrev pub HeaderWhole : Type 0
-HeaderWhole = (own : Address) (datagram values : List ℕ) → Bytes datagram → parse_for own datagram ≡ granted values → Fits header_widths values
+HeaderWhole = (own : Option Address) (datagram values : List ℕ) → Bytes datagram → parse_for own datagram ≡ granted values → Fits header_widths values
 
 -- card.h, "where the payload begins": what a receiving keeps of the datagram stands from the last figure told on, and the figure before it,
 -- Plen, is how many bytes that is, to the datagram's end
 abbrev pub PayloadBegins : Type 0
 PayloadBegins =
-    (own : Address) (datagram values : List ℕ) → parse_for own datagram ≡ granted values
+    (own : Option Address) (datagram values : List ℕ) → parse_for own datagram ≡ granted values
     → (drop (get_or values 10 0) datagram ≡ payload_of datagram) × (get_or values 10 0 + get_or values 9 0 ≡ length datagram)
 
 -- a record that is taken, and of each kind of bytes as many as a receiving asks for
@@ -146,7 +146,7 @@ pub record Ready (before : Held) : Type 0 where
 -- what parsing refuses for its header, with a number above 1, receiving refuses with the same number and changes nothing
 abbrev pub RefusedAlike : Type 0
 RefusedAlike =
-    (own : Address) (datagram told told_afterwards : List ℕ) (n : ℕ) → CardTold header_widths (parse_for own datagram) told told_afterwards n → 1 < n
+    (own : Option Address) (datagram told told_afterwards : List ℕ) (n : ℕ) → CardTold header_widths (parse_for own datagram) told told_afterwards n → 1 < n
     → (before after : Held) (r : ℕ) → Ready before → Bytes before.record_bytes → CardReceived own datagram before after r
     → RefusedWith before after r n
 
@@ -201,10 +201,10 @@ pub record ItemRead (told : List ℕ) (at : ℕ) (i : Item) : Type 0 where
   pub unused : number_at 1 told (at + 24) ≡ i.unused.0
 
 -- card.h, "0 where it is in the packet, 1 where in the standing packet (1)", and the item there
-abbrev pub LocatedRead : List ℕ → Located → Type 0
-LocatedRead told (located.Packet i) = (get_or told 0 0 ≡ 0) × ItemRead told 1 i
-LocatedRead told (located.Standing i) = (get_or told 0 0 ≡ 1) × ItemRead told 1 i
-LocatedRead told (located.Refused n) = ⊥
+abbrev pub LocatedRead : List ℕ → Result Located Refusal → Type 0
+LocatedRead told (Ok (located.Packet i)) = (get_or told 0 0 ≡ 0) × ItemRead told 1 i
+LocatedRead told (Ok (located.Standing i)) = (get_or told 0 0 ≡ 1) × ItemRead told 1 i
+LocatedRead told (Err e) = ⊥
 
 -- so it is of a finding that gives 0, whatever the two packets are: nothing is cut off,
 abbrev pub FoundWhole : Type 0
@@ -221,11 +221,11 @@ NthWhole =
 
 -- card.h, "1 (1), the item's depth (1), its name (4)", and the rest of the item; or, behind the last, "zeros and, in told[18] to told[21], the bytes of
 -- padding", which are fewer than an item's head
-abbrev pub HandedRead : List ℕ → Handed → Type 0
-HandedRead told (handed.Item v) =
+abbrev pub HandedRead : List ℕ → Result Handed ℕ → Type 0
+HandedRead told (Ok (handed.Item v)) =
     (get_or told 0 0 ≡ 1) × (number_at 1 told 1 ≡ v.depth) × (number_at 4 told 2 ≡ v.item.name) × ItemRead told 6 v.item
-HandedRead told (handed.End p) = (p.0 < head) × (take (told_length step_widths) told ≡ replicate 18 0 ++ (bytes_of 4 p.0 ++ replicate 9 0))
-HandedRead told (handed.Refused n) = ⊥
+HandedRead told (Ok (handed.End p)) = (p.0 < head) × (take (told_length step_widths) told ≡ replicate 18 0 ++ (bytes_of 4 p.0 ++ replicate 9 0))
+HandedRead told (Err n) = ⊥
 
 -- so it is of a step that gives 0, whatever the walk is
 abbrev pub StepWhole : Type 0

@@ -1,5 +1,5 @@
 -- What the calls for C on a packet's items answer: finding by name, and a walk, which C holds as bytes (document 01, "TAG layer").
-use Rattle.std.specs.Prelude.{◌≡◌, Bool, not, cond, ◌||◌, List, [], ◌∷◌, ℕ, ◌+◌, ◌*◌, eqb, length}
+use Rattle.std.specs.Prelude.{◌≡◌, Bool, not, cond, ◌||◌, List, [], ◌∷◌, ℕ, ◌+◌, ◌*◌, eqb, length, Result, Ok, Err}
 use Rattle.base_rules.specs.Answer.{Answer, granted, refused, Outcome, settled}
 use Rattle.base_rules.specs.Bytes.{number_at}
 use Rattle.base_rules.specs.Tests.{first}
@@ -60,10 +60,10 @@ walk_open_call word packet names walker = settled (walk_open_fault word packet n
 -- ---- a step
 
 -- what a step tells C: 1 and the item's depth and values; at the end zeros, and the bytes of padding in the place of the value's
-unfoldable pub stepped_number : Handed → Answer
-stepped_number (handed.Item v) = granted (1 ∷ v.depth ∷ values_of v.item)
-stepped_number (handed.End p) = granted (0 ∷ 0 ∷ 0 ∷ 0 ∷ 0 ∷ p.0 ∷ 0 ∷ 0 ∷ [])
-stepped_number (handed.Refused n) = refused n
+unfoldable pub stepped_number : Result Handed ℕ → Answer
+stepped_number (Ok (handed.Item v)) = granted (1 ∷ v.depth ∷ values_of v.item)
+stepped_number (Ok (handed.End p)) = granted (0 ∷ 0 ∷ 0 ∷ 0 ∷ 0 ∷ p.0 ∷ 0 ∷ 0 ∷ [])
+stepped_number (Err n) = refused n
 
 -- the widths of that: 1 byte and 1 of depth, the name 4, the bits 4, the value's place 8 and its bytes 4; document 02, Item 11: the start 8, the unused
 -- bits 1

@@ -1,5 +1,6 @@
 -- What the receiver's calls for C answer: their answers as numbers, and what C holds for them as bytes (document 01, "The four places").
-use Rattle.std.specs.Prelude.{◌≡◌, true, cond, List, [], ◌∷◌, ◌++◌, ℕ, eqb}
+use Rattle.base_rules.specs.declared.Refusal.{Refusal}
+use Rattle.std.specs.Prelude.{◌≡◌, true, cond, List, [], ◌∷◌, ◌++◌, ℕ, eqb, Option, Some, None, Result, Ok, Err}
 use Rattle.base_rules.specs.Answer.{Answer, granted, refused, answered, Outcome, settled}
 use Rattle.base_rules.specs.Answer as answers
 use Rattle.base_rules.specs.Bounds.{most_l}
@@ -8,14 +9,12 @@ use Rattle.base_rules.specs.Tests.{first}
 use Rattle.cut_rules.specs.declared.Address.{Address}
 use Rattle.places_rules.specs.declared.Place.{Place}
 use Rattle.places_rules.specs.declared.Table.{Table}
-use Rattle.places_rules.specs.declared.Displaced.{Displaced}
-use Rattle.places_rules.specs.declared.Displaced.TheVariants.{None, Number}
 use Rattle.places_rules.specs.Places.{free, fresh_table, place_at, key_in}
 use Rattle.places_rules.specs.Faults.{bad_table}
 use Rattle.packed_rules.specs.Packed.{packed_of, table_from, unpack_fault, unpack_call}
 use Rattle.receiver_rules.specs.Promise.{number_of, reception, room_fault, Step}
 use Rattle.receiver_rules.specs.declared.Received.{Received}
-use Rattle.receiver_rules.specs.declared.Received.TheVariants.{Kept, Delivered, Damaged, Refused}
+use Rattle.receiver_rules.specs.declared.Received.TheVariants.{Kept, Delivered, Damaged}
 use Rattle.card_rules.specs.Told.{in_widths, too_short}
 
 -- ---- the record in its bytes
@@ -52,12 +51,12 @@ clear_for bytes lent = on_record bytes (λ n. answers.outcome (refused n) bytes)
 -- ---- receive
 
 -- the displaced number: 1 and it, or zeros
-unfoldable pub displaced_told : Displaced → List ℕ
+unfoldable pub displaced_told : Option ℕ → List ℕ
 displaced_told None = 0 ∷ 0 ∷ []
-displaced_told (Number n) = 1 ∷ n ∷ []
+displaced_told (Some n) = 1 ∷ n ∷ []
 
 -- what an answer tells: 1 where a packet was handed out, its length, the count of fragments not held, the displaced number;
-unfoldable pub receipt_told : ℕ → ℕ → ℕ → Displaced → List ℕ
+unfoldable pub receipt_told : ℕ → ℕ → ℕ → Option ℕ → List ℕ
 receipt_told handed length missing d = handed ∷ length ∷ missing ∷ displaced_told d
 
 -- in these widths
@@ -65,11 +64,11 @@ abbrev pub receipt_widths : List ℕ
 receipt_widths = 1 ∷ 2 ∷ 2 ∷ 1 ∷ 2 ∷ []
 
 -- what stands afterwards in the bytes lent for what is told: that of the answer, at the front; a refused datagram tells nothing
-unfoldable pub told_after : Received → List ℕ → List ℕ
-told_after (Kept d) before = splice before 0 (in_widths receipt_widths (receipt_told 0 0 0 d))
-told_after (Delivered length missing d) before = splice before 0 (in_widths receipt_widths (receipt_told 1 length missing d))
-told_after (Damaged d) before = splice before 0 (in_widths receipt_widths (receipt_told 0 0 0 d))
-told_after (Refused n) before = before
+unfoldable pub told_after : Result Received Refusal → List ℕ → List ℕ
+told_after (Ok (Kept d)) before = splice before 0 (in_widths receipt_widths (receipt_told 0 0 0 d))
+told_after (Ok (Delivered length missing d)) before = splice before 0 (in_widths receipt_widths (receipt_told 1 length missing d))
+told_after (Ok (Damaged d)) before = splice before 0 (in_widths receipt_widths (receipt_told 0 0 0 d))
+told_after (Err e) before = before
 
 -- "A fragment is checked in the order 14, then 1": the number where `told` is too short
 unfoldable pub short_fault : Table → ℕ
@@ -83,8 +82,8 @@ pub record Held : Type 0 where
   pub out : List ℕ
 
 -- with the record t `receive` meets its promise; the record that it leaves is packed, its answer is told, and r is the answer's number
-pub record ReceivedWith (own : Address) (datagram : List ℕ) (before after : Held) (r : ℕ) (t : Table) : Type 0 where
-  pub answer : Received
+pub record ReceivedWith (own : Option Address) (datagram : List ℕ) (before after : Held) (r : ℕ) (t : Table) : Type 0 where
+  pub answer : Result Received Refusal
   pub table : Table
   pub step : Step own (record { table = t; bytes = before.lent }) datagram before.out (reception answer table after.lent after.out)
   pub packed : after.record_bytes ≡ packed_of table
@@ -98,7 +97,7 @@ abbrev pub RefusedWith : Held → Held → ℕ → ℕ → Type 0
 RefusedWith before after r n = (r ≡ n) × (after ≡ before)
 
 -- the call was answered with the number r: what is no record is refused, then a `told` that is too short; else as above with the record
-unfoldable pub CardReceived : Address → List ℕ → Held → Held → ℕ → Type 0
+unfoldable pub CardReceived : Option Address → List ℕ → Held → Held → ℕ → Type 0
 CardReceived own datagram before after r =
     on_record before.record_bytes (RefusedWith before after r)
     (λ t. cond (too_short receipt_widths before.told) (RefusedWith before after r (short_fault t)) (ReceivedWith own datagram before after r t))

@@ -1,2 +1,3 @@
 pub mod Queried
 pub mod Parsed
+pub mod Receipt

@@ -20,14 +20,7 @@ const OPEN: u8 = 3;
 fn all_found(ans: &[u8]) -> bool
     ensures { FoundTest ans.now result }
 {
-    let mut j = 0;
-    while j < ans.len() {
-        if ans[j] != 0 {
-            return false;
-        }
-        j += 1;
-    }
-    true
+    ans.iter().all(|a| *a == 0)
 }
 
 // Each chunk with its class: those that lie hop apart and miss the same places share what these need. Tells whether all are filled in.
@@ -38,8 +31,8 @@ fn fill_classes(k: usize, mask: &[u8], hop: usize, block: &mut [u8], ans: &mut [
     let mut t = [0u8; TABLE];
     make_table(&mut t);
     let rk = make_roots();
-    let n = ans.len();
-    for i in 0..n {
+    // An index, since the call takes it, with the answers of all chunks.
+    for i in 0..ans.len() {
         fill_class(&t, &rk, k, mask, block, ans, i, hop);
     }
     all_found(ans)

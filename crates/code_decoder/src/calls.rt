@@ -5,7 +5,7 @@ ghost use Rattle.code_rules.specs.inner.Standing.{Standing};
 
 use crate::Filled;
 use crate::block::{fill_block, fill_lost};
-use base::{MOST_F, PARITY};
+use base::{MOST_F, PARITY, Refusal};
 use code_solver::missing_count;
 use weave::Held;
 
@@ -25,19 +25,19 @@ fn bad_pair(k: usize, mask: usize, chunk: usize) -> bool
 // Fills in the missing bytes of a chunk of k data bytes and 48 parity bytes: those whose byte of the mask is not 0. Where no chunk of
 // the code has the other bytes, the missing ones are 0 after it; 8 where the sizes cannot be.
 #[tactic(auto, using(code_rules::proofs::CallCases::chunk_short))]
-pub fn fill_chunk(k: usize, mask: &[u8], chunk: &mut [u8]) -> Filled
+pub fn fill_chunk(k: usize, mask: &[u8], chunk: &mut [u8]) -> Result<Filled, Refusal>
     ensures { ChunkFilled k mask.now chunk.old chunk.new result }
 {
     if bad_pair(k, mask.len(), chunk.len()) {
-        return Filled::Refused(8);
+        return Err(Refusal::Size);
     }
     if PARITY < missing_count(mask) {
-        return Filled::NotEnough;
+        return Ok(Filled::NotEnough);
     }
     if fill_block(k, 1, mask, 1, chunk) {
-        return Filled::Done;
+        return Ok(Filled::Done);
     }
-    Filled::Nothing
+    Ok(Filled::Nothing)
 }
 
 // The same with sound figures, and whether the fragments kept suffice.
@@ -48,7 +48,7 @@ fn fill_cells(
     k: usize,
     enough: bool,
     block: &mut [u8],
-) -> Filled
+) -> Result<Filled, Refusal>
     requires { Standing kept f s k enough }
     ensures { BlockFilled kept f s k block.old block.new result }
 {
@@ -56,26 +56,30 @@ fn fill_cells(
     let c = f * s / n;
     let all = c * n;
     if block.len() < all {
-        return Filled::Refused(1);
+        return Err(Refusal::Room);
     }
     if enough {
         if fill_lost(kept, f, k, c, &mut block[..all]) {
-            return Filled::Done;
+            return Ok(Filled::Done);
         }
-        return Filled::Nothing;
+        return Ok(Filled::Nothing);
     }
-    Filled::NotEnough
+    Ok(Filled::NotEnough)
 }
 
 // Fills in the missing cells of a block: f fragments of s bytes were sent, cell q is missing where fragment q mod f is not kept, and the
 // block is the cells' chunks of k data bytes and 48 parity bytes. Where one chunk has no filling, the missing cells of all chunks are
 // 0 after it; 7, 8, 1 where the figures cannot be.
-pub fn fill(kept: [bool; MOST_F], f: usize, s: usize, k: usize, block: &mut [u8]) -> Filled
+pub fn fill(
+    kept: [bool; MOST_F],
+    f: usize,
+    s: usize,
+    k: usize,
+    block: &mut [u8],
+) -> Result<Filled, Refusal>
     ensures { BlockFilled kept f s k block.old block.new result }
 {
-    let held = weave::enough(kept, f, s, k);
-    match held {
-        Held::Refused(n) => Filled::Refused(n),
+    match weave::enough(kept, f, s, k)? {
         Held::Enough => fill_cells(kept, f, s, k, true, block),
         Held::NotEnough => fill_cells(kept, f, s, k, false, block),
     }

@@ -13,12 +13,7 @@ use code_solver::{COLUMNS, fill_in, solve, syndromes_at};
 fn is_zero(r: [u8; PARITY]) -> bool
     ensures { ZeroTest r result }
 {
-    for j in 0..PARITY {
-        if r[j] != 0 {
-            return false;
-        }
-    }
-    true
+    r.iter().all(|x| *x == 0)
 }
 
 // Puts in the missing bytes, which are 0 in the chunk, and tells whether it is then one of the code. Where it is not, none agrees.

@@ -5,7 +5,7 @@ ghost use Rattle.base_rules.specs.Bytes.{part_of};
 ghost use Rattle.code_rules.specs.inner.Words.{table-size};
 ghost use Rattle.code_rules.specs.inner.Kernel.{Made, Multiples, roots_list};
 ghost use Rattle.code_rules.specs.inner.Sharing.{Shared};
-ghost use Rattle.code_rules.specs.inner.Block.{answer_of, SameTest, Ready, AfterTurn, AfterClass};
+ghost use Rattle.code_rules.specs.inner.Block.{SameTest, Ready, AfterTurn, AfterClass};
 
 use crate::chunk::fill_chunk_by;
 use base::PARITY;
@@ -25,21 +25,6 @@ fn same_mask(mask: &[u8], a: usize, b: usize, n: usize) -> bool
         }
     }
     same
-}
-
-// j + hop, but at most n.
-fn next_in_class(j: usize, hop: usize, n: usize) -> usize
-    requires { (j < n) × (0 < hop) }
-    ensures { (j < result) × (result ≤ n) }
-{
-    if hop < n - j { j + hop } else { n }
-}
-
-// A chunk's answer as a byte: 0 where its missing bytes are found, 1 where not. A byte above stands for a chunk that is open.
-fn answer(found: bool) -> u8
-    ensures { result ≡ answer_of found }
-{
-    if found { 0 } else { 1 }
 }
 
 // The chunk j, if its answer is open and it misses what the chunk `from` misses.
@@ -65,7 +50,9 @@ fn fill_if_same(
         let a = j * n;
         let e = a + n;
         if same_mask(mask, from * n, a, n) {
-            ans[j] = answer(fill_chunk_by(t, rk, q, sc, miss, k, &mask[a..e], &mut block[a..e]));
+            // 0 where its missing bytes are found, 1 where not. A number above stands for a chunk that is open.
+            let found = fill_chunk_by(t, rk, q, sc, miss, k, &mask[a..e], &mut block[a..e]);
+            ans[j] = u8::from(!found);
         }
     }
 }
@@ -95,10 +82,7 @@ pub fn fill_class(
     let x = locators_of(k, &mask[a..e]);
     let mut q = [0u8; COLUMNS];
     let sc = pattern(x, miss, &mut q);
-    let c = ans.len();
-    let mut j = from;
-    while j < c {
+    for j in (from..ans.len()).step_by(hop) {
         fill_if_same(t, rk, &q, &sc, miss, k, mask, block, ans, from, j);
-        j = next_in_class(j, hop, c);
     }
 }

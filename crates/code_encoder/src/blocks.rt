@@ -2,27 +2,25 @@
 ghost use Rattle.std.specs.Prelude.{◌≡◌, ◌+◌, ◌≤◌, ◌<◌, length};
 ghost use Rattle.base_rules.specs.Bounds.{most_k, parity};
 ghost use Rattle.codeword.specs.Code.{encode};
-ghost use Rattle.code_rules.specs.inner.Words.{table-size};
-ghost use Rattle.code_rules.specs.inner.Kernel.{Made};
 ghost use Rattle.code_rules.specs.inner.Block.{Encoded, EncSized, OneEncoded};
 
-use crate::register::parity_of;
-use crate::rows::TABLE;
+use crate::made::MadeTable;
 use base::PARITY;
 
 // The chunk of the data bytes d: the data and their parity.
-fn encode_chunk(t: &[u8; TABLE], d: &[u8], out: &mut [u8])
-    requires { (length d.now ≤ most_k) × (length out.old ≡ length d.now + parity) × Made t.now table-size }
+fn encode_chunk(t: MadeTable, d: &[u8], out: &mut [u8])
+    requires { (length d.now ≤ most_k) × (length out.old ≡ length d.now + parity) }
     ensures { out.new ≡ encode d.now }
 {
-    let p = parity_of(t, d);
-    base::put(out, 0, d);
-    base::put(out, d.len(), &p);
+    let p = t.parity(d);
+    // There is room for both, so neither is refused.
+    let _ = base::put(out, 0, d);
+    let _ = base::put(out, d.len(), &p);
 }
 
 // The chunk j of the block.
-fn encode_one(t: &[u8; TABLE], k: usize, c: usize, src: &[u8], out: &mut [u8], j: usize)
-    requires { EncSized k c src.now out.old × (j < c) × Made t.now table-size }
+fn encode_one(t: MadeTable, k: usize, c: usize, src: &[u8], out: &mut [u8], j: usize)
+    requires { EncSized k c src.now out.old × (j < c) }
     ensures { OneEncoded k c j src.now out.old out.new }
 {
     let n = k + PARITY;
@@ -34,8 +32,8 @@ fn encode_one(t: &[u8; TABLE], k: usize, c: usize, src: &[u8], out: &mut [u8], j
 }
 
 // The block's encoder: c chunks of k data bytes each.
-pub fn encode_block(t: &[u8; TABLE], k: usize, c: usize, src: &[u8], out: &mut [u8])
-    requires { EncSized k c src.now out.old × Made t.now table-size }
+pub fn encode_block(t: MadeTable, k: usize, c: usize, src: &[u8], out: &mut [u8])
+    requires { EncSized k c src.now out.old }
     ensures { Encoded k c src.now out.new }
 {
     for j in 0..c {

@@ -8,20 +8,19 @@ ghost use Rattle.codeword.specs.Code.{parity_of};
 ghost use Rattle.code_rules.specs.Calls.{parity_call, over_place, misfits, encode_call};
 
 use crate::blocks::encode_block;
-use crate::register::parity_of;
-use crate::rows::{TABLE, make_table};
-use base::{PARITY, PLACE, Written};
+use crate::made::MadeTable;
+use crate::rows::TABLE;
+use base::{PARITY, PLACE, Refusal};
 
 // Writes the 48 parity bytes of a chunk of 1 to 207 data bytes at the front of out; 8, 1 where that cannot be, and then out stays as it is.
-pub fn parity(chunk: &[u8], out: &mut [u8]) -> Written
+pub fn parity(chunk: &[u8], out: &mut [u8]) -> Result<(), Refusal>
     ensures { outcome (number_of result) out.new ≡ parity_call chunk.now out.old }
 {
     if base::bad_k(chunk.len()) {
-        return Written::Refused(8);
+        return Err(Refusal::Size);
     }
-    let mut t = [0u8; TABLE];
-    make_table(&mut t);
-    let p = parity_of(&t, chunk);
+    let mut bytes = [0u8; TABLE];
+    let p = MadeTable::make(&mut bytes).parity(chunk);
     base::put(out, 0, &p)
 }
 
@@ -30,10 +29,7 @@ fn over_place(k: usize, c: usize) -> bool
     requires { k ≤ most_k }
     ensures { result ≡ over_place k c }
 {
-    if PLACE < c {
-        return true;
-    }
-    PLACE < c * (k + PARITY)
+    PLACE < c || PLACE < c * (k + PARITY)
 }
 
 // Whether a packet of l bytes does not end in the last of c chunks of k bytes; none ends in no chunk.
@@ -41,13 +37,7 @@ fn misfit(l: usize, k: usize, c: usize) -> bool
     requires { c * k ≤ place }
     ensures { result ≡ misfits l k c }
 {
-    if c == 0 {
-        return true;
-    }
-    if c * k < l {
-        return true;
-    }
-    k <= c * k - l
+    c == 0 || c * k < l || k <= c * k - l
 }
 
 // The packet, and zeros up to a place's end.
@@ -56,7 +46,8 @@ fn pad(packet: &[u8]) -> [u8; PLACE]
     ensures { result ≡ padded packet.now (place - length packet.now) }
 {
     let mut w = [0u8; PLACE];
-    base::put(&mut w, 0, packet);
+    // It is no longer than a place, so it is not refused.
+    let _ = base::put(&mut w, 0, packet);
     w
 }
 
@@ -65,31 +56,25 @@ fn write_block(packet: &[u8], k: usize, c: usize, out: &mut [u8])
     requires { (k ≤ most_k) × (length packet.now ≤ c * k) × (c * k ≤ place) × (length out.old ≡ c * (k + parity)) }
     ensures { out.new ≡ block_of parity_of (padded packet.now (c * k - length packet.now)) k c }
 {
-    let mut t = [0u8; TABLE];
-    make_table(&mut t);
+    let mut bytes = [0u8; TABLE];
+    let t = MadeTable::make(&mut bytes);
     let w = pad(packet);
     let a = c * k;
-    encode_block(&t, k, c, &w[..a], out);
+    encode_block(t, k, c, &w[..a], out);
 }
 
 // Writes the block of a packet at the front of out: c chunks of k bytes, the packet and its zeros, each chunk followed by its parity;
 // 8, 1 where that cannot be, and then out stays as it is.
-pub fn encode(packet: &[u8], k: usize, c: usize, out: &mut [u8]) -> Written
+pub fn encode(packet: &[u8], k: usize, c: usize, out: &mut [u8]) -> Result<(), Refusal>
     ensures { outcome (number_of result) out.new ≡ encode_call packet.now k c out.old }
 {
-    if base::bad_k(k) {
-        return Written::Refused(8);
-    }
-    if over_place(k, c) {
-        return Written::Refused(8);
-    }
-    if misfit(packet.len(), k, c) {
-        return Written::Refused(8);
+    if base::bad_k(k) || over_place(k, c) || misfit(packet.len(), k, c) {
+        return Err(Refusal::Size);
     }
     let all = c * (k + PARITY);
     if out.len() < all {
-        return Written::Refused(1);
+        return Err(Refusal::Room);
     }
     write_block(packet, k, c, &mut out[..all]);
-    Written::Done
+    Ok(())
 }

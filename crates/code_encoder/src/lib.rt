@@ -3,6 +3,7 @@
 
 mod blocks;
 mod calls;
+mod made;
 mod register;
 mod rows;
 

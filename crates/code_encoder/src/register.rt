@@ -1,7 +1,7 @@
 // The register of the encoder, eight bytes a step, and what the generator leaves of a chunk. What is computed is promised for any table lent.
 ghost use Rattle.std.specs.Prelude.{◌≡◌, ◌+◌, ◌/◌, ◌≤◌, ◌<◌, length, drop};
 ghost use Rattle.base_rules.specs.Bounds.{most_k, parity};
-ghost use Rattle.code_rules.specs.inner.Kernel.{laid, sum_of};
+ghost use Rattle.code_rules.specs.inner.Kernel.{sum_of};
 ghost use Rattle.code_rules.specs.inner.Register.{byte_by, eight_by, register_by, parity_by, remainder_by};
 
 use crate::rows::{HALF, POWER, TABLE, shifted};
@@ -13,19 +13,14 @@ const LAID: usize = MOST_K + 1;
 // The steps that take them all in.
 const STEPS: usize = LAID / 8;
 
-fn wide(x: u8) -> usize
-    ensures { result ≡ x }
-{
-    x as usize
-}
-
 // The rows of power n for the two halves of x, added to q: x times the power, where the table is made.
 fn byte_in(q: &mut [u8; PARITY], t: &[u8; TABLE], x: u8, n: usize)
     requires { (n < 8) × (length q.old ≡ parity) }
     ensures { q.new ≡ byte_by t.now n x q.old }
 {
-    let a = n * POWER + wide(x) % 16 * PARITY;
-    let b = n * POWER + HALF + wide(x) / 16 * PARITY;
+    let v = usize::from(x);
+    let a = n * POWER + v % 16 * PARITY;
+    let b = n * POWER + HALF + v / 16 * PARITY;
     for j in 0..PARITY {
         q[j] = field::sum(q[j], field::sum(t[a + j], t[b + j]));
     }
@@ -49,31 +44,22 @@ fn register(t: &[u8; TABLE], d: &[u8; LAID]) -> [u8; PARITY]
 {
     let mut p = [0u8; PARITY];
     for i in 0..STEPS {
+        // Named first: no proof is made for an array that a call lays straight into a variable.
         let next = eight(t, p, d, i * 8);
         p = next;
     }
     p
 }
 
-// The data bytes in 208 places.
-fn lay(d: &[u8]) -> [u8; LAID]
-    requires { length d.now ≤ most_k }
-    ensures { result ≡ laid d.now }
-{
-    let mut w = [0u8; LAID];
-    let n = d.len();
-    for i in 0..n {
-        w[i + 1] = d[i];
-    }
-    w
-}
-
 // What the register makes of the data bytes with the table t: their parity, where the table is made.
+// A slice and its bound, and no struct of both: a proof learns that the items of a slice are bytes where the slice itself is an argument.
 pub fn parity_of(t: &[u8; TABLE], d: &[u8]) -> [u8; PARITY]
     requires { length d.now ≤ most_k }
     ensures { result ≡ parity_by t.now d.now }
 {
-    let w = lay(d);
+    // The data bytes in 208 places.
+    let mut w = [0u8; LAID];
+    w[1..d.len() + 1].copy_from_slice(d);
     register(t, &w)
 }
 
@@ -94,10 +80,7 @@ fn summed(p: [u8; PARITY], c: &[u8], k: usize) -> [u8; PARITY]
 pub fn remainder_of(t: &[u8; TABLE], k: usize, c: &[u8]) -> [u8; PARITY]
     ensures { result ≡ remainder_by t.now k c.now }
 {
-    if MOST_K < k {
-        return [255u8; PARITY];
-    }
-    if c.len() != k + PARITY {
+    if MOST_K < k || c.len() != k + PARITY {
         return [255u8; PARITY];
     }
     let p = parity_of(t, &c[..k]);

@@ -62,47 +62,35 @@ fn factor(u: usize) -> u8
 }
 
 // Writes row r of the table.
-fn put_row(t: &mut [u8], r: usize, row: [u8; PARITY])
-    requires { (r < 256) × (length t.old ≡ table-size) × Made t.old (r * parity) × RowOf row r }
+fn put_row(t: &mut [u8; TABLE], r: usize, row: [u8; PARITY])
+    requires { (r < 256) × Made t.old (r * parity) × RowOf row r }
     ensures { Made t.new (r * parity + parity) }
 {
     let at = r * PARITY;
-    for j in 0..PARITY {
-        t[at + j] = row[j];
-    }
+    t[at..at + PARITY].copy_from_slice(&row);
 }
 
 // The 32 rows of the power n. All lanes of a row have one factor, so its bits are tested once, and not those of each lane.
-fn put_rows(t: &mut [u8], n: usize, b: [u8; PARITY])
-    requires { (n < 8) × (b ≡ power n) × (length t.old ≡ table-size) × Made t.old (n * power_size) }
+fn put_rows(t: &mut [u8; TABLE], n: usize, b: [u8; PARITY])
+    requires { (n < 8) × (b ≡ power n) × Made t.old (n * power_size) }
     ensures { Made t.new (n * power_size + power_size) }
 {
     let k = multiples(b);
-    let none = [0u8; PARITY];
     for u in 0..32 {
-        let x = factor(u);
-        let xs = [x; PARITY];
-        put_row(t, n * 32 + u, lanes(&k, xs, none));
+        put_row(t, n * 32 + u, lanes(&k, [factor(u); PARITY], [0u8; PARITY]));
     }
 }
 
-// The rows of the eight powers, each from the power before.
-fn put_powers(t: &mut [u8])
-    requires { length t.old ≡ table-size }
+// Makes the whole table: the rows of the eight powers, each from the power before.
+pub fn make_table(t: &mut [u8; TABLE])
     ensures { Made t.new table-size }
 {
     let g = coefficients();
     let mut b = g;
     for n in 0..8 {
         put_rows(t, n, b);
+        // Named first: no proof is made for an array that a call lays straight into a variable.
         let next = next_power(b, g);
         b = next;
     }
-}
-
-// Makes the whole table. It is passed on as a slice, since a proof learns how many bytes stand behind a `&mut` to an array only there.
-pub fn make_table(t: &mut [u8; TABLE])
-    ensures { Made t.new table-size }
-{
-    put_powers(t);
 }

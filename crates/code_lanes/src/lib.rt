@@ -1,30 +1,19 @@
 // Products in the field by shift and select: no table, and many lanes at a time in a loop over an array. What is computed is promised for
-// any rows lent; that rows of multiples give products is a law of code_rules.
+// any rows lent; that rows of multiples give products is a law of code_rules. A loop over lanes goes by an index, since it reads several
+// arrays at it and writes another.
 #![tactic(auto)]
 
-ghost use Rattle.std.specs.Prelude.{◌≡◌, ℕ, ◌*◌, ◌/◌, ◌%◌, ◌<◌, length, get_or};
-ghost use Rattle.base_rules.specs.Bounds.{parity};
-ghost use Rattle.field_rules.specs.Field.{◌⊗◌, times2};
+ghost use Rattle.std.specs.Prelude.{◌≡◌, ◌*◌, ◌/◌, ◌%◌, ◌<◌};
+ghost use Rattle.field_rules.specs.Field.{◌⊗◌};
 ghost use Rattle.codeword.specs.Code.{plus};
 ghost use Rattle.code_rules.specs.inner.Kernel.{Chain, Multiples, lane_by, dotted};
 ghost use Rattle.code_rules.specs.inner.Patterns.{times_all};
 
 use base::PARITY;
-use field::REDUCED;
+pub use field::twice;
 
 // Eight rows of lanes, each twice the one before.
 pub const MULTIPLES: usize = 8 * PARITY;
-
-// x doubled in the field: where the byte runs over, with what x^8 is.
-pub fn twice(x: u8) -> u8
-    ensures { result ≡ times2 x }
-{
-    if x < 128 {
-        x + x
-    } else {
-        field::sum((x - 128) + (x - 128), REDUCED)
-    }
-}
 
 // v where the bit of a is set
 fn pick(a: u8, bit: u8, v: u8) -> u8
@@ -117,22 +106,13 @@ pub fn lanes(k: &[u8; MULTIPLES], s: [u8; PARITY], r: [u8; PARITY]) -> [u8; PARI
     q
 }
 
-// A row of 48, and zeros behind it.
-fn first_row(x: [u8; PARITY]) -> [u8; MULTIPLES]
-    ensures { (length result ≡ 8 * parity) × ((i : ℕ) → i < parity → get_or result i 0 ≡ get_or x i 0) }
-{
-    let mut k = [0u8; MULTIPLES];
-    for j in 0..PARITY {
-        k[j] = x[j];
-    }
-    k
-}
-
 // Eight rows of 48, each twice the one before.
 pub fn multiples(x: [u8; PARITY]) -> [u8; MULTIPLES]
     ensures { Multiples x result }
 {
-    let mut k = first_row(x);
+    let mut k = [0u8; MULTIPLES];
+    k[..PARITY].copy_from_slice(&x);
+    // An index, since each is made from one of the same array, a row before.
     for i in PARITY..MULTIPLES {
         k[i] = twice(k[i - PARITY]);
     }

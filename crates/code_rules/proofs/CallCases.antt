@@ -9,12 +9,15 @@ use lib.Dec.{ltb, eqb, lit<, eqb→eq}
 use lib.ListN.{length, take, drop, replicate, length-replicate, length-drop, length-append}
 use lib.ListN.{take-append-drop, replicate-append-replicate, drop_of_length-le}
 use lib.Seq.{take_at, drop_at, take-append-add}
+use Rattle.std.specs.Prelude.{Result, Ok, Err}
+use Rattle.base_rules.specs.Refusal as refusals
+use Rattle.base_rules.specs.declared.Refusal.{Refusal}
+use Rattle.base_rules.specs.declared.Refusal.TheVariants as refusal
 use Rattle.base_rules.specs.Answer.{granted, refused, answered, Outcome, outcome, settled}
 use Rattle.base_rules.specs.Bounds.{bad_k, place, parity}
 use Rattle.base_rules.specs.Bytes.{splice, part_of}
 use Rattle.base_rules.specs.Tests.{first}
 use Rattle.base_rules.specs.Written.{number_of, put_fault, put_of}
-use Rattle.base_rules.specs.declared.Written.{Written}
 use Rattle.base_rules.proofs.ChunkSize.{k_most}
 use Rattle.base_rules.proofs.Answers.{grants, refuses, writes, leaves, put_is}
 use Rattle.base_rules.proofs.Firsts.{due, skip, none_due}
@@ -30,7 +33,7 @@ use Rattle.code_rules.specs.Fill.{Agrees}
 use Rattle.codeword.specs.Code.{parity_of, encode}
 use Rattle.code_rules.specs.Calls.{parity_fault, parity_call, over_place, misfits, encode_fault, encode_call, bad_pair, chunk_fault, ChunkFilled}
 use Rattle.code_rules.specs.Calls as calls
-use Rattle.code_rules.specs.declared.Filled.TheVariants.{Done, Nothing, NotEnough, Refused}
+use Rattle.code_rules.specs.declared.Filled.TheVariants.{Done, Nothing, NotEnough}
 
 -- ---- what the tests tell
 
@@ -48,8 +51,8 @@ many_chunks k c h = sym (lt-ltb place (c * (k + parity)) (omega arith))
 
 module _ (chunk out : List ℕ) where
   -- no size of a chunk
-  pub parity-size : bad_k (length chunk) ≡ true → outcome (refused 8) out ≡ parity_call chunk out
-  unfolding parity_call parity_fault
+  pub parity-size : bad_k (length chunk) ≡ true → outcome (number_of (Err refusal.Size)) out ≡ parity_call chunk out
+  unfolding parity_call parity_fault number_of refusals.told refusals.number
   parity-size e = leaves 8 _ _ _ _ (lit< tt) (due 8 _ e)
 
   -- the parity put at the front
@@ -86,7 +89,7 @@ encode_put out d p x y lo lp ep ex ey =
     ∙ ap (λ (l : List ℕ). (d ++ p) ++ l) (drop_of_length-le out whole) ∙ append-nil (d ++ p) ∙ ap (λ (l : List ℕ). d ++ l) ep
 
 -- a packet laid down in zeros
-pub pad_put : (packet w : List ℕ) (r : Written) → length packet ≤ place → outcome (number_of r) w ≡ put_of (replicate 12288 0) 0 packet
+pub pad_put : (packet w : List ℕ) (r : Result (Unit {0}) Refusal) → length packet ≤ place → outcome (number_of r) w ≡ put_of (replicate 12288 0) 0 packet
     → w ≡ padded packet (place - length packet)
 unfolding padded
 pad_put packet w r h e =
@@ -145,34 +148,34 @@ block-lent out new block n size e =
 
 module _ (packet out : List ℕ) (k c : ℕ) where
   -- no size of a chunk
-  pub encode-size : bad_k k ≡ true → outcome (refused 8) out ≡ encode_call packet k c out
-  unfolding encode_call encode_fault
+  pub encode-size : bad_k k ≡ true → outcome (number_of (Err refusal.Size)) out ≡ encode_call packet k c out
+  unfolding encode_call encode_fault number_of refusals.told refusals.number
   encode-size e = leaves 8 _ _ _ _ (lit< tt) (due 8 _ e)
 
   module _ (sized : bad_k k ≡ false) where
     -- more than a place holds
-    pub encode-place : over_place k c ≡ true → outcome (refused 8) out ≡ encode_call packet k c out
-    unfolding encode_call encode_fault
+    pub encode-place : over_place k c ≡ true → outcome (number_of (Err refusal.Size)) out ≡ encode_call packet k c out
+    unfolding encode_call encode_fault number_of refusals.told refusals.number
     encode-place e = leaves 8 _ _ _ _ (lit< tt) (skip 8 _ sized (due 8 _ e))
 
     module _ (placed : over_place k c ≡ false) where
       -- the packet does not fit its chunks
-      pub encode-fit : misfits (length packet) k c ≡ true → outcome (refused 8) out ≡ encode_call packet k c out
-      unfolding encode_call encode_fault
+      pub encode-fit : misfits (length packet) k c ≡ true → outcome (number_of (Err refusal.Size)) out ≡ encode_call packet k c out
+      unfolding encode_call encode_fault number_of refusals.told refusals.number
       encode-fit e = leaves 8 _ _ _ _ (lit< tt) (skip 8 _ sized (skip 8 _ placed (due 8 _ e)))
 
       module _ (fits : misfits (length packet) k c ≡ false) where
         -- too little room
-        pub encode_room : length out < c * (k + 48) → outcome (refused 1) out ≡ encode_call packet k c out
-        unfolding encode_call encode_fault
+        pub encode_room : length out < c * (k + 48) → outcome (number_of (Err refusal.Room)) out ≡ encode_call packet k c out
+        unfolding encode_call encode_fault number_of refusals.told refusals.number
         encode_room h =
             leaves 1 _ _ _ _ (lit< tt)
             (skip 8 _ sized (skip 8 _ placed (skip 8 _ fits (due 1 _ (lt-ltb (length out) (c * (k + parity)) h)))))
 
         -- the block stands at the front
         pub encode_done : (y : List ℕ) → c * (k + 48) ≤ length out → y ≡ splice out 0 (block_of parity_of (padded packet (c * k - length packet)) k c)
-            → outcome (granted []) y ≡ encode_call packet k c out
-        unfolding encode_call encode_fault
+            → outcome (number_of (Ok tt)) y ≡ encode_call packet k c out
+        unfolding encode_call encode_fault number_of refusals.told refusals.number
         encode_done y h e =
             writes _ _ _ _ _ (skip 8 _ sized (skip 8 _ placed (skip 8 _ fits (skip 1 _ (le-ltb (length out) (c * (k + parity)) h) none_due)))) e
 
@@ -194,8 +197,8 @@ refused_by n (suc m) w e = let q : n ≡ suc m = cc in (q, omega arith)
 
 module _ (k : ℕ) (mask c : List ℕ) where
   -- the sizes cannot be
-  pub chunk-refused : bad_pair k (length mask) (length c) ≡ true → ChunkFilled k mask c c (Refused 8)
-  unfolding calls.number_of chunk_fault
+  pub chunk-refused : bad_pair k (length mask) (length c) ≡ true → ChunkFilled k mask c c (Err refusal.Size)
+  unfolding calls.number_of refusals.told refusals.number chunk_fault
   chunk-refused e = record { number = refuses 8 _ _ (lit< tt) (due 8 _ e); left = refl }
 
   module _ (fine : bad_pair k (length mask) (length c) ≡ false) where
@@ -227,8 +230,8 @@ module _ (k : ℕ) (mask c : List ℕ) where
     none = skip 8 _ fine none_due
 
     -- more than 48 bytes are missing
-    pub chunk_short : 48 < count (marks mask) → ChunkFilled k mask c c NotEnough
-    unfolding calls.number_of
+    pub chunk_short : 48 < count (marks mask) → ChunkFilled k mask c c (Ok NotEnough)
+    unfolding calls.number_of refusals.told
     chunk_short h = record { number = grants _ _ none; left = (h, refl) }
 
     module _ (few : count (marks mask) ≤ 48) where
@@ -246,8 +249,8 @@ module _ (k : ℕ) (mask c : List ℕ) where
           }
 
       -- the block is filled in, and so is the chunk
-      pub chunk_done : (after : List ℕ) → length after ≡ length c → BlockTried k mask 1 c after true → ChunkFilled k mask c after Done
-      unfolding calls.number_of
+      pub chunk_done : (after : List ℕ) → length after ≡ length c → BlockTried k mask 1 c after true → ChunkFilled k mask c after (Ok Done)
+      unfolding calls.number_of refusals.told
       chunk_done after e m =
           let whole : Agrees k (part_of mask (k + 48) 0) (part_of c (k + 48) 0) (part_of after (k + 48) 0) = m 0 (omega arith) in
           let full = part_whole (k + 48) after (e ∙ pair_chunk) in
@@ -257,8 +260,8 @@ module _ (k : ℕ) (mask c : List ℕ) where
           }
 
       -- the block has no filling, and so has not the chunk
-      pub chunk_nothing : (after : List ℕ) → BlockTried k mask 1 c after false → ChunkFilled k mask c after Nothing
-      unfolding calls.number_of
+      pub chunk_nothing : (after : List ℕ) → BlockTried k mask 1 c after false → ChunkFilled k mask c after (Ok Nothing)
+      unfolding calls.number_of refusals.told
       chunk_nothing after m =
           let z : m.at ≡ 0 = omega (arith, m.below) in
           record {

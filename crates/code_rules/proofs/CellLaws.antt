@@ -14,7 +14,11 @@ use Rattle.base_rules.specs.Bounds.{parity}
 use Rattle.base_rules.specs.Table.{table}
 use Rattle.base_rules.specs.Bytes.{splice, part_of}
 use Rattle.base_rules.specs.Tests.{first, bit}
-use Rattle.base_rules.specs.Answer.{granted, refused}
+use Rattle.std.specs.Prelude.{Ok, Err}
+use Rattle.base_rules.specs.Refusal as refusals
+use Rattle.base_rules.specs.declared.Refusal.{Refusal}
+use Rattle.base_rules.specs.declared.Refusal.TheVariants as refusal
+use Rattle.base_rules.specs.Answer.{granted}
 use Rattle.base_rules.proofs.Answers.{grants, refuses}
 use Rattle.base_rules.proofs.Firsts.{due, skip, none_due, clear, clear_rest}
 use Rattle.base_rules.proofs.Logic.{clash, bit_one}
@@ -24,13 +28,14 @@ use Rattle.base_rules.proofs.Parts.{part_room, length_part, part_at}
 use Rattle.cut_rules.specs.Missing.{gone, missing, suffice}
 use Rattle.cut_rules.specs.Sizes.{received_c}
 use Rattle.cut_rules.proofs.Sufficing.{suffice_no}
+use Rattle.weave_rules.specs.Calls as weave
 use Rattle.weave_rules.specs.Calls.{bad_count, too_much, bad_chunk, not_kept, enough_fault, enough_of}
 use Rattle.codeword.specs.Erasure.{marks, erase, count}
 use Rattle.code_rules.specs.Fill.{Agrees}
 use Rattle.code_rules.specs.inner.Block.{Ready, BlockTried}
 use Rattle.code_rules.specs.Calls.{number_of, lost_cells, fill_fault, BlockFilled}
 use Rattle.code_rules.specs.inner.Standing.{Standing, Holds}
-use Rattle.code_rules.specs.declared.Filled.TheVariants.{Done, Nothing, NotEnough, Refused}
+use Rattle.code_rules.specs.declared.Filled.TheVariants.{Done, Nothing, NotEnough}
 use Rattle.code_rules.proofs.CallCases.{granted_by, refused_by}
 use Rattle.code_rules.proofs.MaskLaws.{length-marks}
 
@@ -140,8 +145,8 @@ module _ (kept : List Bool) (f s k : ℕ) (block : List ℕ) (enough : Bool) (st
   c = f * s / (k + 48)
 
   -- too little room
-  pub fill_room : length block < f * s / (k + 48) * (k + 48) → BlockFilled kept f s k block block (Refused 1)
-  unfolding number_of fill_fault received_c
+  pub fill_room : length block < f * s / (k + 48) * (k + 48) → BlockFilled kept f s k block block (Err refusal.Room)
+  unfolding number_of refusals.told refusals.number fill_fault received_c
   fill_room h =
       record {
         number =
@@ -159,8 +164,8 @@ module _ (kept : List Bool) (f s k : ℕ) (block : List ℕ) (enough : Bool) (st
         (skip 1 _ (le-ltb (length block) (f * s / (k + parity) * (k + parity)) whole) none_due)))
 
     -- too few fragments are kept
-    pub fill-not-enough : enough ≡ false → BlockFilled kept f s k block block NotEnough
-    unfolding number_of received_c
+    pub fill-not-enough : enough ≡ false → BlockFilled kept f s k block block (Ok NotEnough)
+    unfolding number_of refusals.told received_c
     fill-not-enough e = record { number = grants _ _ no_fault; left = (st.told ∙ e, refl) }
 
     all : ℕ
@@ -183,8 +188,8 @@ module _ (kept : List Bool) (f s k : ℕ) (block : List ℕ) (enough : Bool) (st
       -- all chunks are filled in
       pub fill_done : BlockTried k (lost_cells kept f 0 (f * s / (k + 48) * (k + 48))) (f * s / (k + 48))
           (take (f * s / (k + 48) * (k + 48)) block) new true
-          → BlockFilled kept f s k block after Done
-      unfolding number_of received_c all front c
+          → BlockFilled kept f s k block after (Ok Done)
+      unfolding number_of refusals.told received_c all front c
       fill_done m = record {
         number = grants _ _ no_fault;
         left = (
@@ -206,8 +211,8 @@ module _ (kept : List Bool) (f s k : ℕ) (block : List ℕ) (enough : Bool) (st
       -- one chunk has no filling
       pub fill_nothing : BlockTried k (lost_cells kept f 0 (f * s / (k + 48) * (k + 48))) (f * s / (k + 48))
           (take (f * s / (k + 48) * (k + 48)) block) new false
-          → BlockFilled kept f s k block after Nothing
-      unfolding number_of received_c all front c
+          → BlockFilled kept f s k block after (Ok Nothing)
+      unfolding number_of refusals.told received_c all front c
       fill_nothing m = record {
         number = grants _ _ no_fault;
         left = (
@@ -270,8 +275,9 @@ module _ (kept : List Bool) (f s k : ℕ) where
       go a b d x q = firsts_same n a b d x h q
 
   -- the figures cannot be
-  pub fill-refused : (n : ℕ) (block : List ℕ) → refused n ≡ enough_of kept f s k → BlockFilled kept f s k block block (Refused n)
-  unfolding enough_of number_of
-  fill-refused n block e =
-      let g = refused_by n (enough_fault f s k) (bit (suffice (not_kept kept) f (k + parity) (received_c f s k)) ∷ []) e in
+  pub fill-refused : (e : Refusal) (block : List ℕ) → weave.number_of (Err e) ≡ enough_of kept f s k → BlockFilled kept f s k block block (Err e)
+  unfolding enough_of number_of weave.number_of refusals.told
+  fill-refused e block h =
+      let n : ℕ = refusals.number e in
+      let g = refused_by n (enough_fault f s k) (bit (suffice (not_kept kept) f (k + parity) (received_c f s k)) ∷ []) h in
       record { number = refuses n _ _ g.1 (g.0 ∙ same_fault n (length block) g.0 g.1); left = refl }

@@ -1,8 +1,10 @@
 -- What the calls on chunks and blocks answer; document 01, "Numbers given back", has the numbers.
-use Rattle.std.specs.Prelude.{◌≡◌, Bool, true, false, not, ◌||◌, List, [], ◌∷◌, ℕ, ◌+◌, ◌-◌, ◌*◌, ◌<◌, leb, ltb, eqb, length, drop}
+use Rattle.std.specs.Prelude.{◌≡◌, Bool, true, false, not, ◌||◌, List, [], ◌∷◌, ℕ, ◌+◌, ◌-◌, ◌*◌, ◌<◌, leb, ltb, eqb, length, drop, Result, Ok, Err}
 use Rattle.base_rules.specs.Bounds.{bad_k, place, parity}
 use Rattle.base_rules.specs.Tests.{first, bit}
-use Rattle.base_rules.specs.Answer.{Answer, granted, refused, answered, Outcome, settled}
+use Rattle.base_rules.specs.Answer.{Answer, answered, Outcome, settled}
+use Rattle.base_rules.specs.Refusal as refusals
+use Rattle.base_rules.specs.declared.Refusal.{Refusal}
 use Rattle.base_rules.specs.Bytes.{splice, part_of}
 use Rattle.base_rules.specs.Table.{table}
 use Rattle.cut_rules.specs.Block.{padded, block_of}
@@ -13,7 +15,7 @@ use Rattle.codeword.specs.Code.{parity_of}
 use Rattle.codeword.specs.Erasure.{marks, erase}
 use Rattle.code_rules.specs.Fill.{Agrees, ChunkAfter}
 use Rattle.code_rules.specs.declared.Filled.{Filled}
-use Rattle.code_rules.specs.declared.Filled.TheVariants.{Done, Nothing, NotEnough, Refused}
+use Rattle.code_rules.specs.declared.Filled.TheVariants.{Done, Nothing, NotEnough}
 
 -- document 01: what the parity of k bytes is refused for, with `room` bytes lent: 8 SIZE, 1 ROOM
 unfoldable pub parity_fault : ℕ → ℕ → ℕ
@@ -41,18 +43,15 @@ encode_call packet k c out =
     settled (encode_fault (length packet) k c (length out)) [] (splice out 0 (block_of parity_of (padded packet (c * k - length packet)) k c)) out
 
 -- the values of a filling's answer; 256 and 257 are no refusal's number, which is a byte
-unfoldable pub values_of : Filled → List ℕ
-values_of Done = []
-values_of Nothing = 256 ∷ []
-values_of NotEnough = 257 ∷ []
-values_of (Refused n) = []
+unfoldable pub values_of : Result Filled Refusal → List ℕ
+values_of (Ok Done) = []
+values_of (Ok Nothing) = 256 ∷ []
+values_of (Ok NotEnough) = 257 ∷ []
+values_of (Err e) = []
 
 -- document 01's number for each case
-unfoldable pub number_of : Filled → Answer
-number_of Done = granted (values_of Done)
-number_of Nothing = granted (values_of Nothing)
-number_of NotEnough = granted (values_of NotEnough)
-number_of (Refused n) = refused n
+unfoldable pub number_of : Result Filled Refusal → Answer
+number_of r = refusals.told (λ f. values_of (Ok f)) r
 
 -- document 01, 8 SIZE: k is no chunk's size, or mask and chunk have not k + 48 bytes
 unfoldable pub bad_pair : ℕ → ℕ → ℕ → Bool
@@ -63,7 +62,7 @@ unfoldable pub chunk_fault : ℕ → ℕ → ℕ → ℕ
 chunk_fault k mask chunk = first ((bad_pair k mask chunk, 8) ∷ [])
 
 -- clause 7.4.4: the answer r for the chunk c, whose bytes that the mask marks are missing, and what stands in its place after
-pub record ChunkFilled (k : ℕ) (mask c after : List ℕ) (r : Filled) : Type 0 where
+pub record ChunkFilled (k : ℕ) (mask c after : List ℕ) (r : Result Filled Refusal) : Type 0 where
   pub number : number_of r ≡ answered (chunk_fault k (length mask) (length c)) (values_of r)
   pub left : ChunkAfter k mask c after r
 
@@ -91,13 +90,13 @@ pub record BlockNothing (kept : List Bool) (f k c : ℕ) (block after : List ℕ
   pub zeros : after ≡ erase (marks (lost_cells kept f 0 (c * (k + parity)))) block
 
 -- clause 7.4.4: the block of c chunks, and what stands in its place after, by the answer; "enough" as weave's call answers it
-abbrev pub BlockAfter : List Bool → ℕ → ℕ → ℕ → List ℕ → List ℕ → Filled → Type 0
-BlockAfter kept f k c block after Done = (suffice (not_kept kept) f (k + parity) c ≡ true) × BlockDone kept f k c block after
-BlockAfter kept f k c block after Nothing = (suffice (not_kept kept) f (k + parity) c ≡ true) × BlockNothing kept f k c block after
-BlockAfter kept f k c block after NotEnough = (suffice (not_kept kept) f (k + parity) c ≡ false) × (after ≡ block)
-BlockAfter kept f k c block after (Refused n) = after ≡ block
+abbrev pub BlockAfter : List Bool → ℕ → ℕ → ℕ → List ℕ → List ℕ → Result Filled Refusal → Type 0
+BlockAfter kept f k c block after (Ok Done) = (suffice (not_kept kept) f (k + parity) c ≡ true) × BlockDone kept f k c block after
+BlockAfter kept f k c block after (Ok Nothing) = (suffice (not_kept kept) f (k + parity) c ≡ true) × BlockNothing kept f k c block after
+BlockAfter kept f k c block after (Ok NotEnough) = (suffice (not_kept kept) f (k + parity) c ≡ false) × (after ≡ block)
+BlockAfter kept f k c block after (Err e) = after ≡ block
 
 -- clause 7.4.4: the answer r for the block of f fragments of s bytes, and what stands in its place after
-pub record BlockFilled (kept : List Bool) (f s k : ℕ) (block after : List ℕ) (r : Filled) : Type 0 where
+pub record BlockFilled (kept : List Bool) (f s k : ℕ) (block after : List ℕ) (r : Result Filled Refusal) : Type 0 where
   pub number : number_of r ≡ answered (fill_fault f s k (length block)) (values_of r)
   pub left : BlockAfter kept f k (received_c f s k) block after r

@@ -2,12 +2,10 @@
 // `code_decoder` have them, over `code_solver` and `code_lanes`.
 #![tactic(auto)]
 
-// What became of missing bytes: all are filled in; no word of the code has the bytes that are there; too many are missing; or the
-// number of the refusal, and then nothing was changed.
-#[derive(Clone, Copy)]
+// What became of missing bytes: all are filled in; no word of the code has the bytes that are there; or too many are missing.
+#[derive(Clone, Copy, Debug, PartialEq, Eq)]
 pub enum Filled {
     Done,
     Nothing,
     NotEnough,
-    Refused(u8),
 }

@@ -7,17 +7,8 @@ mod patterns;
 mod solving;
 mod syndromes;
 
-ghost use Rattle.std.specs.Prelude.{◌≡◌, min};
-
 pub use cells::mark_lost;
 pub use masks::{clear, fill_in, locators_of, missing_count};
 pub use patterns::{COLUMNS, pattern};
 pub use solving::solve;
 pub use syndromes::{make_roots, syndromes_at};
-
-// The lesser of two numbers.
-fn least(a: usize, b: usize) -> usize
-    ensures { result ≡ min a b }
-{
-    if a < b { a } else { b }
-}

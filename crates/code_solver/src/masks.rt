@@ -1,11 +1,10 @@
-// Masks: a byte for each byte of a chunk, not 0 where that is missing.
+// Masks: a byte for each byte of a chunk, not 0 where that is missing. Bytes and no flags, since a caller of the decoder may lend any.
 ghost use Rattle.std.specs.Prelude.{◌≡◌, cond, ◌+◌, ◌≤◌, ◌<◌, eqb, length, get_or};
 ghost use Rattle.base_rules.specs.Bounds.{most_k, parity};
 ghost use Rattle.codeword.specs.Code.{full};
 ghost use Rattle.codeword.specs.Erasure.{marks, erase, count, fill, locators};
 ghost use Rattle.code_rules.specs.inner.Solving.{lanes_of, locators_by};
 
-use crate::least;
 use base::{MOST_K, PARITY};
 
 // The bytes of a word of the code before it is shortened.
@@ -16,12 +15,11 @@ pub fn missing_count(mask: &[u8]) -> usize
     ensures { result ≡ count (marks mask.now) }
 {
     let mut n = 0;
-    let mut i = 0;
-    while i < mask.len() {
-        if mask[i] != 0 {
+    // A loop, since it is done many bytes at a time; a filter that is counted goes byte by byte.
+    for m in mask {
+        if *m != 0 {
             n += 1;
         }
-        i += 1;
     }
     n
 }
@@ -33,12 +31,10 @@ fn locate(mask: &[u8; FULL]) -> [u8; PARITY]
 {
     let mut xs = [0u8; PARITY];
     let mut e = 0;
-    for i in 0..FULL {
-        if mask[i] != 0 {
-            if e < PARITY {
-                xs[e] = field::power(FULL - 1 - i);
-                e += 1;
-            }
+    for (i, m) in mask.iter().enumerate() {
+        if *m != 0 && e < PARITY {
+            xs[e] = field::power(FULL - 1 - i);
+            e += 1;
         }
     }
     xs
@@ -48,30 +44,14 @@ fn locate(mask: &[u8; FULL]) -> [u8; PARITY]
 pub fn fill_in(mask: &[u8], vs: &[u8], word: &mut [u8])
     ensures { word.new ≡ fill (marks mask.now) word.old vs.now }
 {
-    let n = least(mask.len(), word.len());
     let mut k = 0;
-    let mut i = 0;
-    while i < n {
+    // An index, since the mask is read at it and the word written.
+    for i in 0..mask.len().min(word.len()) {
         if mask[i] != 0 {
             word[i] = base::byte_at(vs, k);
             k += 1;
         }
-        i += 1;
     }
-}
-
-// The byte at place i of the 255 of a chunk of k data bytes and 48 parity bytes.
-fn placed(k: usize, c: &[u8], i: usize) -> u8
-    requires { (k ≤ most_k) × (length c.now ≡ k + parity) × (i < most_k + parity) }
-    ensures { result ≡ get_or (full 0 k c.now) i 0 }
-{
-    if i < k {
-        return c[i];
-    }
-    if i < MOST_K {
-        return 0;
-    }
-    c[i - MOST_K + k]
 }
 
 // The 255 places of a chunk.
@@ -80,11 +60,8 @@ fn spread(k: usize, c: &[u8]) -> [u8; FULL]
     ensures { result ≡ full 0 k c.now }
 {
     let mut w = [0u8; FULL];
-    let mut i = 0;
-    while i < FULL {
-        w[i] = placed(k, c, i);
-        i += 1;
-    }
+    w[..k].copy_from_slice(&c[..k]);
+    w[MOST_K..].copy_from_slice(&c[k..]);
     w
 }
 
@@ -92,21 +69,16 @@ fn spread(k: usize, c: &[u8]) -> [u8; FULL]
 fn kept(m: u8, b: u8) -> u8
     ensures { result ≡ cond (eqb m 0) b 0 }
 {
-    if m == 0 {
-        return b;
-    }
-    0
+    if m == 0 { b } else { 0 }
 }
 
 // 0 at each missing place, as far as the mask and c both go.
 pub fn clear(mask: &[u8], c: &mut [u8])
     ensures { c.new ≡ erase (marks mask.now) c.old }
 {
-    let n = least(mask.len(), c.len());
-    let mut i = 0;
-    while i < n {
+    // An index, since one array is read at it and the other written.
+    for i in 0..mask.len().min(c.len()) {
         c[i] = kept(mask[i], c[i]);
-        i += 1;
     }
 }
 

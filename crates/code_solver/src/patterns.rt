@@ -5,7 +5,6 @@ ghost use Rattle.code_rules.specs.inner.Kernel.{Doubles};
 ghost use Rattle.code_rules.specs.inner.Patterns.{root_step, locator_of, Same, Put, Columns, scales_of, inverses_of};
 ghost use Rattle.code_rules.specs.inner.Solving.{PatternMade};
 
-use crate::least;
 use base::PARITY;
 use code_lanes::{MULTIPLES, lanes, multiples, product, times_lanes};
 
@@ -20,6 +19,7 @@ fn times_root(p: [u8; COEFFICIENTS], x: u8) -> [u8; COEFFICIENTS]
     ensures { result ≡ root_step p x }
 {
     let mut n = p;
+    // An index, since p is read at it and one behind it, where n is written.
     for m in 0..PARITY {
         n[m + 1] = field::sum(p[m + 1], product(p[m], x));
     }
@@ -42,6 +42,7 @@ fn locator(x: [u8; PARITY], e: usize) -> [u8; COEFFICIENTS]
 {
     let mut p = one();
     for i in 0..e {
+        // Named first: no proof is made for an array that a call lays straight into a variable.
         let next = times_root(p, x[i]);
         p = next;
     }
@@ -54,9 +55,7 @@ fn put_row48(q: &mut [u8; COLUMNS], m: usize, s: [u8; PARITY])
     ensures { Put q.old m s q.new }
 {
     let at = m * PARITY;
-    for j in 0..PARITY {
-        q[at + j] = s[j];
-    }
+    q[at..at + PARITY].copy_from_slice(&s);
 }
 
 // The locator polynomial p divided by z + x in each lane, and each quotient's value at its x.
@@ -72,13 +71,11 @@ fn columns(
     let mut s = [0u8; PARITY];
     let mut d = [0u8; PARITY];
     for m in 0..e {
-        let c = p[m];
-        let cs = [c; PARITY];
-        let s2 = lanes(k, s, cs);
-        put_row48(q, m, s2);
-        let d2 = lanes(k, d, s2);
-        s = s2;
-        d = d2;
+        let quotient = lanes(k, s, [p[m]; PARITY]);
+        put_row48(q, m, quotient);
+        let value = lanes(k, d, quotient);
+        s = quotient;
+        d = value;
     }
     d
 }
@@ -89,13 +86,11 @@ fn inverses(x: [u8; PARITY]) -> [u8; PARITY]
 {
     let mut s = times_lanes(x, x);
     let mut p = s;
-    let mut j = 0usize;
-    while j < 6 {
-        let s2 = times_lanes(s, s);
-        let p2 = times_lanes(p, s2);
-        s = s2;
-        p = p2;
-        j += 1;
+    for _ in 0..6usize {
+        let square = times_lanes(s, s);
+        let longer = times_lanes(p, square);
+        s = square;
+        p = longer;
     }
     p
 }
@@ -111,7 +106,7 @@ fn scales(x: [u8; PARITY], d: [u8; PARITY]) -> [u8; PARITY]
 pub fn pattern(x: [u8; PARITY], e: usize, q: &mut [u8; COLUMNS]) -> [u8; MULTIPLES]
     ensures { PatternMade x e q.old q.new result }
 {
-    let n = least(e, PARITY);
+    let n = e.min(PARITY);
     let k = multiples(x);
     let p = locator(x, n);
     let d = columns(&k, p, n, q);

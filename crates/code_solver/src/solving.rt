@@ -5,7 +5,6 @@ ghost use Rattle.codeword.specs.Code.{plus};
 ghost use Rattle.code_rules.specs.inner.Patterns.{row_of};
 ghost use Rattle.code_rules.specs.inner.Solving.{solved_by};
 
-use crate::least;
 use crate::patterns::COLUMNS;
 use base::PARITY;
 use code_lanes::{MULTIPLES, lanes, product};
@@ -25,11 +24,10 @@ fn add_row(y: &mut [u8; PARITY], x: u8, q: &[u8; COLUMNS], m: usize)
 pub fn solve(q: &[u8; COLUMNS], sc: &[u8; MULTIPLES], e: usize, s: [u8; PARITY]) -> [u8; PARITY]
     ensures { result ≡ solved_by q.now sc.now e s }
 {
-    let n = least(e, PARITY);
+    let n = e.min(PARITY);
     let mut y = [0u8; PARITY];
     for i in 0..n {
         add_row(&mut y, s[i], q, n - 1 - i);
     }
-    let none = [0u8; PARITY];
-    lanes(sc, y, none)
+    lanes(sc, y, [0u8; PARITY])
 }

@@ -4,19 +4,20 @@ ghost use Rattle.code_rules.specs.inner.Kernel.{Multiples, roots_list};
 ghost use Rattle.code_rules.specs.inner.Solving.{syndromes_by};
 
 use base::PARITY;
-use code_lanes::{MULTIPLES, lanes, multiples, twice};
+use code_lanes::{MULTIPLES, lanes, multiples};
+use field::twice;
 
 // The roots of the code: the powers of 2 from the first on.
 fn roots() -> [u8; PARITY]
     ensures { result ≡ roots_list }
 {
-    let mut a = [0u8; PARITY];
+    let mut powers = [0u8; PARITY];
     let mut x = 1u8;
-    for j in 0..PARITY {
+    for power in powers.iter_mut() {
         x = twice(x);
-        a[j] = x;
+        *power = x;
     }
-    a
+    powers
 }
 
 // The multiples of the roots.
@@ -31,10 +32,9 @@ pub fn syndromes_at(k: &[u8; MULTIPLES], r: [u8; PARITY]) -> [u8; PARITY]
     ensures { result ≡ syndromes_by k.now r }
 {
     let mut s = [0u8; PARITY];
-    for j in 0..PARITY {
-        let c = r[j];
-        let cs = [c; PARITY];
-        let next = lanes(k, s, cs);
+    for c in r {
+        // Named first: no proof is made for an array that a call lays straight into a variable.
+        let next = lanes(k, s, [c; PARITY]);
         s = next;
     }
     s

@@ -1,15 +1,10 @@
 -- Laws on the first bytes of a list, which are lent to a call and come back with others in their place. Assumes nothing.
 use Prim.Native.Nat.{ℕ, ◌≤◌}
-use native.Mathlib.Omega.{arith}
 use mathlib.Core.Path.{◌≡◌, sym}
-use mathlib.Core.List.{List, ◌++◌}
-use lib.ListN.{length, take, length-append}
+use mathlib.Core.List.{List}
+use lib.ListN.{length, take}
 use lib.Seq.{length-take-le}
 
 -- the first n bytes are n
 pub front : (n : ℕ) (l : List ℕ) → n ≤ length l → n ≡ length (take n l)
 front n l h = sym (length-take-le n l h)
-
--- where n bytes were lent and as many come back, the list still has n
-pub again : (n lent : ℕ) (back rest : List ℕ) → n ≡ lent → length back ≡ lent → n ≤ length (back ++ rest)
-again n lent back rest h e = omega (arith, length-append back rest)

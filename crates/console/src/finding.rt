@@ -1,118 +1,66 @@
 // Questions on an item by its name: the first in a packet or in a standing packet, and the occurrence of a number in a packet; each also with where
 // the item began.
 ghost use Rattle.text_rules.specs.Wrote.{Wrote};
+ghost use Rattle.console.specs.inner.Answered.{Answered};
 
-use crate::words::{Name, Number, Repeating};
 use crate::{items, readout, replies, words};
+use base::Refusal;
 
-// The answer; 0 where the line is no question by name or malformed. Those on "rbw_" are asked of `readout`.
-pub(crate) fn answer(line: &[u8], out: &mut [u8]) -> usize
-    ensures { Wrote out.old 0 result out.new }
+// The answer; none where the line is no question by name or malformed. Those on "rbw_" are asked of `readout`.
+pub(crate) fn answer(line: &[u8], out: &mut [u8]) -> Option<usize>
+    ensures { Answered out.old result out.new }
 {
-    if words::asks_or_more(line, b"find", 3) {
-        return answer_find(line, out, false);
+    match words::question(line) {
+        (b"find", 3 | 4) => answer_find(line, out, false),
+        (b"findat", 3 | 4) => answer_find(line, out, true),
+        (b"nth", 3 | 4) => answer_nth(line, out, false),
+        (b"nthat", 3 | 4) => answer_nth(line, out, true),
+        _ => readout::answer(line, out),
     }
-    if words::asks_or_more(line, b"findat", 3) {
-        return answer_find(line, out, true);
-    }
-    if words::asks_or_more(line, b"nth", 3) {
-        return answer_nth(line, out, false);
-    }
-    if words::asks_or_more(line, b"nthat", 3) {
-        return answer_nth(line, out, true);
-    }
-    readout::answer(line, out)
 }
 
 // `find NAME PACKET STANDING [once|repeat]` is answered `found BITS VALUE`, or `refused N`; `findat`, with `placed`, has
 // `packet START UNUSED` or `standing START UNUSED` before BITS.
-fn answer_find(line: &[u8], out: &mut [u8], placed: bool) -> usize
-    ensures { Wrote out.old 0 result out.new }
+fn answer_find(line: &[u8], out: &mut [u8], placed: bool) -> Option<usize>
+    ensures { Answered out.old result out.new }
 {
-    let Name::Of(name) = words::name_at(line, 1) else {
-        return 0;
-    };
-    let mut packet = [0u8; words::BYTES];
-    let Number::Of(n) = words::bytes_of(words::nth(line, 2), &mut packet) else {
-        return 0;
-    };
-    let mut standing = [0u8; words::BYTES];
-    let Number::Of(m) = words::bytes_of(words::nth(line, 3), &mut standing) else {
-        return 0;
-    };
-    let Repeating::Of(repeats) = words::repeats_at(line, 4) else {
-        return 0;
-    };
-    search_and_write(out, &packet[..n], &standing[..m], repeats, name, placed)
+    let name = words::name_at(line, 1)?;
+    let mut buffer = [0u8; words::BYTES];
+    let packet = words::bytes_at(line, 2, &mut buffer)?;
+    let mut other = [0u8; words::BYTES];
+    let standing = words::bytes_at(line, 3, &mut other)?;
+    let repeats = words::repeats_at(line, 4)?;
+    let sought = tag::search(packet, standing, repeats, name);
+    let value = tag::find(packet, standing, repeats, name);
+    Some(write_found(out, sought, value, placed))
 }
 
 // `nth NAME NUMBER PACKET [once|repeat]` is answered `found BITS VALUE`, or `refused N`; `nthat` likewise.
-fn answer_nth(line: &[u8], out: &mut [u8], placed: bool) -> usize
-    ensures { Wrote out.old 0 result out.new }
+fn answer_nth(line: &[u8], out: &mut [u8], placed: bool) -> Option<usize>
+    ensures { Answered out.old result out.new }
 {
-    let Name::Of(name) = words::name_at(line, 1) else {
-        return 0;
-    };
-    let Number::Of(number) = words::decimal_at(line, 2) else {
-        return 0;
-    };
-    let mut packet = [0u8; words::BYTES];
-    let Number::Of(n) = words::bytes_of(words::nth(line, 3), &mut packet) else {
-        return 0;
-    };
-    let Repeating::Of(repeats) = words::repeats_at(line, 4) else {
-        return 0;
-    };
-    search_nth_and_write(out, &packet[..n], repeats, name, number, placed)
-}
-
-// What a search by name finds.
-fn search_and_write<'a>(
-    out: &mut [u8],
-    packet: &'a [u8],
-    standing: &'a [u8],
-    repeats: item::Repeats,
-    name: u32,
-    placed: bool,
-) -> usize
-    ensures { Wrote out.old 0 result out.new }
-{
-    let sought = tag::search(packet, standing, repeats, name);
-    write_found(
-        out,
-        sought,
-        tag::find(packet, standing, repeats, name),
-        placed,
-    )
-}
-
-// What a search for an occurrence finds.
-fn search_nth_and_write(
-    out: &mut [u8],
-    packet: &[u8],
-    repeats: item::Repeats,
-    name: u32,
-    number: usize,
-    placed: bool,
-) -> usize
-    ensures { Wrote out.old 0 result out.new }
-{
+    let name = words::name_at(line, 1)?;
+    let number = words::decimal_at(line, 2)?;
+    let mut buffer = [0u8; words::BYTES];
+    let packet = words::bytes_at(line, 3, &mut buffer)?;
+    let repeats = words::repeats_at(line, 4)?;
     let sought = occurrence::search_nth(packet, repeats, name, number);
-    write_found(
-        out,
-        sought,
-        occurrence::find_nth(packet, repeats, name, number),
-        placed,
-    )
+    let value = occurrence::find_nth(packet, repeats, name, number);
+    Some(write_found(out, sought, value, placed))
 }
 
 // What a search answers and shows, or the refusal.
-fn write_found(out: &mut [u8], sought: tag::Sought, value: &[u8], placed: bool) -> usize
+fn write_found(
+    out: &mut [u8],
+    sought: Result<tag::Hit, Refusal>,
+    value: &[u8],
+    placed: bool,
+) -> usize
     ensures { Wrote out.old 0 result out.new }
 {
     match sought {
-        tag::Sought::Found(hit) => write_hit(out, hit, value, placed),
-        tag::Sought::Refused(by) => replies::refused(out, by),
+        Ok(hit) => write_hit(out, hit, value, placed),
+        Err(e) => replies::refused(out, e),
     }
 }
 

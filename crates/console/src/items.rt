@@ -1,90 +1,58 @@
 // Questions on TAG items: one that is written, those of a packet, and the nested walk.
 ghost use Rattle.std.specs.Prelude.{◌≤◌, length};
 ghost use Rattle.text_rules.specs.Wrote.{Wrote};
+ghost use Rattle.console.specs.inner.Answered.{Answered};
 
-use crate::words::{Name, Number, Repeating};
 use crate::{finding, replies, words};
 
-// The answer; 0 where the line is no question on items or malformed. Those by name are asked of `finding`.
-pub(crate) fn answer(line: &[u8], out: &mut [u8]) -> usize
-    ensures { Wrote out.old 0 result out.new }
+// The answer; none where the line is no question on items or malformed. Those by name are asked of `finding`.
+pub(crate) fn answer(line: &[u8], out: &mut [u8]) -> Option<usize>
+    ensures { Answered out.old result out.new }
 {
-    if words::asks(line, b"item", 4) {
-        return answer_item(line, out);
+    match words::question(line) {
+        (b"item", 4) => answer_item(line, out),
+        (b"items", 1 | 2) => answer_items(line, out, false),
+        (b"itemsat", 1 | 2) => answer_items(line, out, true),
+        (b"walk", 2 | 3) => answer_walk(line, out, false),
+        (b"walkat", 2 | 3) => answer_walk(line, out, true),
+        _ => finding::answer(line, out),
     }
-    if words::asks_or_more(line, b"items", 1) {
-        return answer_items(line, out, false);
-    }
-    if words::asks_or_more(line, b"itemsat", 1) {
-        return answer_items(line, out, true);
-    }
-    if words::asks_or_more(line, b"walk", 2) {
-        return answer_walk(line, out, false);
-    }
-    if words::asks_or_more(line, b"walkat", 2) {
-        return answer_walk(line, out, true);
-    }
-    finding::answer(line, out)
 }
 
 // `item NAME BITS ROOM VALUE` is answered `item BYTES`, or `refused N`.
-fn answer_item(line: &[u8], out: &mut [u8]) -> usize
-    ensures { Wrote out.old 0 result out.new }
+fn answer_item(line: &[u8], out: &mut [u8]) -> Option<usize>
+    ensures { Answered out.old result out.new }
 {
-    let Name::Of(name) = words::name_at(line, 1) else {
-        return 0;
-    };
-    let Number::Of(bits) = words::decimal_to(line, 2, 4294967295) else {
-        return 0;
-    };
-    let Number::Of(room) = words::decimal_to(line, 3, words::BYTES) else {
-        return 0;
-    };
-    let mut value = [0u8; words::BYTES];
-    let Number::Of(n) = words::bytes_of(words::nth(line, 4), &mut value) else {
-        return 0;
-    };
-    let mut buffer = words::zeros();
-    make_and_write(
-        out,
-        name,
-        item::Bits(bits as u32),
-        &value[..n],
-        &mut buffer[..room],
-    )
+    let name = words::name_at(line, 1)?;
+    let bits = words::decimal_to(line, 2, 4294967295)?;
+    let room = words::decimal_to(line, 3, words::BYTES)?;
+    let mut buffer = [0u8; words::BYTES];
+    let value = words::bytes_at(line, 4, &mut buffer)?;
+    let mut item = words::zeros();
+    make_and_write(out, name, item::Bits(bits as u32), value, &mut item[..room])
 }
 
 // `items PACKET [once|repeat]` is answered `items NAME:BITS:VALUE .. end PADDING`, or `refused N`; `itemsat`, with `placed`, has
 // `START:UNUSED:` before each NAME.
-fn answer_items(line: &[u8], out: &mut [u8], placed: bool) -> usize
-    ensures { Wrote out.old 0 result out.new }
+fn answer_items(line: &[u8], out: &mut [u8], placed: bool) -> Option<usize>
+    ensures { Answered out.old result out.new }
 {
-    let mut packet = [0u8; words::BYTES];
-    let Number::Of(n) = words::bytes_of(words::nth(line, 1), &mut packet) else {
-        return 0;
-    };
-    let Repeating::Of(repeats) = words::repeats_at(line, 2) else {
-        return 0;
-    };
-    write_items(out, &packet[..n], repeats, placed)
+    let mut buffer = [0u8; words::BYTES];
+    let packet = words::bytes_at(line, 1, &mut buffer)?;
+    let repeats = words::repeats_at(line, 2)?;
+    Some(write_items(out, packet, repeats, placed))
 }
 
 // `walk NAMES PACKET [once|repeat]` is answered `walk DEPTH:NAME:BITS .. end PADDING`, or `refused N`; `walkat` likewise.
-fn answer_walk(line: &[u8], out: &mut [u8], placed: bool) -> usize
-    ensures { Wrote out.old 0 result out.new }
+fn answer_walk(line: &[u8], out: &mut [u8], placed: bool) -> Option<usize>
+    ensures { Answered out.old result out.new }
 {
-    let mut names = [0u8; words::BYTES];
-    let Number::Of(m) = words::bytes_of(words::nth(line, 1), &mut names) else {
-        return 0;
-    };
-    let mut packet = [0u8; words::BYTES];
-    let Number::Of(n) = words::bytes_of(words::nth(line, 2), &mut packet) else {
-        return 0;
-    };
-    let Repeating::Of(repeats) = words::repeats_at(line, 3) else {
-        return 0;
-    };
-    write_walk(out, &packet[..n], &names[..m], repeats, placed)
+    let mut buffer = [0u8; words::BYTES];
+    let names = words::bytes_at(line, 1, &mut buffer)?;
+    let mut other = [0u8; words::BYTES];
+    let packet = words::bytes_at(line, 2, &mut other)?;
+    let repeats = words::repeats_at(line, 3)?;
+    Some(write_walk(out, packet, names, repeats, placed))
 }
 
 // The item of a value in the buffer that is lent for it.
@@ -94,9 +62,9 @@ fn make_and_write(
     bits: item::Bits,
     value: &[u8],
     room: &mut [u8],
-) -> usize
+) -> Option<usize>
     requires { length value.now ≤ 32768 }
-    ensures { Wrote out.old 0 result out.new }
+    ensures { Answered out.old result out.new }
 {
     let written = write::write(name, bits, value, room);
     replies::written(out, b"item ", written, room, item::HEAD + value.len())
@@ -106,11 +74,10 @@ fn make_and_write(
 fn write_items(out: &mut [u8], packet: &[u8], repeats: item::Repeats, placed: bool) -> usize
     ensures { Wrote out.old 0 result out.new }
 {
-    let first = reader::first(packet, repeats);
-    let item::Step::Refused(by) = first else {
-        return write_steps(out, packet, placed);
-    };
-    replies::refused(out, by)
+    match reader::first(packet, repeats) {
+        Ok(_) => write_steps(out, packet, placed),
+        Err(by) => replies::refused_by(out, by),
+    }
 }
 
 // The items of a walk, or the refusal.
@@ -126,13 +93,13 @@ fn write_walk(
     let opened = walk::open_walk(packet, names, repeats);
     let by = opened.refusal;
     if by != 0 {
-        return replies::refused(out, by);
+        return replies::refused_by(out, by);
     }
     write_visits(out, packet, names, opened, placed)
 }
 
 // How often a reader or a walk can step: each item has a head, and the end comes behind the last. A
-// proved loop has to end, so those below count these turns down, and no packet takes more.
+// proved loop has to end, so those below take so many turns at most, and no packet takes more.
 fn turns(packet: &[u8]) -> usize {
     packet.len() / item::HEAD + 1
 }
@@ -143,15 +110,13 @@ fn write_steps(out: &mut [u8], packet: &[u8], placed: bool) -> usize
 {
     let mut to = replies::word(out, b"items");
     let mut at = 0;
-    let mut left = turns(packet);
-    while left > 0 {
+    for _ in 0..turns(packet) {
         let step = reader::step_at(packet, at, 0);
-        let item::Step::Item(i) = step else {
+        let Ok(item::Step::Item(i)) = step else {
             return write_end(out, to, step);
         };
         to = write_item(out, to, packet, i, placed);
         at = reader::place_after(packet, at, 0);
-        left -= 1;
     }
     to
 }
@@ -168,23 +133,20 @@ fn write_visits(
 {
     let mut to = replies::word(out, b"walk");
     let mut w = opened;
-    let mut left = turns(packet);
-    while left > 0 {
+    for _ in 0..turns(packet) {
         let walked = walk::walk_step(packet, names, w);
-        let handed = walked.handed;
-        match handed {
-            walk::Handed::Item(visit) => {
+        match walked.handed {
+            Ok(walk::Handed::Item(visit)) => {
                 to = write_visit(out, to, visit, placed);
             }
-            walk::Handed::End(p) => {
+            Ok(walk::Handed::End(p)) => {
                 return replies::labelled(out, to, b" end ", p.0);
             }
-            walk::Handed::Refused(_) => {
+            Err(_) => {
                 return to;
             }
         }
         w = walked.next;
-        left -= 1;
     }
     to
 }
@@ -242,11 +204,11 @@ pub(crate) fn write_place(out: &mut [u8], at: usize, i: item::Item, gap: &[u8]) 
 }
 
 // The padding behind the last item; a packet that was opened has no other end.
-fn write_end(out: &mut [u8], at: usize, step: item::Step) -> usize
+fn write_end(out: &mut [u8], at: usize, step: Result<item::Step, u8>) -> usize
     requires { at ≤ length out.old }
     ensures { Wrote out.old at result out.new }
 {
-    let item::Step::End(p) = step else {
+    let Ok(item::Step::End(p)) = step else {
         return at;
     };
     replies::labelled(out, at, b" end ", p.0)

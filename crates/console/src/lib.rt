@@ -18,6 +18,7 @@ mod sums;
 mod words;
 
 ghost use Rattle.text_rules.specs.Wrote.{Wrote};
+ghost use Rattle.console.specs.inner.Answered.{Answered};
 
 // A line as long as this, or longer, is no question: the longest has the most bytes, two digits
 // each, and some other words. So a program collects a line in a buffer of this length and drops
@@ -44,68 +45,57 @@ pub const SEAT: usize = packed::RECORD + receiving::LENT;
 pub fn answer(line: &[u8], seat: &mut [u8], out: &mut [u8]) -> usize
     ensures { Wrote out.old 0 result out.new }
 {
-    if line.len() == 0 {
-        return 0;
-    }
-    if line[0] == b'#' {
+    if line.is_empty() || line.starts_with(b"#") {
         return 0;
     }
     if LINE <= line.len() {
         return replies::unknown(out);
     }
-    let n = ask_all(line, seat, out);
-    if n == 0 {
-        return replies::unknown(out);
+    match ask_all(line, seat, out) {
+        Some(n) => n,
+        None => replies::unknown(out),
     }
-    n
 }
 
-// Asks the groups of questions one after another; each answers 0, and leaves the buffer as it is,
+// Asks the groups of questions one after another; each has no answer, and leaves the buffer as it is,
 // where the line is none of its own or is malformed.
-fn ask_all(line: &[u8], seat: &mut [u8], out: &mut [u8]) -> usize
-    ensures { Wrote out.old 0 result out.new }
+fn ask_all(line: &[u8], seat: &mut [u8], out: &mut [u8]) -> Option<usize>
+    ensures { Answered out.old result out.new }
 {
-    let stateless = ask_stateless(line, out);
-    if stateless != 0 {
-        return stateless;
+    if let Some(n) = ask_stateless(line, out) {
+        return Some(n);
     }
     receiving::answer(line, seat, out)
 }
 
 // The groups whose answer hangs on the line alone.
-fn ask_stateless(line: &[u8], out: &mut [u8]) -> usize
-    ensures { Wrote out.old 0 result out.new }
+fn ask_stateless(line: &[u8], out: &mut [u8]) -> Option<usize>
+    ensures { Answered out.old result out.new }
 {
-    let figure = ask_figures(line, out);
-    if figure != 0 {
-        return figure;
+    if let Some(n) = ask_figures(line, out) {
+        return Some(n);
     }
-    let packet = packets::answer(line, out);
-    if packet != 0 {
-        return packet;
+    if let Some(n) = packets::answer(line, out) {
+        return Some(n);
     }
-    let item = items::answer(line, out);
-    if item != 0 {
-        return item;
+    if let Some(n) = items::answer(line, out) {
+        return Some(n);
     }
     sending::answer(line, out)
 }
 
 // The groups on what the layers stand on: sums, the sizes of a cut, the field and the code.
-fn ask_figures(line: &[u8], out: &mut [u8]) -> usize
-    ensures { Wrote out.old 0 result out.new }
+fn ask_figures(line: &[u8], out: &mut [u8]) -> Option<usize>
+    ensures { Answered out.old result out.new }
 {
-    let sum = sums::answer(line, out);
-    if sum != 0 {
-        return sum;
+    if let Some(n) = sums::answer(line, out) {
+        return Some(n);
     }
-    let plan = plans::answer(line, out);
-    if plan != 0 {
-        return plan;
+    if let Some(n) = plans::answer(line, out) {
+        return Some(n);
     }
-    let element = fields::answer(line, out);
-    if element != 0 {
-        return element;
+    if let Some(n) = fields::answer(line, out) {
+        return Some(n);
     }
     chunks::answer(line, out)
 }

@@ -1,34 +1,37 @@
 // The question how many losses a cut stands, exactly.
 ghost use Rattle.std.specs.Prelude.{◌≤◌, length};
 ghost use Rattle.text_rules.specs.Wrote.{Wrote};
+ghost use Rattle.console.specs.inner.Answered.{Answered};
 
-use crate::plans::Cutting;
 use crate::{plans, replies};
-use base::MOST_F;
-use endurance::Endured;
+use base::{MOST_F, Refusal};
+use endurance::Losses;
 
-// `endure FEC M MTU ADDR L [RULE]` is answered `endures W of F losing I,J,..`, or `refused N`; 0 where the line is malformed.
-pub(crate) fn answer(line: &[u8], out: &mut [u8]) -> usize
+// `endure FEC M MTU ADDR L [RULE]` is answered `endures W of F losing I,J,..`, or `refused N`; none where the line is malformed.
+pub(crate) fn answer(line: &[u8], out: &mut [u8]) -> Option<usize>
+    ensures { Answered out.old result out.new }
+{
+    let (g, l) = plans::cut_in(line)?;
+    let e = endurance::endure(g, l);
+    Some(write_endured(out, e.answer, e.lost))
+}
+
+// What the cut stands, or the refusal.
+fn write_endured(out: &mut [u8], stood: Result<Losses, Refusal>, lost: [bool; MOST_F]) -> usize
     ensures { Wrote out.old 0 result out.new }
 {
-    let Cutting::Of(g, l) = plans::cut_in(line) else {
-        return 0;
-    };
-    let e = endurance::endure(g, l);
-    let stood = e.answer;
-    let lost = e.lost;
     match stood {
-        Endured::Losses { most, f } => write_losses(out, most, f, lost),
-        Endured::Refused(by) => replies::refused(out, by),
+        Ok(stood) => write_losses(out, stood, lost),
+        Err(e) => replies::refused(out, e),
     }
 }
 
 // The two figures, and the set that is one too many.
-fn write_losses(out: &mut [u8], most: usize, f: usize, lost: [bool; MOST_F]) -> usize
+fn write_losses(out: &mut [u8], stood: Losses, lost: [bool; MOST_F]) -> usize
     ensures { Wrote out.old 0 result out.new }
 {
-    let at = replies::number(out, b"endures ", most);
-    let to = replies::labelled(out, at, b" of ", f);
+    let at = replies::number(out, b"endures ", stood.most);
+    let to = replies::labelled(out, at, b" of ", stood.f);
     write_set(out, to, lost)
 }
 
@@ -38,10 +41,8 @@ fn write_set(out: &mut [u8], at: usize, lost: [bool; MOST_F]) -> usize
     ensures { Wrote out.old at result out.new }
 {
     let mut to = at;
-    let mut i = 0;
-    while i < MOST_F {
-        to = write_fragment(out, to, lost[i], to == at, i);
-        i += 1;
+    for (i, lost) in lost.iter().enumerate() {
+        to = write_fragment(out, to, *lost, to == at, i);
     }
     to
 }

@@ -1,67 +1,65 @@
 // Questions on AF packets: what one says of itself, the packet of a payload, and the listing of one.
 ghost use Rattle.std.specs.Prelude.{◌≤◌, length};
 ghost use Rattle.text_rules.specs.Wrote.{Wrote};
+ghost use Rattle.console.specs.inner.Answered.{Answered};
 
-use crate::words::Number;
 use crate::{replies, words};
-use lister::Listed;
+use base::Refusal;
 
-// The answer; 0 where the line is no question on AF packets or malformed.
-pub(crate) fn answer(line: &[u8], out: &mut [u8]) -> usize
-    ensures { Wrote out.old 0 result out.new }
+// The answer; none where the line is no question on AF packets or malformed.
+pub(crate) fn answer(line: &[u8], out: &mut [u8]) -> Option<usize>
+    ensures { Answered out.old result out.new }
 {
-    if words::asks(line, b"afcheck", 1) {
-        return answer_check(line, out);
+    match words::question(line) {
+        (b"afcheck", 1) => answer_check(line, out),
+        (b"afwrap", 4) => answer_wrap(line, out),
+        (b"list", 1) => answer_list(line, out),
+        _ => None,
     }
-    if words::asks(line, b"afwrap", 4) {
-        return answer_wrap(line, out);
-    }
-    if words::asks(line, b"list", 1) {
-        return answer_list(line, out);
-    }
-    0
 }
 
 // `afcheck BYTES` is answered `af seq= cf= rev= len=` with the figures, or `refused N`.
-fn answer_check(line: &[u8], out: &mut [u8]) -> usize
+fn answer_check(line: &[u8], out: &mut [u8]) -> Option<usize>
+    ensures { Answered out.old result out.new }
+{
+    let mut buffer = [0u8; words::BYTES];
+    let packet = words::bytes_at(line, 1, &mut buffer)?;
+    Some(write_checked(out, af::check(packet)))
+}
+
+// The figures, or the refusal.
+fn write_checked(out: &mut [u8], checked: Result<af::Figures, Refusal>) -> usize
     ensures { Wrote out.old 0 result out.new }
 {
-    let mut packet = [0u8; words::BYTES];
-    let Number::Of(n) = words::bytes_of(words::nth(line, 1), &mut packet) else {
-        return 0;
-    };
-    let checked = af::check(&packet[..n]);
     match checked {
-        af::Checked::Packet(figures) => write_figures(out, figures),
-        af::Checked::Refused(by) => replies::refused(out, by),
+        Ok(figures) => write_figures(out, figures),
+        Err(e) => replies::refused(out, e),
     }
 }
 
 // `afwrap SEQ CF ROOM PAYLOAD` is answered `packet BYTES`, or `refused N`.
-fn answer_wrap(line: &[u8], out: &mut [u8]) -> usize
-    ensures { Wrote out.old 0 result out.new }
+fn answer_wrap(line: &[u8], out: &mut [u8]) -> Option<usize>
+    ensures { Answered out.old result out.new }
 {
-    let Number::Of(seq) = words::decimal_to(line, 1, 65535) else {
-        return 0;
-    };
-    let Number::Of(cf) = words::decimal_to(line, 2, 1) else {
-        return 0;
-    };
-    let Number::Of(room) = words::decimal_to(line, 3, words::BYTES) else {
-        return 0;
-    };
-    let mut payload = [0u8; words::BYTES];
-    let Number::Of(n) = words::bytes_of(words::nth(line, 4), &mut payload) else {
-        return 0;
-    };
+    let seq = words::decimal_to(line, 1, 65535)?;
+    let cf = words::decimal_to(line, 2, 1)?;
+    let room = words::decimal_to(line, 3, words::BYTES)?;
+    let mut buffer = [0u8; words::BYTES];
+    let payload = words::bytes_at(line, 4, &mut buffer)?;
     let mut packet = words::zeros();
-    wrap_and_write(out, seq as u16, cf == 1, &payload[..n], &mut packet[..room])
+    wrap_and_write(out, seq as u16, cf == 1, payload, &mut packet[..room])
 }
 
 // The packet of a payload in the buffer that is lent for it.
-fn wrap_and_write(out: &mut [u8], seq: u16, cf: bool, payload: &[u8], room: &mut [u8]) -> usize
+fn wrap_and_write(
+    out: &mut [u8],
+    seq: u16,
+    cf: bool,
+    payload: &[u8],
+    room: &mut [u8],
+) -> Option<usize>
     requires { length payload.now ≤ 32768 }
-    ensures { Wrote out.old 0 result out.new }
+    ensures { Answered out.old result out.new }
 {
     let written = af::wrap(seq, cf, payload, room);
     replies::written(
@@ -74,14 +72,12 @@ fn wrap_and_write(out: &mut [u8], seq: u16, cf: bool, payload: &[u8], room: &mut
 }
 
 // `list BYTES` is answered `list OUTPUT`: the listing, with `_` for a blank and `|` for a newline.
-fn answer_list(line: &[u8], out: &mut [u8]) -> usize
-    ensures { Wrote out.old 0 result out.new }
+fn answer_list(line: &[u8], out: &mut [u8]) -> Option<usize>
+    ensures { Answered out.old result out.new }
 {
-    let mut packet = [0u8; words::BYTES];
-    let Number::Of(n) = words::bytes_of(words::nth(line, 1), &mut packet) else {
-        return 0;
-    };
-    write_listing(out, &packet[..n])
+    let mut buffer = [0u8; words::BYTES];
+    let packet = words::bytes_at(line, 1, &mut buffer)?;
+    Some(write_listing(out, packet))
 }
 
 // The listing in a buffer that has room for it: no listing has more letters than `lister::LISTING`.
@@ -90,8 +86,8 @@ fn write_listing(out: &mut [u8], packet: &[u8]) -> usize
 {
     let mut listing = words::zeros();
     match lister::list(packet, &mut listing) {
-        Listed::Length(n) => write_line(out, &mut listing[..n]),
-        Listed::Refused(n) => replies::refused(out, n),
+        Ok(n) => write_line(out, &mut listing[..n]),
+        Err(e) => replies::refused(out, e),
     }
 }
 
@@ -106,10 +102,8 @@ fn write_line(out: &mut [u8], letters: &mut [u8]) -> usize
 
 // Puts `_` for each blank and `|` for each newline.
 fn in_one_line(letters: &mut [u8]) {
-    let mut i = 0;
-    while i < letters.len() {
-        letters[i] = mark(letters[i]);
-        i += 1;
+    for letter in letters {
+        *letter = mark(*letter);
     }
 }
 
@@ -127,12 +121,7 @@ fn write_figures(out: &mut [u8], figures: af::Figures) -> usize
     ensures { Wrote out.old 0 result out.new }
 {
     let mut at = replies::number(out, b"af seq=", figures.seq as usize);
-    at = replies::labelled(out, at, b" cf=", bit(figures.cf));
+    at = replies::labelled(out, at, b" cf=", usize::from(figures.cf));
     at = replies::labelled(out, at, b" rev=1.", figures.minor as usize);
     replies::labelled(out, at, b" len=", figures.len as usize)
-}
-
-// A flag as a number.
-fn bit(set: bool) -> usize {
-    if set { 1 } else { 0 }
 }

@@ -1,41 +1,33 @@
 // Questions on the bandwidth of "rbw_": read, written, and kept with the widest and narrowest so far.
 ghost use Rattle.text_rules.specs.Wrote.{Wrote};
+ghost use Rattle.console.specs.inner.Answered.{Answered};
 ghost use Rattle.std.specs.Prelude.{◌≡◌, ◌≤◌};
 ghost use Rattle.std.specs.Float.{binary32};
 ghost use Rattle.std.specs.Float.Ieee.{nan_bits};
 
-use crate::words::{Number, Repeating};
 use crate::{replies, words};
-use bandwidth::{Bandwidth, Widths};
-
-// What a question gives of the figures so far: that it asks for none, the record, or a malformed one.
-#[derive(Clone, Copy)]
-enum Record {
-    None,
-    Of(Widths),
-    Malformed,
-}
+use bandwidth::Widths;
+use base::Refusal;
 
 // The bytes of a record: three patterns and the flag.
 const RECORD: usize = 13;
 
-// The answer; 0 where the line is no question on the bandwidth or malformed.
-pub(crate) fn answer(line: &[u8], out: &mut [u8]) -> usize
-    ensures { Wrote out.old 0 result out.new }
+// The answer; none where the line is no question on the bandwidth or malformed.
+pub(crate) fn answer(line: &[u8], out: &mut [u8]) -> Option<usize>
+    ensures { Answered out.old result out.new }
 {
-    if words::asks_or_more(line, b"rbw", 2) {
-        let Repeating::Of(repeats) = words::repeats_at(line, 3) else {
-            return 0;
-        };
-        return answer_packets(line, out, 1, repeats, Record::None);
+    match words::question(line) {
+        (b"rbw", 2 | 3) => {
+            let repeats = words::repeats_at(line, 3)?;
+            answer_packets(line, out, 1, repeats, None)
+        }
+        (b"rbwseen", 3) => {
+            let record = record_in(line)?;
+            answer_packets(line, out, 2, item::Repeats::Forbidden, Some(record))
+        }
+        (b"rbwitem", 2) => answer_item(line, out),
+        _ => None,
     }
-    if words::asks(line, b"rbwseen", 3) {
-        return answer_packets(line, out, 2, item::Repeats::Forbidden, record_in(line));
-    }
-    if words::asks(line, b"rbwitem", 2) {
-        return answer_item(line, out);
-    }
-    0
 }
 
 // Whether a pattern is a NaN's: its exponent is all ones, and not all digits behind it are 0.
@@ -64,24 +56,19 @@ fn pattern_of(x: f32) -> u32 {
 }
 
 // The record that `rbwseen` gives: patterns of which none is a NaN's, and a flag that is 0 or 1.
-fn record_in(line: &[u8]) -> Record {
+fn record_in(line: &[u8]) -> Option<Widths> {
     let mut raw = [0u8; RECORD];
-    let Number::Of(n) = words::bytes_of(words::nth(line, 1), &mut raw) else {
-        return Record::Malformed;
-    };
-    if n != RECORD {
-        return Record::Malformed;
-    }
-    if 1 < raw[12] {
-        return Record::Malformed;
+    let n = words::bytes_at(line, 1, &mut raw)?.len();
+    if n != RECORD || 1 < raw[12] {
+        return None;
     }
     let last = base::read4(&raw, 0);
     let widest = base::read4(&raw, 4);
     let narrowest = base::read4(&raw, 8);
     if is_nan(last) || is_nan(widest) || is_nan(narrowest) {
-        return Record::Malformed;
+        return None;
     }
-    Record::Of(Widths {
+    Some(Widths {
         last: float_of(last),
         widest: float_of(widest),
         narrowest: float_of(narrowest),
@@ -95,54 +82,49 @@ fn answer_packets(
     out: &mut [u8],
     at: usize,
     repeats: item::Repeats,
-    record: Record,
-) -> usize
+    record: Option<Widths>,
+) -> Option<usize>
     requires { at ≤ 8 }
-    ensures { Wrote out.old 0 result out.new }
+    ensures { Answered out.old result out.new }
 {
-    let mut packet = [0u8; words::BYTES];
-    let Number::Of(n) = words::bytes_of(words::nth(line, at), &mut packet) else {
-        return 0;
-    };
-    let mut standing = [0u8; words::BYTES];
-    let Number::Of(m) = words::bytes_of(words::nth(line, at + 1), &mut standing) else {
-        return 0;
-    };
-    read_and_write(out, &packet[..n], &standing[..m], repeats, record)
+    let mut buffer = [0u8; words::BYTES];
+    let packet = words::bytes_at(line, at, &mut buffer)?;
+    let mut other = [0u8; words::BYTES];
+    let standing = words::bytes_at(line, at + 1, &mut other)?;
+    Some(read_and_write(out, packet, standing, repeats, record))
 }
 
 // `rbw PACKET STANDING [once|repeat]` is answered `width PATTERN`, `notavailable` or `refused N`; `rbwseen RECORD PACKET STANDING` is answered
-// `seen RECORD`, a refused reading too.
+// `seen RECORD`, a refused reading too. The record is that of the figures so far, where the question gives one.
 fn read_and_write(
     out: &mut [u8],
     packet: &[u8],
     standing: &[u8],
     repeats: item::Repeats,
-    record: Record,
+    record: Option<Widths>,
 ) -> usize
     ensures { Wrote out.old 0 result out.new }
 {
     match record {
-        Record::None => write_bandwidth(out, bandwidth::read(packet, standing, repeats)),
-        Record::Of(widths) => {
+        None => write_bandwidth(out, bandwidth::read(packet, standing, repeats)),
+        Some(widths) => {
             let watched = bandwidth::watch(widths, packet, standing, repeats);
             write_record(out, watched.widths)
         }
-        Record::Malformed => 0,
     }
 }
 
 // What was read.
-fn write_bandwidth(out: &mut [u8], answer: Bandwidth) -> usize
+fn write_bandwidth(out: &mut [u8], answer: Result<Option<f32>, Refusal>) -> usize
     ensures { Wrote out.old 0 result out.new }
 {
     match answer {
-        Bandwidth::Width(x) => {
+        Ok(Some(x)) => {
             let pattern = base::bytes4(pattern_of(x));
             replies::bytes(out, b"width ", &pattern)
         }
-        Bandwidth::NotAvailable => replies::word(out, b"notavailable"),
-        Bandwidth::Refused(by) => replies::refused(out, by),
+        Ok(None) => replies::word(out, b"notavailable"),
+        Err(e) => replies::refused(out, e),
     }
 }
 
@@ -151,39 +133,38 @@ fn write_record(out: &mut [u8], widths: Widths) -> usize
     ensures { Wrote out.old 0 result out.new }
 {
     let mut raw = [0u8; RECORD];
-    base::put(&mut raw, 0, &base::bytes4(pattern_of(widths.last)));
-    base::put(&mut raw, 4, &base::bytes4(pattern_of(widths.widest)));
-    base::put(&mut raw, 8, &base::bytes4(pattern_of(widths.narrowest)));
+    let _ = base::put(&mut raw, 0, &base::bytes4(pattern_of(widths.last)));
+    let _ = base::put(&mut raw, 4, &base::bytes4(pattern_of(widths.widest)));
+    let _ = base::put(&mut raw, 8, &base::bytes4(pattern_of(widths.narrowest)));
     raw[12] = widths.any as u8;
     replies::bytes(out, b"seen ", &raw)
 }
 
 // `rbwitem PATTERN ROOM` is answered `item BYTES`, or `refused N`.
-fn answer_item(line: &[u8], out: &mut [u8]) -> usize
-    ensures { Wrote out.old 0 result out.new }
+fn answer_item(line: &[u8], out: &mut [u8]) -> Option<usize>
+    ensures { Answered out.old result out.new }
 {
     let mut four = [0u8; 4];
-    let Number::Of(n) = words::bytes_of(words::nth(line, 1), &mut four) else {
-        return 0;
-    };
-    let Number::Of(room) = words::decimal_to(line, 2, words::BYTES) else {
-        return 0;
-    };
-    let mut buffer = words::zeros();
-    make_and_write(out, n, base::read4(&four, 0), &mut buffer[..room])
+    let pattern = words::bytes_at(line, 1, &mut four)?;
+    let room = words::decimal_to(line, 2, words::BYTES)?;
+    let mut item = words::zeros();
+    make_and_write(out, pattern, &mut item[..room])
 }
 
 // The item of a figure by its pattern, or with no bytes of a pattern that of none, in the buffer that is lent for it.
-fn make_and_write(out: &mut [u8], n: usize, pattern: u32, room: &mut [u8]) -> usize
-    ensures { Wrote out.old 0 result out.new }
+fn make_and_write(out: &mut [u8], pattern: &[u8], room: &mut [u8]) -> Option<usize>
+    ensures { Answered out.old result out.new }
 {
-    if n == 0 {
-        let none = bandwidth::write_none(room);
-        return replies::written(out, b"item ", none, room, item::HEAD);
+    match *pattern {
+        [] => {
+            let none = bandwidth::write_none(room);
+            replies::written(out, b"item ", none, room, item::HEAD)
+        }
+        [a, b, c, d] => {
+            let width = float_of(u32::from_be_bytes([a, b, c, d]));
+            let written = bandwidth::write_width(width, room);
+            replies::written(out, b"item ", written, room, item::HEAD + 2)
+        }
+        _ => None,
     }
-    if n == 4 {
-        let width = bandwidth::write_width(float_of(pattern), room);
-        return replies::written(out, b"item ", width, room, item::HEAD + 2);
-    }
-    0
 }

@@ -1,7 +1,11 @@
-// What several answers are made of.
+// What several answers are made of. The buffer and the place in it stay two parameters, as in crate text: each function that took a struct of
+// the two would have to promise that it still lends the same buffer, in place of asking that the place is in it.
 ghost use Rattle.std.specs.Prelude.{◌≡◌, ◌++◌, ◌≤◌, length};
 ghost use Rattle.text_rules.specs.Text.{laid, behind, decimal_of};
 ghost use Rattle.text_rules.specs.Wrote.{Wrote};
+ghost use Rattle.console.specs.inner.Answered.{Answered};
+
+use base::Refusal;
 
 // A number behind a label.
 pub(crate) fn labelled(out: &mut [u8], at: usize, label: &[u8], value: usize) -> usize
@@ -42,7 +46,14 @@ pub(crate) fn unknown(out: &mut [u8]) -> usize
 }
 
 // A refusal with its number.
-pub(crate) fn refused(out: &mut [u8], by: u8) -> usize
+pub(crate) fn refused(out: &mut [u8], e: Refusal) -> usize
+    ensures { Wrote out.old 0 result out.new }
+{
+    refused_by(out, u8::from(e))
+}
+
+// The number of a refusal that a reader or a walk shows.
+pub(crate) fn refused_by(out: &mut [u8], by: u8) -> usize
     ensures { Wrote out.old 0 result out.new }
 {
     number(out, b"refused ", by as usize)
@@ -54,7 +65,7 @@ pub(crate) fn value(out: &mut [u8], at: usize, label: &[u8], raw: &[u8]) -> usiz
     ensures { Wrote out.old at result out.new }
 {
     let to = text::plain(out, at, label);
-    if raw.len() == 0 {
+    if raw.is_empty() {
         return text::plain(out, to, b"-");
     }
     text::hex(out, to, raw)
@@ -62,27 +73,25 @@ pub(crate) fn value(out: &mut [u8], at: usize, label: &[u8], raw: &[u8]) -> usiz
 
 // The n bytes that a call wrote at the front of a buffer, behind the answer's name. No call writes more
 // than it was lent, and where one did there would be no answer.
-pub(crate) fn front(out: &mut [u8], name: &[u8], buffer: &[u8], n: usize) -> usize
-    ensures { Wrote out.old 0 result out.new }
+pub(crate) fn front(out: &mut [u8], name: &[u8], buffer: &[u8], n: usize) -> Option<usize>
+    ensures { Answered out.old result out.new }
 {
-    if buffer.len() < n {
-        return 0;
-    }
-    bytes(out, name, &buffer[..n])
+    let written = buffer.get(..n)?;
+    Some(bytes(out, name, written))
 }
 
 // The same, or the call's refusal.
 pub(crate) fn written(
     out: &mut [u8],
     name: &[u8],
-    by: base::Written,
+    by: Result<(), Refusal>,
     buffer: &[u8],
     n: usize,
-) -> usize
-    ensures { Wrote out.old 0 result out.new }
+) -> Option<usize>
+    ensures { Answered out.old result out.new }
 {
     match by {
-        base::Written::Done => front(out, name, buffer, n),
-        base::Written::Refused(number) => refused(out, number),
+        Ok(()) => front(out, name, buffer, n),
+        Err(e) => Some(refused(out, e)),
     }
 }

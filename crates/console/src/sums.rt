@@ -1,20 +1,24 @@
 // Questions on sums.
-ghost use Rattle.text_rules.specs.Wrote.{Wrote};
+ghost use Rattle.console.specs.inner.Answered.{Answered};
 
-use crate::words::Number;
 use crate::{replies, words};
 
-// `crc BYTES` is answered `crc HHHH`, as it is sent; 0 where the line is another or malformed.
-pub(crate) fn answer(line: &[u8], out: &mut [u8]) -> usize
-    ensures { Wrote out.old 0 result out.new }
+// `crc BYTES` is answered `crc HHHH`, as it is sent; none where the line is another or malformed.
+pub(crate) fn answer(line: &[u8], out: &mut [u8]) -> Option<usize>
+    ensures { Answered out.old result out.new }
 {
-    if !words::asks(line, b"crc", 1) {
-        return 0;
+    match words::question(line) {
+        (b"crc", 1) => answer_crc(line, out),
+        _ => None,
     }
-    let mut data = [0u8; words::BYTES];
-    let Number::Of(n) = words::bytes_of(words::nth(line, 1), &mut data) else {
-        return 0;
-    };
-    let sent = base::bytes2(crc::word(&data[..n]));
-    replies::bytes(out, b"crc ", &sent)
+}
+
+// The sum of the bytes.
+fn answer_crc(line: &[u8], out: &mut [u8]) -> Option<usize>
+    ensures { Answered out.old result out.new }
+{
+    let mut buffer = [0u8; words::BYTES];
+    let bytes = words::bytes_at(line, 1, &mut buffer)?;
+    let sent = base::bytes2(crc::word(bytes));
+    Some(replies::bytes(out, b"crc ", &sent))
 }

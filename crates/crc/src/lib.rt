@@ -33,7 +33,7 @@ fn fed(r: u16, b: u8) -> u16
     ensures { result ≡ feed r b }
 {
     let mut q = r ^ (b as u16 * 256);
-    for i in 0u8..8 {
+    for _ in 0u8..8 {
         q = shifted(q);
     }
     q
@@ -44,17 +44,10 @@ fn by_bytes(start: u16, bytes: &[u8]) -> u16
     ensures { result ≡ register_of start bytes.now }
 {
     let mut r = start;
-    for i in 0..bytes.len() {
-        r = fed(r, bytes[i]);
+    for b in bytes {
+        r = fed(r, *b);
     }
     r
-}
-
-// A byte as an index: the function spares the caller a proof that it fits.
-fn wide(x: u8) -> usize
-    ensures { result ≡ x }
-{
-    x as usize
 }
 
 // The byte of the register that meets the next byte of data.
@@ -64,43 +57,48 @@ fn high(r: u16) -> u8
     (r / 256) as u8
 }
 
-// What byte b of eight, if it is x, adds to the register after the eight.
-fn share(t: &[u16; 256], b: usize, x: u8) -> u16
-    requires { (b < 8) × Halves t.now }
-    ensures { result ≡ rounds (8 - b) (x * 256) }
-{
-    let at = b * 32;
-    let v = wide(x);
-    t[at + v % 16] ^ t[at + 16 + v / 16]
+// The table by which eight bytes are taken in one step, with its rule.
+#[derive(Drop)]
+struct HalfBytes {
+    entries: [u16; 256],
+    ghost right: { Halves entries },
 }
 
-// Eight bytes more. The register goes in with the first two: `sum` is what the bytes so far add to the result, r what is left to go in.
-fn eight(t: &[u16; 256], start: u16, p: &[u8]) -> u16
-    requires { (length p.now ≡ 8) × Halves t.now }
-    ensures { result ≡ register_of start p.now }
-{
-    let mut sum = 0u16;
-    let mut r = start;
-    for b in 0..8 {
-        sum = sum ^ share(t, b, high(r) ^ p[b]);
-        r = r % 256 * 256;
+impl HalfBytes {
+    // What byte b of eight, if it is x, adds to the register after the eight.
+    fn share(&self, b: usize, x: u8) -> u16
+        requires { b < 8 }
+        ensures { result ≡ rounds (8 - b) (x * 256) }
+    {
+        let at = b * 32;
+        let v = usize::from(x);
+        self.entries[at + v % 16] ^ self.entries[at + 16 + v / 16]
     }
-    sum ^ r
-}
 
-// All bytes, eight a step; what is left, seven at most, goes one after another.
-fn by_eights(t: &[u16; 256], start: u16, bytes: &[u8]) -> u16
-    requires { Halves t.now }
-    ensures { result ≡ register_of start bytes.now }
-{
-    let mut r = start;
-    let mut a = 0;
-    while 8 <= bytes.len() - a {
-        let e = a + 8;
-        r = eight(t, r, &bytes[a..e]);
-        a = e;
+    // Eight bytes more. The register goes in with the first two: `sum` is what the bytes so far add to the result, r what is left to go in.
+    fn eight(&self, start: u16, p: &[u8; 8]) -> u16
+        ensures { result ≡ register_of start p.now }
+    {
+        let mut sum = 0u16;
+        let mut r = start;
+        for (b, x) in p.iter().enumerate() {
+            sum = sum ^ self.share(b, high(r) ^ *x);
+            r = r % 256 * 256;
+        }
+        sum ^ r
     }
-    by_bytes(r, &bytes[a..])
+
+    // All bytes, eight a step; what is left, seven at most, goes one after another.
+    fn register(&self, start: u16, bytes: &[u8]) -> u16
+        ensures { result ≡ register_of start bytes.now }
+    {
+        let (eights, rest) = bytes.as_chunks::<8>();
+        let mut r = start;
+        for p in eights {
+            r = self.eight(r, p);
+        }
+        by_bytes(r, rest)
+    }
 }
 
 // The register after `bytes`.
@@ -111,8 +109,10 @@ pub fn register(start: u16, bytes: &[u8]) -> u16
         return by_bytes(start, bytes);
     }
     // Named once, and lent: each naming lays all of it out anew.
-    let t = table::HALVES;
-    by_eights(&t, start, bytes)
+    let halves = HalfBytes {
+        entries: table::HALVES,
+    };
+    halves.register(start, bytes)
 }
 
 // The CRC of `bytes` as it is sent.

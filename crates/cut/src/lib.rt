@@ -4,5 +4,5 @@
 
 mod plans;
 
-pub use cut_rules::{Address, Figures, LEAST_H, MOST_H, Planned, Rule, Settings};
+pub use cut_rules::{Address, Figures, LEAST_H, MOST_H, Rule, Settings};
 pub use plans::{header_length, house, plan, two_losses};

@@ -14,17 +14,16 @@ use Rattle.base_rules.specs.Round.{ceil}
 use Rattle.base_rules.specs.Tests.{first}
 use Rattle.base_rules.proofs.Logic.{either, and_left, and_right}
 use Rattle.base_rules.proofs.Firsts.{due, skip, none_due, clear, clear_rest}
-use Rattle.base_rules.proofs.Answers.{grants, refuses}
+use Rattle.base_rules.specs.declared.Refusal.{Refusal}
+use Rattle.base_rules.proofs.Answers.{grants, refuses, one_told}
 use Rattle.cut_rules.specs.Sizes.{c, k, z, n, address_bytes, header_length, most_h, h, divided_by, divisor, S, L, f, s, assured}
 use Rattle.cut_rules.specs.Plan.{fit, plan_fault, with_fec, figures_of, plan_of, values_of, number_of}
 use Rattle.cut_rules.specs.declared.Address.{Address}
-use Rattle.cut_rules.specs.declared.Address.TheVariants.{None, Pair}
+use Rattle.std.specs.Prelude.{Option, Some, None, Result}
 use Rattle.cut_rules.specs.declared.Rule.{Rule}
 use Rattle.cut_rules.specs.declared.Rule.TheVariants.{Older, Newer}
 use Rattle.cut_rules.specs.declared.Settings.{Settings}
 use Rattle.cut_rules.specs.declared.Figures.{Figures}
-use Rattle.cut_rules.specs.declared.Planned.{Planned}
-use Rattle.cut_rules.specs.declared.Planned.TheVariants.{Cut, Refused}
 use Rattle.cut_rules.proofs.ChunkSizes as chunk
 
 -- ---- what `fit` says
@@ -81,13 +80,13 @@ module _ (g : Settings) where
 -- ---- the header
 
 -- no address takes more than four bytes
-pub address_most : (a : Address) → address_bytes a ≤ 4
+pub address_most : (a : Option Address) → address_bytes a ≤ 4
 unfolding address_bytes
 address_most None = omega arith
-address_most (Pair source dest) = omega arith
+address_most (Some a) = omega arith
 
 -- no header has more than 20 bytes
-pub length_most : (fec : Bool) (a : Address) → header_length fec a ≤ most_h
+pub length_most : (fec : Bool) (a : Option Address) → header_length fec a ≤ most_h
 length_most fec a = let four = address_most a in either fec (λ e. rw e (omega arith)) (λ e. rw e (omega arith))
 
 pub h_most : (g : Settings) → h g ≤ most_h
@@ -288,11 +287,6 @@ unfolding figures_from values_of
 read_back p = refl
 
 -- no two answers to a plan have the same number and values
-pub one_planned : (a b : Planned) → number_of a ≡ number_of b → a ≡ b
+pub one_planned : (a b : Result Figures Refusal) → number_of a ≡ number_of b → a ≡ b
 unfolding number_of
-one_planned (Cut p) (Cut q) e =
-    let same : values_of p ≡ values_of q = cc in
-    ap Cut (sym (read_back p) ∙ ap figures_from same ∙ read_back q)
-one_planned (Cut p) (Refused r) e = cc
-one_planned (Refused r) (Cut q) e = cc
-one_planned (Refused r) (Refused t) e = cc
+one_planned a b e = one_told values_of (λ (p q : Figures) same. sym (read_back p) ∙ ap figures_from same ∙ read_back q) a b e

@@ -1,10 +1,9 @@
 -- Document 01, "On each side of the edge": the starred rows of sizes, as one table; document 02 adds rows with its Items 5 and 6.
-use Rattle.std.specs.Prelude.{true, false, List, [], ◌∷◌, ℕ, ◌-◌, ◌*◌, length, replicate}
+use Rattle.std.specs.Prelude.{true, false, List, [], ◌∷◌, ℕ, ◌-◌, ◌*◌, length, replicate, None}
 use Rattle.base_rules.specs.Bytes.{part_of}
 use Rattle.cut_rules.specs.Missing.{worst}
 use Rattle.cut_rules.specs.Plan.{house_of, two_losses_of}
 use Rattle.cut_rules.specs.Sizes as size
-use Rattle.cut_rules.specs.declared.Address.TheVariants.{None}
 use Rattle.cut_rules.specs.declared.Rule.{Rule}
 use Rattle.cut_rules.specs.declared.Rule.TheVariants.{Older, Newer}
 use Rattle.cut_rules.specs.declared.Settings.{Settings}

@@ -1,15 +1,14 @@
 -- The plan of a cut: what may be asked for, and what is answered (document 01, "Numbers given back").
-use Rattle.std.specs.Prelude.{Bool, true, cond, not, ◌&&◌, List, [], ◌∷◌, ℕ, leb, ltb, eqb}
+use Rattle.std.specs.Prelude.{Bool, true, cond, not, ◌&&◌, List, [], ◌∷◌, ℕ, leb, ltb, eqb, None, Result}
 use Rattle.base_rules.specs.Bounds.{least_l, most_l, most_f, most_m, most_mtu}
 use Rattle.base_rules.specs.Tests.{first}
-use Rattle.base_rules.specs.Answer.{Answer, granted, refused, answered}
+use Rattle.base_rules.specs.Answer.{Answer, answered}
+use Rattle.base_rules.specs.Refusal.{told}
+use Rattle.base_rules.specs.declared.Refusal.{Refusal}
 use Rattle.cut_rules.specs.Sizes.{c, k, z, n, h, S, L, f, s, assured}
-use Rattle.cut_rules.specs.declared.Address.TheVariants.{None}
 use Rattle.cut_rules.specs.declared.Rule.TheVariants.{Older}
 use Rattle.cut_rules.specs.declared.Settings.{Settings}
 use Rattle.cut_rules.specs.declared.Figures.{Figures}
-use Rattle.cut_rules.specs.declared.Planned.{Planned}
-use Rattle.cut_rules.specs.declared.Planned.TheVariants.{Cut, Refused}
 
 -- document 02, Item 5: "The house default becomes m = 1"; all else is as document 01 has it
 abbrev pub house_of : Settings
@@ -45,6 +44,5 @@ unfoldable pub values_of : Figures → List ℕ
 values_of p = p.c ∷ p.k ∷ p.z ∷ p.n ∷ p.h ∷ p.room ∷ p.total ∷ p.f ∷ p.s ∷ p.assured ∷ []
 
 -- document 01's number and the values, for each case
-unfoldable pub number_of : Planned → Answer
-number_of (Cut p) = granted (values_of p)
-number_of (Refused n) = refused n
+unfoldable pub number_of : Result Figures Refusal → Answer
+number_of r = told values_of r

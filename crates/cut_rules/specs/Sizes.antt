@@ -1,10 +1,9 @@
 -- The sizes of a cut of an AF packet of l bytes at the settings g (clause 7.2; document 01, "PFT layer"). The letters are the standard's, but
 -- n, S and L are document 01's: S is the standard's s max, and L with FEC its l + cp + z, where the standard's own L is fs.
-use Rattle.std.specs.Prelude.{Bool, cond, ◌&&◌, ℕ, ◌+◌, ◌-◌, ◌*◌, ◌/◌, min, eqb, ltb}
+use Rattle.std.specs.Prelude.{Bool, cond, ◌&&◌, ℕ, ◌+◌, ◌-◌, ◌*◌, ◌/◌, min, eqb, ltb, Option, Some, None}
 use Rattle.base_rules.specs.Bounds.{most_k, parity}
 use Rattle.base_rules.specs.Round.{ceil}
 use Rattle.cut_rules.specs.declared.Address.{Address}
-use Rattle.cut_rules.specs.declared.Address.TheVariants.{None, Pair}
 use Rattle.cut_rules.specs.declared.Rule.{Rule}
 use Rattle.cut_rules.specs.declared.Rule.TheVariants.{Older, Newer}
 use Rattle.cut_rules.specs.declared.Settings.{Settings}
@@ -30,9 +29,9 @@ n l = k l + parity
 -- ---- of the settings too
 
 -- clause 7.1: the bytes of an address in a header, Source 2 and Dest 2
-unfoldable pub address_bytes : Address → ℕ
+unfoldable pub address_bytes : Option Address → ℕ
 address_bytes None = 0
-address_bytes (Pair source dest) = 4
+address_bytes (Some a) = 4
 
 -- document 01: the bytes of the least header, HCRC's two among them
 abbrev pub least_h : ℕ
@@ -43,7 +42,7 @@ abbrev pub most_h : ℕ
 most_h = 20
 
 -- document 01: the bytes of a header: the least, two more with FEC, four more with an address
-abbrev pub header_length : Bool → Address → ℕ
+abbrev pub header_length : Bool → Option Address → ℕ
 header_length fec address = least_h + cond fec 2 0 + address_bytes address
 
 -- document 01: those of the settings

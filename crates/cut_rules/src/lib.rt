@@ -7,15 +7,15 @@ pub const LEAST_H: usize = 14;
 
 pub const MOST_H: usize = 20;
 
-// The pair of addresses that a header carries, or none.
-#[derive(Clone, Copy)]
-pub enum Address {
-    None,
-    Pair { source: u16, dest: u16 },
+// The pair of addresses that a header may carry.
+#[derive(Clone, Copy, Debug, PartialEq, Eq)]
+pub struct Address {
+    pub source: u16,
+    pub dest: u16,
 }
 
 // By which edition's rule the most bytes of a fragment are worked out: document 000's, or document 001's.
-#[derive(Clone, Copy)]
+#[derive(Clone, Copy, Debug, PartialEq, Eq)]
 pub enum Rule {
     Older,
     Newer,
@@ -27,7 +27,7 @@ pub struct Settings {
     pub fec: bool,
     pub m: usize,
     pub mtu: usize,
-    pub address: Address,
+    pub address: Option<Address>,
     pub rule: Rule,
 }
 
@@ -44,11 +44,4 @@ pub struct Figures {
     pub f: usize,
     pub s: usize,
     pub assured: usize,
-}
-
-// The answer to a plan.
-#[derive(Clone, Copy)]
-pub enum Planned {
-    Cut(Figures),
-    Refused(u8),
 }

@@ -1,15 +1,14 @@
 // How many lost fragments a cut stands, exactly, and a set of one more that it does not stand (document 02, Item 12).
 #![tactic(auto)]
 
-ghost use Rattle.std.specs.Prelude.{◌≡◌, ◌+◌, ◌≤◌, ◌<◌};
+ghost use Rattle.std.specs.Prelude.{◌≡◌, ◌+◌, ◌≤◌, ◌<◌, Ok};
 ghost use Rattle.base_rules.specs.Bounds.{most_f, most_k, parity};
-ghost use Rattle.cut_rules.specs.declared.Planned.TheVariants.{Cut};
 ghost use Rattle.cut_rules.specs.Plan.{plan_of, number_of};
 ghost use Rattle.endurance_rules.specs.Endure.{stands, stands_of, flagged, endure_call, endurance_of};
 
 use base::{MOST_F, PARITY};
-use cut::{Figures, Planned, Settings};
-pub use endurance_rules::{Endurance, Endured};
+use cut::{Figures, Settings};
+pub use endurance_rules::{Endurance, Losses};
 
 // The most fragments whose loss, whichever they are, takes at most 48 of the n bytes of a chunk that is cut into f.
 fn most_lost(n: usize, f: usize) -> usize
@@ -29,7 +28,7 @@ fn most_lost(n: usize, f: usize) -> usize
 
 // The same of a plan, and 0 without FEC.
 fn stood(g: Settings, l: usize, p: Figures) -> usize
-    requires { number_of (Cut p) ≡ plan_of g l }
+    requires { number_of (Ok p) ≡ plan_of g l }
     ensures { (result ≡ stands_of g l) × (result < most_f) }
 {
     if g.fec { most_lost(p.n, p.f) } else { 0 }
@@ -41,11 +40,7 @@ fn first_lost(v: usize) -> [bool; MOST_F]
     ensures { result ≡ flagged v }
 {
     let mut lost = [false; MOST_F];
-    let mut i = 0;
-    while i < v {
-        lost[i] = true;
-        i += 1;
-    }
+    lost[..v].fill(true);
     lost
 }
 
@@ -55,15 +50,15 @@ pub fn endure(g: Settings, l: usize) -> Endurance
     ensures { endurance_of result ≡ endure_call g l }
 {
     match cut::plan(g, l) {
-        Planned::Cut(p) => {
+        Ok(p) => {
             let most = stood(g, l, p);
             Endurance {
-                answer: Endured::Losses { most, f: p.f },
+                answer: Ok(Losses { most, f: p.f }),
                 lost: first_lost(most + 1),
             }
         }
-        Planned::Refused(n) => Endurance {
-            answer: Endured::Refused(n),
+        Err(e) => Endurance {
+            answer: Err(e),
             lost: first_lost(0),
         },
     }

@@ -5,18 +5,19 @@ use mathlib.Core.List.{List, [], ◌∷◌}
 use Prim.Native.Nat.{ℕ, zero, suc, ◌+◌, ◌≤◌, ◌<◌}
 use native.Mathlib.Omega.{arith}
 use lib.ListN.{get_or}
+use Rattle.std.specs.Prelude.{Ok, Err}
 use Rattle.base_rules.specs.Answer.{Answer, granted, refused, answered}
 use Rattle.base_rules.specs.Bounds.{most_f, most_k, parity}
+use Rattle.base_rules.specs.Refusal.{number, told}
+use Rattle.base_rules.specs.declared.Refusal.{Refusal}
 use Rattle.cut_rules.specs.Plan.{plan_fault, with_fec, figures_of, plan_of, values_of, number_of}
 use Rattle.cut_rules.specs.Sizes.{n, f}
 use Rattle.cut_rules.specs.declared.Figures.{Figures}
-use Rattle.cut_rules.specs.declared.Planned.TheVariants as planned
 use Rattle.cut_rules.specs.declared.Settings.{Settings}
 use Rattle.cut_rules.proofs.ChunkSizes as chunk
 use Rattle.cut_rules.proofs.PlanCases.{within}
 use Rattle.endurance_rules.specs.Claims.{NoNewRefusals}
-use Rattle.endurance_rules.specs.Endure.{stands, stands_of, flagged, endure_call, endured_number}
-use Rattle.endurance_rules.specs.declared.Endured.TheVariants.{Losses, Refused}
+use Rattle.endurance_rules.specs.Endure.{stands, stands_of, flagged, endure_call, endured_number, losses_values}
 use Rattle.endurance_rules.proofs.Cuts as cuts
 
 -- an answer that grants has no fault, and the values are those due
@@ -33,9 +34,9 @@ refused_by (suc fault) number u v e = (e, (λ (z : suc fault ≡ 0). omega arith
 
 module _ (g : Settings) (l : ℕ) where
   -- a plan that is answered with figures is not refused
-  module _ (p : Figures) (e : number_of (planned.Cut p) ≡ plan_of g l) where
+  module _ (p : Figures) (e : number_of (Ok p) ≡ plan_of g l) where
     both : (plan_fault g l ≡ 0) × (values_of p ≡ figures_of g l)
-    unfolding plan_of number_of
+    unfolding plan_of number_of told
     both = granted_by (plan_fault g l) (values_of p) (figures_of g l) e
 
     -- its f is that of the cut,
@@ -72,8 +73,8 @@ module _ (g : Settings) (l : ℕ) where
 
     -- the answer with the set of one more
     pub endured : (w : ℕ) (lost : List Bool) → w ≡ stands_of g l → lost ≡ flagged (w + 1)
-        → (endured_number (Losses w p.f), lost) ≡ endure_call g l
-    unfolding endure_call endured_number answered
+        → (endured_number (Ok (record { most = w; f = p.f })), lost) ≡ endure_call g l
+    unfolding endure_call endured_number losses_values told answered
     endured w lost is set =
         let none = both.0 in
         let due : answered (plan_fault g l) (stands_of g l ∷ f g l ∷ []) ≡ granted (stands_of g l ∷ f g l ∷ []) =
@@ -83,11 +84,11 @@ module _ (g : Settings) (l : ℕ) where
         (set ∙ ap (λ (x : ℕ). flagged (x + 1)) is ∙ sym (ap flagged (cuts.losing-taken g l none)))
 
   -- a plan that is refused: the same number, and no fragment in the set
-  pub unendured : (number : ℕ) (lost : List Bool) → number_of (planned.Refused number) ≡ plan_of g l → lost ≡ flagged 0
-      → (endured_number (Refused number), lost) ≡ endure_call g l
-  unfolding plan_of number_of endure_call endured_number
-  unendured number lost e set =
-      let all = refused_by (plan_fault g l) number (figures_of g l) (stands_of g l ∷ f g l ∷ []) e in
+  pub unendured : (e : Refusal) (lost : List Bool) → number_of (Err e) ≡ plan_of g l → lost ≡ flagged 0
+      → (endured_number (Err e), lost) ≡ endure_call g l
+  unfolding plan_of number_of told endure_call endured_number
+  unendured e lost due set =
+      let all = refused_by (plan_fault g l) (number e) (figures_of g l) (stands_of g l ∷ f g l ∷ []) due in
       ap₂ (λ (a : Answer) (b : List Bool). (a, b)) all.0 (set ∙ sym (ap flagged (cuts.losing-refused g l all.1)))
 
 -- the refusals are the plan's

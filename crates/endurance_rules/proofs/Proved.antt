@@ -6,6 +6,7 @@ use Prim.Native.Nat.{ℕ, zero, suc, ◌+◌}
 use native.Mathlib.Omega.{arith}
 use borrow.Author.Tests.{le-ltb, ne_eqb}
 use lib.Dec.{eqb, ltb}
+use Rattle.std.specs.Prelude.{Result}
 use Rattle.base_rules.specs.Answer.{Answer}
 use Rattle.base_rules.specs.Round.{ceil}
 use Rattle.cut_rules.specs.Missing.{losses, firsts}
@@ -14,9 +15,10 @@ use Rattle.cut_rules.proofs.PlanCases.{within}
 use Rattle.cut_rules.proofs.Sufficing.{suffice_no}
 use Rattle.endurance_rules.specs.Claims.{is_handed_out, Endures, EnduresNot, Greatest, Below, AssuredWithin, StandsIs, NoFec}
 use Rattle.endurance_rules.specs.Claims.{FirstOnes, NoneRefused, NoNewRefusals, OneEndured, examples, Worked}
-use Rattle.endurance_rules.specs.Endure.{stands, stands_of, endured_number}
-use Rattle.endurance_rules.specs.declared.Endured.{Endured}
-use Rattle.endurance_rules.specs.declared.Endured.TheVariants.{Losses, Refused}
+use Rattle.endurance_rules.specs.Endure.{stands, stands_of, endured_number, losses_values}
+use Rattle.endurance_rules.specs.declared.Losses.{Losses}
+use Rattle.base_rules.proofs.Answers.{one_told}
+use Rattle.base_rules.specs.declared.Refusal.{Refusal}
 use Rattle.endurance_rules.proofs.Calls as calls
 use Rattle.endurance_rules.proofs.Cuts as cuts
 use Rattle.endurance_rules.proofs.Exact as exact
@@ -97,19 +99,23 @@ no_fec g l taken plain =
 pub no_new_refusals : NoNewRefusals
 no_new_refusals = calls.no_new_refusals
 
-one_answer : (a b : Endured) → endured_number a ≡ endured_number b → a ≡ b
+one_losses : (a b : Losses) → losses_values a ≡ losses_values b → a ≡ b
+unfolding losses_values
+one_losses a b e =
+    let most : a.most ≡ b.most = cc in
+    let f : a.f ≡ b.f = cc in
+    ap₂ (λ (x y : ℕ). record { most = x; f = y }) most f
+
+one_answer : (a b : Result Losses Refusal) → endured_number a ≡ endured_number b → a ≡ b
 unfolding endured_number
-one_answer (Losses w f) (Losses v h) e = cc
-one_answer (Losses w f) (Refused n) e = cc
-one_answer (Refused n) (Losses v h) e = cc
-one_answer (Refused n) (Refused m) e = cc
+one_answer a b e = one_told losses_values one_losses a b e
 
 -- no two answers have the same number, values and set
 pub one_endured : OneEndured
 one_endured a b e =
     let answers : a.answer ≡ b.answer = one_answer a.answer b.answer (ap (λ (x : Answer × List Bool). x.0) e) in
     let sets : a.lost ≡ b.lost = ap (λ (x : Answer × List Bool). x.1) e in
-    ap₂ (λ (x : Endured) (y : List Bool). record { answer = x; lost = y }) answers sets
+    ap₂ (λ (x : Result Losses Refusal) (y : List Bool). record { answer = x; lost = y }) answers sets
 
 -- the definitions give the worked examples
 pub worked : Worked

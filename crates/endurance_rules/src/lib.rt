@@ -2,18 +2,18 @@
 // `endurance` has them.
 #![tactic(auto)]
 
-use base_rules::MOST_F;
+use base_rules::{MOST_F, Refusal};
 
-// How many lost fragments a cut stands at the most, whichever they are, and how many fragments it has; or the number of the refusal.
-#[derive(Clone, Copy)]
-pub enum Endured {
-    Losses { most: usize, f: usize },
-    Refused(u8),
+// How many lost fragments a cut stands at the most, whichever they are, and how many fragments it has.
+#[derive(Clone, Copy, Debug, PartialEq, Eq)]
+pub struct Losses {
+    pub most: usize,
+    pub f: usize,
 }
 
-// That answer, and beside it a set of one fragment more, whose loss the cut does not stand: a flag for each fragment that there can be.
+// That or the refusal, and beside it a set of one fragment more, whose loss the cut does not stand: a flag for each fragment that there can be.
 #[derive(Clone, Copy)]
 pub struct Endurance {
-    pub answer: Endured,
+    pub answer: Result<Losses, Refusal>,
     pub lost: [bool; MOST_F],
 }

@@ -11,21 +11,11 @@ use tables::{EXP, LOG};
 
 mod tables;
 
-pub use field_rules::Element;
+use base_rules::Refusal;
 use field_rules::Pair;
 
 // What x^8 is in the field, x^4 + x^3 + x^2 + 1: 11D hex without x^8.
 pub const REDUCED: u8 = 0x1D;
-
-// Document 01's number for a division by 0 and for the logarithm of 0.
-const ZERO: u8 = 44;
-
-// A byte as an index: the function spares the caller a proof that it fits.
-fn wide(x: u8) -> usize
-    ensures { result ≡ x }
-{
-    x as usize
-}
 
 // The table of the powers. It is named here alone, so that its rule is tested once.
 fn powers() -> [u8; 255]
@@ -55,7 +45,7 @@ fn entry(t: &[u8; 256], x: u8) -> u8
     requires { (0 < x) × Logs t.now }
     ensures { result ≡ log_of x }
 {
-    t[wide(x)]
+    t[usize::from(x)]
 }
 
 // The logarithms of two elements but 0.
@@ -65,8 +55,8 @@ fn logs(a: u8, b: u8) -> Pair
 {
     // Asked for once for both, and lent: each call lays all of it out anew.
     let t = logarithms();
-    let i = wide(entry(&t, a));
-    let j = wide(entry(&t, b));
+    let i = usize::from(entry(&t, a));
+    let j = usize::from(entry(&t, b));
     Pair { a: i, b: j }
 }
 
@@ -78,7 +68,7 @@ pub fn sum(a: u8, b: u8) -> u8
 }
 
 // An element times alpha: moved up one place, and where bit 7 falls out of the byte, what x^8 is in the field is added.
-fn twice(x: u8) -> u8
+pub fn twice(x: u8) -> u8
     ensures { result ≡ times2 x }
 {
     let moved = x % 128 * 2;
@@ -93,13 +83,14 @@ fn with_bit(r: u8, x: u8, y: u8) -> u8
 }
 
 // The product of two elements, without a table: for each bit of b that is set, the lowest first, a is added, times alpha as often as the
-// bit's place says.
+// bit's place says. A loop over bytes takes `product` of `code_lanes`, which has no turns.
 pub fn product(a: u8, b: u8) -> u8
     ensures { result ≡ a ⊗ b }
 {
     let mut r = 0;
     let mut x = a;
     let mut y = b;
+    // A turn for each of the eight bits: r, x and y move in each, and there is nothing to go over.
     for _ in 0..8usize {
         r = with_bit(r, x, y);
         x = twice(x);
@@ -109,17 +100,17 @@ pub fn product(a: u8, b: u8) -> u8
 }
 
 // An element divided by an element but 0.
-pub fn quotient(a: u8, b: u8) -> Element
+pub fn quotient(a: u8, b: u8) -> Result<u8, Refusal>
     ensures { number_of result ≡ quotient_of a b }
 {
     if b == 0 {
-        return Element::Refused(ZERO);
+        return Err(Refusal::Zero);
     }
     if a == 0 {
-        return Element::Value(0);
+        return Ok(0);
     }
     let l = logs(a, b);
-    Element::Value(raised((l.a + 255 - l.b) % 255))
+    Ok(raised((l.a + 255 - l.b) % 255))
 }
 
 // The power alpha^e.
@@ -130,12 +121,12 @@ pub fn power(e: usize) -> u8
 }
 
 // The logarithm of an element but 0.
-pub fn logarithm(x: u8) -> Element
+pub fn logarithm(x: u8) -> Result<u8, Refusal>
     ensures { number_of result ≡ logarithm_of x }
 {
     if x == 0 {
-        return Element::Refused(ZERO);
+        return Err(Refusal::Zero);
     }
     let t = logarithms();
-    Element::Value(entry(&t, x))
+    Ok(entry(&t, x))
 }

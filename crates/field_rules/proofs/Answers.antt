@@ -4,22 +4,21 @@ use mathlib.Core.List.{[], ◌∷◌}
 use Prim.Native.Nat.{ℕ}
 use borrow.Author.Tests.{eq-eqb, ne_eqb}
 use lib.Dec.{eqb, lit<}
+use Rattle.std.specs.Prelude.{Result, Ok, Err}
 use Rattle.base_rules.specs.Answer.{granted, refused, answered}
+use Rattle.base_rules.specs.Refusal.{number, told}
+use Rattle.base_rules.specs.declared.Refusal.{Refusal}
+use Rattle.base_rules.specs.declared.Refusal.TheVariants as refusal
 use Rattle.base_rules.specs.Tests.{first}
-use Rattle.base_rules.proofs.Answers.{grants, refuses}
+use Rattle.base_rules.proofs.Answers.{grants, refuses, one_told}
 use Rattle.base_rules.proofs.Firsts.{due, skip, none_due}
 use Rattle.field_rules.specs.Field.{◌⊗◌, inv, log_of}
 use Rattle.field_rules.specs.Calls.{number_of, quotient_of, logarithm_of}
-use Rattle.field_rules.specs.declared.Element.{Element}
-use Rattle.field_rules.specs.declared.Element.TheVariants.{Value, Refused}
 
 -- no second answer has the same number
-pub one_element : (a b : Element) → number_of a ≡ number_of b → a ≡ b
+pub one_element : (a b : Result ℕ Refusal) → number_of a ≡ number_of b → a ≡ b
 unfolding number_of
-one_element (Value x) (Value y) e = cc
-one_element (Value x) (Refused n) e = cc
-one_element (Refused n) (Value x) e = cc
-one_element (Refused n) (Refused m) e = cc
+one_element a b e = one_told (λ x. x ∷ []) (λ (x y : ℕ) same. cc) a b e
 
 -- an answer v that only 0 has not, at 0 and at another x
 at_zero : (x v : ℕ) → x ≡ 0 → refused 44 ≡ answered (first ((eqb x 0, 44) ∷ [])) (v ∷ [])
@@ -30,22 +29,22 @@ elsewhere x v r p e = ap (λ y. granted (y ∷ [])) e ∙ grants _ _ (skip 44 _ 
 
 module _ (a b : ℕ) where
   -- a division by 0 is refused as 44 ZERO
-  pub quotient_refused : b ≡ 0 → number_of (Refused 44) ≡ quotient_of a b
-  unfolding number_of quotient_of
+  pub quotient_refused : b ≡ 0 → number_of (Err refusal.Zero) ≡ quotient_of a b
+  unfolding number_of told number quotient_of
   quotient_refused e = at_zero b _ e
 
   -- a division by anything but 0 gives the product with the inverse
-  pub quotient_given : (r : ℕ) → (b ≡ 0 → ⊥) → r ≡ a ⊗ inv b → number_of (Value r) ≡ quotient_of a b
-  unfolding number_of quotient_of
+  pub quotient_given : (r : ℕ) → (b ≡ 0 → ⊥) → r ≡ a ⊗ inv b → number_of (Ok r) ≡ quotient_of a b
+  unfolding number_of told number quotient_of
   quotient_given r p e = elsewhere b (a ⊗ inv b) r p e
 
 module _ (a : ℕ) where
   -- the logarithm of 0 is refused as 44 ZERO
-  pub logarithm_refused : a ≡ 0 → number_of (Refused 44) ≡ logarithm_of a
-  unfolding number_of logarithm_of
+  pub logarithm_refused : a ≡ 0 → number_of (Err refusal.Zero) ≡ logarithm_of a
+  unfolding number_of told number logarithm_of
   logarithm_refused e = at_zero a _ e
 
   -- of anything but 0 the logarithm is given
-  pub logarithm_given : (r : ℕ) → (a ≡ 0 → ⊥) → r ≡ log_of a → number_of (Value r) ≡ logarithm_of a
-  unfolding number_of logarithm_of
+  pub logarithm_given : (r : ℕ) → (a ≡ 0 → ⊥) → r ≡ log_of a → number_of (Ok r) ≡ logarithm_of a
+  unfolding number_of told number logarithm_of
   logarithm_given r p e = elsewhere a (log_of a) r p e

@@ -7,6 +7,7 @@ use borrow.Author.Tests.{lt-ltb, le-ltb}
 use lib.Dec.{T, eqb, eqb→eq}
 use lib.ListN.{get_or}
 use Rattle.base_rules.specs.Answer.{granted}
+use Rattle.base_rules.specs.Refusal.{number, told}
 use Rattle.base_rules.proofs.Every.{below, at}
 use Rattle.field_rules.specs.Calls.{quotient_of, number_of}
 use Rattle.field_rules.specs.Claims.{Sum, Product, Reduction, Quotient, Powers, Logarithm, Ruled}
@@ -64,12 +65,12 @@ reduction =
 
 -- the quotient by an element but 0 is the product with its inverse
 given : (a b : ℕ) → 0 < b → granted (a ⊗ inv b ∷ []) ≡ quotient_of a b
-unfolding number_of
+unfolding number_of told
 given a b p = quotient_given a b (a ⊗ inv b) (λ e. omega arith) refl
 
 -- b times the quotient of a and b is a, and no other element is the quotient
 pub quotient : Quotient
-unfolding number_of
+unfolding number_of told number
 quotient =
     record {
       back = λ a b q ha p h e.

@@ -1,15 +1,14 @@
 -- What the calls that can refuse answer (document 01, "Numbers given back").
-use Rattle.std.specs.Prelude.{[], ◌∷◌, ℕ, eqb}
+use Rattle.std.specs.Prelude.{[], ◌∷◌, ℕ, eqb, Result}
 use Rattle.base_rules.specs.Tests.{first}
-use Rattle.base_rules.specs.Answer.{Answer, granted, refused, answered}
+use Rattle.base_rules.specs.Answer.{Answer, answered}
+use Rattle.base_rules.specs.Refusal.{told}
+use Rattle.base_rules.specs.declared.Refusal.{Refusal}
 use Rattle.field_rules.specs.Field.{◌⊗◌, inv, log_of}
-use Rattle.field_rules.specs.declared.Element.{Element}
-use Rattle.field_rules.specs.declared.Element.TheVariants.{Value, Refused}
 
 -- document 01's number for each case
-unfoldable pub number_of : Element → Answer
-number_of (Value x) = granted (x ∷ [])
-number_of (Refused n) = refused n
+unfoldable pub number_of : Result ℕ Refusal → Answer
+number_of r = told (λ x. x ∷ []) r
 
 -- a divided by b: document 01's 44 where b is 0
 unfoldable pub quotient_of : ℕ → ℕ → Answer

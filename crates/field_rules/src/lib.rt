@@ -1,13 +1,6 @@
 // The field of 256 elements as definitions, its laws, and the rule of each table. No functions: crate `field` has them.
 #![tactic(auto)]
 
-// The answer of a call that has none at 0.
-#[derive(Clone, Copy)]
-pub enum Element {
-    Value(u8),
-    Refused(u8),
-}
-
 // The logarithms of two elements.
 #[derive(Clone, Copy)]
 pub struct Pair {

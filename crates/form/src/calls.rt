@@ -1,17 +1,17 @@
 // Forming: what is refused, whether the fragments suffice, and the packet that agrees.
-ghost use Rattle.std.specs.Prelude.{◌≡◌, false, ◌≤◌, eqb, length};
+ghost use Rattle.std.specs.Prelude.{◌≡◌, false, ◌≤◌, eqb, length, Ok};
 ghost use Rattle.base_rules.specs.Bounds.{most_f, most_l, place};
+ghost use Rattle.base_rules.specs.Refusal.{fault_in};
 ghost use Rattle.af_rules.specs.Calls.{af_fault};
 ghost use Rattle.places_rules.specs.Faults.{bad_place};
 ghost use Rattle.form_rules.specs.Agree.{enough_in, missing_in};
 ghost use Rattle.form_rules.specs.Calls.{form_fault, PlaceFormed};
 ghost use Rattle.form_rules.specs.inner.Proposals.{Ready, Proposal};
 
+use crate::Formed;
 use crate::coded::{decode, suffices};
 use crate::plain::join;
-use crate::{Formed, Proposed};
-use af::Checked;
-use base::{MOST_L, PLACE};
+use base::{MOST_L, PLACE, Refusal};
 use places::Place;
 
 // How many of the fragments are not kept.
@@ -22,8 +22,8 @@ fn missing_in(p: Place) -> usize
     let count = p.count as usize;
     let kept = p.kept;
     let mut missing = 0;
-    for i in 0..count {
-        if !kept[i] {
+    for k in &kept[..count] {
+        if !*k {
             missing += 1;
         }
     }
@@ -41,28 +41,31 @@ fn enough_in(p: Place) -> bool
     missing_in(p) == 0
 }
 
-// 14 or 1, the first that is due, or 0.
-fn form_fault(p: Place, held: usize, room: usize) -> u8
-    ensures { result ≡ form_fault p held room }
+// 14 or 1, the first that is due.
+fn form_fault(p: Place, held: usize, room: usize) -> Result<(), Refusal>
+    ensures { fault_in result ≡ form_fault p held room }
 {
     if places::bad_place(p) {
-        return 14;
+        return Err(Refusal::State);
     }
     if held < PLACE {
-        return 1;
+        return Err(Refusal::Room);
     }
-    if room < MOST_L { 1 } else { 0 }
+    if room < MOST_L {
+        return Err(Refusal::Room);
+    }
+    Ok(())
 }
 
 // The one packet that can agree with the kept bytes, at the front of a buffer.
-fn propose(p: Place, held: &[u8], buffer: &mut [u8]) -> Proposed
+fn propose(p: Place, held: &[u8], buffer: &mut [u8]) -> Option<usize>
     requires { Ready p held.now × (length buffer.old ≡ place) }
     ensures { Proposal p held.now buffer.new result × (length buffer.new ≡ place) }
 {
     if p.fec {
         return decode(p, held, buffer);
     }
-    Proposed::Of(join(p, held, buffer))
+    Some(join(p, held, buffer))
 }
 
 // Whether the AF checks pass a packet.
@@ -70,24 +73,24 @@ fn accepted(packet: &[u8]) -> bool
     ensures { result ≡ eqb (af_fault packet.now) 0 }
 {
     match af::check(packet) {
-        Checked::Packet(_) => true,
-        Checked::Refused(_) => false,
+        Ok(_) => true,
+        Err(_) => false,
     }
 }
 
 // Hands out the packet that is proposed, if the AF checks pass it.
 fn hand_out(p: Place, held: &[u8], out: &mut [u8]) -> Formed
     requires { Ready p held.now × (most_l ≤ length out.old) }
-    ensures { PlaceFormed p held.now out.old out.new result }
+    ensures { PlaceFormed p held.now out.old out.new (Ok result) }
 {
     let mut buffer = [0u8; PLACE];
     match propose(p, held, &mut buffer) {
-        Proposed::Nothing => Formed::Nothing,
-        Proposed::Of(n) => {
+        None => Formed::Nothing,
+        Some(n) => {
             if !accepted(&buffer[..n]) {
                 return Formed::Nothing;
             }
-            base::put(out, 0, &buffer[..n]);
+            let _ = base::put(out, 0, &buffer[..n]);
             Formed::Packet {
                 length: n,
                 missing: missing_in(p),
@@ -97,15 +100,12 @@ fn hand_out(p: Place, held: &[u8], out: &mut [u8]) -> Formed
 }
 
 // Forms the packet of the place p from its bytes, which begin `held`, and writes it at the front of out; 14 or 1 where that cannot be.
-pub fn form(p: Place, held: &[u8], out: &mut [u8]) -> Formed
+pub fn form(p: Place, held: &[u8], out: &mut [u8]) -> Result<Formed, Refusal>
     ensures { PlaceFormed p held.now out.old out.new result }
 {
-    let n = form_fault(p, held.len(), out.len());
-    if n != 0 {
-        return Formed::Refused(n);
-    }
+    form_fault(p, held.len(), out.len())?;
     if !enough_in(p) {
-        return Formed::Waits;
+        return Ok(Formed::Waits);
     }
-    hand_out(p, held, out)
+    Ok(hand_out(p, held, out))
 }

@@ -6,7 +6,6 @@ ghost use Rattle.places_rules.specs.Faults.{bad_place};
 ghost use Rattle.form_rules.specs.Agree.{enough_in};
 ghost use Rattle.form_rules.specs.inner.Proposals.{Ready, Proposal, data_of};
 
-use crate::Proposed;
 use base::{PARITY, PLACE};
 use code_decoder::Filled;
 use places::Place;
@@ -19,9 +18,9 @@ pub fn suffices(p: Place) -> bool
 {
     let kept = p.kept;
     match weave::enough(kept, p.count as usize, p.size as usize, p.rsk as usize) {
-        Held::Enough => true,
-        Held::NotEnough => false,
-        Held::Refused(_) => true,
+        Ok(Held::Enough) => true,
+        Ok(Held::NotEnough) => false,
+        Err(_) => true,
     }
 }
 
@@ -30,12 +29,9 @@ fn gather(cells: &[u8], k: usize, c: usize, buffer: &mut [u8])
     requires { (c * (k + parity) ≤ length cells.now) × (c * k ≤ length buffer.old) × (length cells.now ≤ place) }
     ensures { buffer.new ≡ splice buffer.old 0 (data_of cells.now k c) }
 {
-    let mut from = 0;
-    let mut at = 0;
-    for _ in 0..c {
-        base::put(buffer, at, &cells[from..from + k]);
-        from += k + PARITY;
-        at += k;
+    for j in 0..c {
+        let from = j * (k + PARITY);
+        let _ = base::put(buffer, j * k, &cells[from..from + k]);
     }
 }
 
@@ -44,16 +40,11 @@ fn all_zero(s: &[u8]) -> bool
     ensures { (result ≡ true → s.now ≡ replicate (length s.now) 0)
         × (s.now ≡ replicate (length s.now) 0 → result ≡ true) }
 {
-    for i in 0..s.len() {
-        if s[i] != 0 {
-            return false;
-        }
-    }
-    true
+    s.iter().all(|b| *b == 0)
 }
 
 // The one packet that can agree with the kept bytes, at the front of a buffer.
-pub fn decode(p: Place, held: &[u8], buffer: &mut [u8]) -> Proposed
+pub fn decode(p: Place, held: &[u8], buffer: &mut [u8]) -> Option<usize>
     requires { Ready p held.now × (p.fec ≡ true) × (length buffer.old ≡ place) }
     ensures { Proposal p held.now buffer.new result × (length buffer.new ≡ place) }
 {
@@ -61,20 +52,20 @@ pub fn decode(p: Place, held: &[u8], buffer: &mut [u8]) -> Proposed
     let s = p.size as usize;
     let k = p.rsk as usize;
     let mut cells = [0u8; PLACE];
-    weave::deinterleave(held, f, s, &mut cells);
+    let _ = weave::deinterleave(held, f, s, &mut cells);
     let kept = p.kept;
     match code_decoder::fill(kept, f, s, k, &mut cells) {
-        Filled::Done => {
+        Ok(Filled::Done) => {
             let c = f * s / (k + PARITY);
             gather(&cells, k, c, buffer);
             let l = c * k - p.rsz as usize;
             if all_zero(&buffer[l..c * k]) {
-                return Proposed::Of(l);
+                return Some(l);
             }
-            Proposed::Nothing
+            None
         }
-        Filled::Nothing => Proposed::Nothing,
-        Filled::NotEnough => Proposed::Nothing,
-        Filled::Refused(_) => Proposed::Nothing,
+        Ok(Filled::Nothing) => None,
+        Ok(Filled::NotEnough) => None,
+        Err(_) => None,
     }
 }

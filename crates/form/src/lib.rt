@@ -7,4 +7,3 @@ mod plain;
 
 pub use calls::form;
 pub use form_rules::Formed;
-use form_rules::Proposed;

@@ -28,7 +28,7 @@ pub fn join(p: Place, held: &[u8], buffer: &mut [u8]) -> usize
 {
     let front = before_last(p);
     let last = p.last as usize;
-    base::put(buffer, 0, &held[..front]);
-    base::put(buffer, front, &held[PLACE - last..PLACE]);
+    let _ = base::put(buffer, 0, &held[..front]);
+    let _ = base::put(buffer, front, &held[PLACE - last..PLACE]);
     front + last
 }

@@ -7,11 +7,13 @@ use native.Mathlib.Omega.{arith}
 use borrow.Author.Tests.{eq-eqb, ne_eqb, lt-ltb, le-ltb, ltb-false}
 use lib.Dec.{ltb, eqb}
 use Rattle.base_rules.specs.Bounds.{most_l, place}
+use Rattle.std.specs.Prelude.{Ok, Err}
+use Rattle.base_rules.specs.Refusal as refusals
+use Rattle.base_rules.specs.declared.Refusal.{Refusal}
 use Rattle.base_rules.proofs.Firsts.{due, skip, none_due, clear, clear_rest}
 use Rattle.base_rules.proofs.Logic.{or_left, or_right}
 use Rattle.af_rules.specs.Calls.{af_fault, check_call, number_of}
 use Rattle.af_rules.specs.declared.Figures.{Figures}
-use Rattle.af_rules.specs.declared.Checked.TheVariants.{Packet, Refused}
 use Rattle.code_rules.proofs.CallCases.{granted_by, refused_by}
 use Rattle.places_rules.specs.declared.Place.{Place}
 use Rattle.places_rules.specs.Faults.{bad_place}
@@ -57,14 +59,14 @@ module _ (p : Place) (held room : ℕ) where
 -- the AF checks, by what was answered
 module _ (packet : List ℕ) where
   -- a check that was granted tells that the packet passes
-  pub passed : (a : Figures) → number_of (Packet a) ≡ check_call packet → true ≡ eqb (af_fault packet) 0
-  unfolding check_call number_of
+  pub passed : (a : Figures) → number_of (Ok a) ≡ check_call packet → true ≡ eqb (af_fault packet) 0
+  unfolding check_call number_of refusals.told
   passed a e = sym (eq-eqb (af_fault packet) 0 (sym (granted_by (af_fault packet) _ _ e).0))
 
   -- a check that was refused tells that it does not
-  pub not_passed : (n : ℕ) → number_of (Refused n) ≡ check_call packet → false ≡ eqb (af_fault packet) 0
-  unfolding check_call number_of
-  not_passed n e = let told = refused_by n (af_fault packet) _ e in sym (ne_eqb (af_fault packet) 0 (λ z. omega (arith, told.0, told.1)))
+  pub not_passed : (n : Refusal) → number_of (Err n) ≡ check_call packet → false ≡ eqb (af_fault packet) 0
+  unfolding check_call number_of refusals.told
+  not_passed n e = let told = refused_by (refusals.number n) (af_fault packet) _ e in sym (ne_eqb (af_fault packet) 0 (λ z. omega (arith, told.0, told.1)))
 
 -- without FEC they suffice where none is missing
 pub enough-plain : (p : Place) (n : ℕ) → p.fec ≡ false → n ≡ missing_in p → eqb n 0 ≡ enough_in p

@@ -11,6 +11,10 @@ use Rattle.base_rules.specs.Answer.{Answer, granted, outcome}
 use Rattle.base_rules.specs.Bounds.{place, parity}
 use Rattle.base_rules.specs.Bytes.{splice}
 use Rattle.base_rules.specs.Tests.{bit}
+use Rattle.base_rules.specs.Written as written
+use Rattle.std.specs.Prelude.{Result, Ok, Err}
+use Rattle.base_rules.specs.Refusal as refusals
+use Rattle.base_rules.specs.declared.Refusal.{Refusal}
 use Rattle.base_rules.proofs.Logic.{clash}
 use Rattle.base_rules.proofs.Splice.{splice-length}
 use Rattle.cut_rules.specs.Cells.{cells_of}
@@ -23,13 +27,13 @@ use Rattle.weave_rules.specs.declared.Held.TheVariants as helds
 use Rattle.weave_rules.proofs.CallCases.{cells_done}
 use Rattle.code_rules.specs.Calls.{number_of, BlockFilled}
 use Rattle.code_rules.specs.declared.Filled.{Filled}
-use Rattle.code_rules.specs.declared.Filled.TheVariants.{Done, Nothing, NotEnough, Refused}
+use Rattle.code_rules.specs.declared.Filled.TheVariants.{Done, Nothing, NotEnough}
 use Rattle.code_rules.proofs.CellLaws.{standing}
 use Rattle.places_rules.specs.declared.Place.{Place}
 use Rattle.places_rules.specs.Faults.{bad_place}
 use Rattle.form_rules.specs.Agree.{enough_in, lost_in, Fills, Agrees}
 use Rattle.form_rules.specs.inner.Proposals.{Ready, Proposal, data_of}
-use Rattle.form_rules.specs.declared.Proposed.TheVariants as proposed
+use Rattle.std.specs.Prelude.{Some}
 use Rattle.form_rules.proofs.Chunks.{length_data}
 use Rattle.form_rules.proofs.Mending.{Laid, within, none, only, fits, padded_behind, no_chunk}
 use Rattle.form_rules.proofs.Unique.{length-cells, laid_all, enough-coded}
@@ -47,21 +51,21 @@ module _ (p : Place) (ranged : bad_place p ≡ false) (fec : p.fec ≡ true) whe
   none_enough e = sym (enough-coded p fec ∙ ap (suffice (not_kept p.kept) p.count (p.rsk + parity)) e)
 
   -- of a place in range with FEC, the answer Enough says that its fragments suffice
-  pub suffices_yes : (h : Held) → h ≡ helds.Enough → held-calls.number_of h ≡ enough_of p.kept p.count p.size p.rsk → true ≡ enough_in p
-  unfolding held-calls.number_of
+  pub suffices_yes : (h : Result Held Refusal) → h ≡ Ok helds.Enough → held-calls.number_of h ≡ enough_of p.kept p.count p.size p.rsk → true ≡ enough_in p
+  unfolding held-calls.number_of held-calls.values_of refusals.told
   suffices_yes h is e = told_enough true (sym (ap held-calls.number_of is) ∙ e)
 
   -- of a place in range with FEC, the answer NotEnough says that its fragments do not suffice
-  pub suffices_no : (h : Held) → h ≡ helds.NotEnough → held-calls.number_of h ≡ enough_of p.kept p.count p.size p.rsk → false ≡ enough_in p
-  unfolding held-calls.number_of
+  pub suffices_no : (h : Result Held Refusal) → h ≡ Ok helds.NotEnough → held-calls.number_of h ≡ enough_of p.kept p.count p.size p.rsk → false ≡ enough_in p
+  unfolding held-calls.number_of held-calls.values_of refusals.told
   suffices_no h is e = told_enough false (sym (ap held-calls.number_of is) ∙ e)
 
   -- where the test refuses such a place, it has no chunk to miss a byte, and its fragments suffice
-  pub suffices_refused : (h : Held) (n : ℕ) → h ≡ helds.Refused n → held-calls.number_of h ≡ enough_of p.kept p.count p.size p.rsk
+  pub suffices_refused : (h : Result Held Refusal) (n : Refusal) → h ≡ Err n → held-calls.number_of h ≡ enough_of p.kept p.count p.size p.rsk
       → true ≡ enough_in p
-  unfolding held-calls.number_of enough_of
+  unfolding held-calls.number_of refusals.told enough_of
   suffices_refused h n is e =
-      none_enough (figures.enough-refused (figures.figures p ranged fec) n _ (sym (ap held-calls.number_of is) ∙ e))
+      none_enough (figures.enough-refused (figures.figures p ranged fec) (refusals.number n) _ (sym (ap held-calls.number_of is) ∙ e))
 
 -- ---- the cells
 
@@ -70,7 +74,7 @@ module _ {f s k z : ℕ} (g : figures.Figures f s k z) (some : k + parity ≤ f 
     (room : place ≤ length blank) (put : outcome a cells ≡ deinterleave_of held f s blank) where
   is_laid : cells ≡ splice blank 0 (cells_of held f s)
   is_laid =
-      let done : outcome (granted []) (splice blank 0 (cells_of held f s)) ≡ deinterleave_of held f s blank =
+      let done : outcome (written.number_of (Ok tt)) (splice blank 0 (cells_of held f s)) ≡ deinterleave_of held f s blank =
       cells_done held blank f s (figures.counted g some) (figures.in_place g some) (omega (arith, g.placed)) (splice blank 0 (cells_of held f s))
       (omega (arith, g.placed)) refl in
       cc
@@ -89,7 +93,7 @@ chunks_in p = received_c p.count p.size p.rsk
 -- ---- what is known once the cells are filled in
 
 -- a place with FEC, ready to be formed: its cells as deinterleaved, and how they were filled in
-pub record Decoding (p : Place) (held cells after : List ℕ) (r : Filled) : Type 0 where
+pub record Decoding (p : Place) (held cells after : List ℕ) (r : Result Filled Refusal) : Type 0 where
   pub ready : Ready p held
   pub fec : p.fec ≡ true
   pub size : length cells ≡ place
@@ -97,7 +101,7 @@ pub record Decoding (p : Place) (held cells after : List ℕ) (r : Filled) : Typ
   pub filled : BlockFilled p.kept p.count p.size p.rsk cells after r
 
 -- cells that were deinterleaved from a place's bytes and then filled in are such a decoding
-pub decoding : {p : Place} {held cells after : List ℕ} {r : Filled} (blank : List ℕ) (a : Answer) (q : Filled) → Ready p held → p.fec ≡ true
+pub decoding : {p : Place} {held cells after : List ℕ} {r : Result Filled Refusal} (blank : List ℕ) (a : Answer) (q : Result Filled Refusal) → Ready p held → p.fec ≡ true
     → length blank ≡ place → length cells ≡ place → outcome a cells ≡ deinterleave_of held p.count p.size blank
     → BlockFilled p.kept p.count p.size p.rsk cells after q → q ≡ r → Decoding p held cells after r
 decoding {p} {held} {cells} {after} blank a q ready fec room size put filled is =
@@ -110,7 +114,7 @@ decoding {p} {held} {cells} {after} blank a q ready fec room size put filled is 
       filled = subst (BlockFilled p.kept p.count p.size p.rsk cells after) is filled;
     }
 
-module _ {p : Place} {held cells after : List ℕ} {r : Filled} (d : Decoding p held cells after r) where
+module _ {p : Place} {held cells after : List ℕ} {r : Result Filled Refusal} (d : Decoding p held cells after r) where
   -- the figures of a place that is decoded are within their bounds
   pub figured : figures.Figures p.count p.size p.rsk p.rsz
   figured = figures.figures p d.ready.ranged d.fec
@@ -125,8 +129,8 @@ module _ {p : Place} {held cells after : List ℕ} {r : Filled} (d : Decoding p 
 -- ---- no packet agrees
 
 -- where one chunk has no filling,
-pub nothing_agrees : {p : Place} {held cells after : List ℕ} → Decoding p held cells after Nothing → (P : List ℕ) → Agrees p held P → ⊥
-unfolding number_of
+pub nothing_agrees : {p : Place} {held cells after : List ℕ} → Decoding p held cells after (Ok Nothing) → (P : List ℕ) → Agrees p held P → ⊥
+unfolding number_of refusals.told
 nothing_agrees {p} {held} {cells} {after} d P agrees =
     let g = figured d in
     let some : p.rsk + parity ≤ p.count * p.size = figures.fill-granted g _ _ _ d.filled.number in
@@ -134,14 +138,14 @@ nothing_agrees {p} {held} {cells} {after} d P agrees =
     (figures.some_fragments g some) g.small g.zeros d.filled.left.1 P (agrees.coded d.fec)
 
 -- and where there is no chunk
-pub refused-agrees : {p : Place} {held cells after : List ℕ} {n : ℕ} → Decoding p held cells after (Refused n) → (P : List ℕ) → Agrees p held P → ⊥
-unfolding number_of
+pub refused-agrees : {p : Place} {held cells after : List ℕ} {n : Refusal} → Decoding p held cells after (Err n) → (P : List ℕ) → Agrees p held P → ⊥
+unfolding number_of refusals.told
 refused-agrees {p} {held} {cells} {after} {n} d P agrees =
     no_chunk p held P d.fec
-    (figures.fill-refused (figured d) n (length cells) _ (cells_room d) d.filled.number) agrees
+    (figures.fill-refused (figured d) (refusals.number n) (length cells) _ (cells_room d) d.filled.number) agrees
 
 -- that too few fragments are kept is ruled out
-pub short_agrees : {p : Place} {held cells after : List ℕ} → Decoding p held cells after NotEnough → (P : List ℕ) → Agrees p held P → ⊥
+pub short_agrees : {p : Place} {held cells after : List ℕ} → Decoding p held cells after (Ok NotEnough) → (P : List ℕ) → Agrees p held P → ⊥
 short_agrees d P agrees = clash (enough-kept d) d.filled.left.0
 
 -- ---- the packet in the chunks
@@ -168,9 +172,9 @@ module _ (buffer bytes : List ℕ) (l n : ℕ) (long : length bytes ≡ n) (less
       ap (take (n - l)) (drop-append-le l bytes (drop (0 + length bytes) buffer) (omega arith))
       ∙ take_at (drop l bytes) (drop (0 + length bytes) buffer) (n - l) (length-drop l bytes ∙ ap (λ (x : ℕ). x - l) long)
 
-module _ {p : Place} {held cells after : List ℕ} (d : Decoding p held cells after Done) where
+module _ {p : Place} {held cells after : List ℕ} (d : Decoding p held cells after (Ok Done)) where
   some_chunk : p.rsk + parity ≤ p.count * p.size
-  unfolding number_of
+  unfolding number_of refusals.told
   some_chunk = figures.fill-granted (figured d) _ _ _ d.filled.number
 
   -- the chunks stand in the cells, and their data fit a place
@@ -201,7 +205,7 @@ module _ {p : Place} {held cells after : List ℕ} (d : Decoding p held cells af
     result_room = ap length gathered ∙ splice-length buffer 0 (data_of after p.rsk (chunks_in p)) (omega (arith, long, chunks_room.1)) ∙ room
 
     -- where zeros stand behind it the packet is the one that can agree,
-    pub proposes : behind p result ≡ replicate (length (behind p result)) 0 → Proposal p held result (proposed.Of (packet_bytes p))
+    pub proposes : behind p result ≡ replicate (length (behind p result)) 0 → Proposal p held result (Some (packet_bytes p))
     proposes blank =
         let g = figured d in
         let some : 0 < p.count = figures.some_fragments g some_chunk in

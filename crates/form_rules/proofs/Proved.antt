@@ -8,6 +8,10 @@ use lib.ListN.{length}
 use Rattle.base_rules.specs.Answer.{granted, refused, answered}
 use Rattle.base_rules.specs.Bounds.{most_k}
 use Rattle.base_rules.specs.Bytes.{splice}
+use Rattle.std.specs.Prelude.{Result, Ok, Err}
+use Rattle.base_rules.specs.Refusal as refusals
+use Rattle.base_rules.specs.declared.Refusal.{Refusal}
+use Rattle.base_rules.proofs.Answers.{one_refusal}
 use Rattle.base_rules.proofs.Logic.{clash}
 use Rattle.code_rules.proofs.CallCases.{granted_by, refused_by}
 use Rattle.places_rules.specs.declared.Place.{Place}
@@ -15,7 +19,7 @@ use Rattle.places_rules.proofs.Ranges.{range_from}
 use Rattle.form_rules.specs.Calls.{form_fault, number_of, PlaceFormed}
 use Rattle.form_rules.specs.Claims.{OnePacket, OneFormed, Decided}
 use Rattle.form_rules.specs.declared.Formed.{Formed}
-use Rattle.form_rules.specs.declared.Formed.TheVariants.{Waits, Packet, Nothing, Refused}
+use Rattle.form_rules.specs.declared.Formed.TheVariants.{Waits, Packet, Nothing}
 use Rattle.form_rules.proofs.Checks.{fault_free}
 use Rattle.form_rules.proofs.Search as searching
 use Rattle.form_rules.proofs.Unique as unique
@@ -33,31 +37,31 @@ module _ (p : Place) (held out : List ℕ) where
   small s t e coded =
       ((range_from p (fault_free p _ _ (sym (granted_by (form_fault p (length held) (length out)) s t e).0)).0).coded coded).1
 
-  formed : (v w : List ℕ) (r q : Formed) → PlaceFormed p held out v r → PlaceFormed p held out w q → (r ≡ q) × (v ≡ w)
-  unfolding number_of
-  formed v w Waits Waits a b = (refl, a.left.1 ∙ sym b.left.1)
-  formed v w Waits (Packet l m) a b = clash b.left.0 a.left.0
-  formed v w Waits Nothing a b = clash b.left.0 a.left.0
-  formed v w Waits (Refused n) a b = not_both n _ _ _ _ b.number a.number
-  formed v w (Packet l m) Waits a b = clash a.left.0 b.left.0
-  formed v w (Packet l m) (Packet k n) a b =
+  formed : (v w : List ℕ) (r q : Result Formed Refusal) → PlaceFormed p held out v r → PlaceFormed p held out w q → (r ≡ q) × (v ≡ w)
+  unfolding number_of refusals.told
+  formed v w (Ok Waits) (Ok Waits) a b = (refl, a.left.1 ∙ sym b.left.1)
+  formed v w (Ok Waits) (Ok (Packet l m)) a b = clash b.left.0 a.left.0
+  formed v w (Ok Waits) (Ok Nothing) a b = clash b.left.0 a.left.0
+  formed v w (Ok Waits) (Err n) a b = not_both (refusals.number n) _ _ _ _ b.number a.number
+  formed v w (Ok (Packet l m)) (Ok Waits) a b = clash a.left.0 b.left.0
+  formed v w (Ok (Packet l m)) (Ok (Packet k n)) a b =
       let x = a.left.1 in
       let y = b.left.1 in
       let same : x.packet ≡ y.packet = one_packet p held x.packet y.packet (small _ _ a.number) a.left.0 x.agrees y.agrees in (
-        ap₂ Packet (x.told ∙ ap length same ∙ sym y.told) (x.missing ∙ sym y.missing),
+        ap₂ (λ x y. Ok (Packet x y)) (x.told ∙ ap length same ∙ sym y.told) (x.missing ∙ sym y.missing),
         x.written ∙ ap (splice out 0) same ∙ sym y.written,
       )
-  formed v w (Packet l m) Nothing a b = absurd (b.left.1 a.left.1.packet a.left.1.agrees)
-  formed v w (Packet l m) (Refused n) a b = not_both n _ _ _ _ b.number a.number
-  formed v w Nothing Waits a b = clash a.left.0 b.left.0
-  formed v w Nothing (Packet l m) a b = absurd (a.left.1 b.left.1.packet b.left.1.agrees)
-  formed v w Nothing Nothing a b = (refl, a.left.2 ∙ sym b.left.2)
-  formed v w Nothing (Refused n) a b = not_both n _ _ _ _ b.number a.number
-  formed v w (Refused n) Waits a b = not_both n _ _ _ _ a.number b.number
-  formed v w (Refused n) (Packet l m) a b = not_both n _ _ _ _ a.number b.number
-  formed v w (Refused n) Nothing a b = not_both n _ _ _ _ a.number b.number
-  formed v w (Refused m) (Refused n) a b =
-      (ap Refused ((refused_by m _ _ a.number).0 ∙ sym (refused_by n _ _ b.number).0), a.left ∙ sym b.left)
+  formed v w (Ok (Packet l m)) (Ok Nothing) a b = absurd (b.left.1 a.left.1.packet a.left.1.agrees)
+  formed v w (Ok (Packet l m)) (Err n) a b = not_both (refusals.number n) _ _ _ _ b.number a.number
+  formed v w (Ok Nothing) (Ok Waits) a b = clash a.left.0 b.left.0
+  formed v w (Ok Nothing) (Ok (Packet l m)) a b = absurd (a.left.1 b.left.1.packet b.left.1.agrees)
+  formed v w (Ok Nothing) (Ok Nothing) a b = (refl, a.left.2 ∙ sym b.left.2)
+  formed v w (Ok Nothing) (Err n) a b = not_both (refusals.number n) _ _ _ _ b.number a.number
+  formed v w (Err n) (Ok Waits) a b = not_both (refusals.number n) _ _ _ _ a.number b.number
+  formed v w (Err n) (Ok (Packet l m)) a b = not_both (refusals.number n) _ _ _ _ a.number b.number
+  formed v w (Err n) (Ok Nothing) a b = not_both (refusals.number n) _ _ _ _ a.number b.number
+  formed v w (Err m) (Err n) a b =
+      (ap Err (one_refusal m n ((refused_by (refusals.number m) _ _ a.number).0 ∙ sym (refused_by (refusals.number n) _ _ b.number).0)), a.left ∙ sym b.left)
 
 pub one_formed : OneFormed
 one_formed p held out v w r q a b = formed p held out v w r q a b

@@ -4,7 +4,7 @@
 mod reading;
 mod writing;
 
-pub use header_rules::{Header, Parsed};
+pub use header_rules::Header;
 pub use reading::parse;
 pub use writing::write_header;
 

@@ -1,13 +1,13 @@
 // Reading a header: the checks 2 to 8 of document 01, in their order.
 ghost use Rattle.std.specs.Prelude.{◌≡◌, cond, false, ◌||◌, ◌*◌, ◌≤◌, leb, length, get_or};
 ghost use Rattle.base_rules.specs.Bounds.{place};
+ghost use Rattle.base_rules.specs.Refusal.{fault_in};
 ghost use Rattle.header_rules.specs.Read.{has_fec, has_address, address_at, address_of, fields_of, body_length, length_of, is_short, bad_crc, bad_length};
 ghost use Rattle.header_rules.specs.Read.{bad_address, bad_index, bad_size, fault_of, parsed_of, number_of, parse_call};
 ghost use Rattle.weave_rules.specs.Calls.{bad_count, bad_chunk};
-ghost use Rattle.cut_rules.specs.declared.Address.TheVariants.{Pair};
 
-use crate::{ADDR_BIT, FEC_BIT, Header, Parsed, SYNC};
-use base::{MOST_F, PARITY, PLACE};
+use crate::{ADDR_BIT, FEC_BIT, Header, SYNC};
+use base::{MOST_F, PARITY, PLACE, Refusal};
 use cut::{Address, LEAST_H};
 
 // Whether the flags call for RSk and RSz.
@@ -32,17 +32,18 @@ fn address_at(s: &[u8]) -> usize
 }
 
 // The address, or none.
-fn address_of(s: &[u8]) -> Address
+fn address_of(s: &[u8]) -> Option<Address>
     ensures { result ≡ address_of s.now }
 {
     if has_address(s) {
         let at = address_at(s);
-        return Address::Pair {
+        Some(Address {
             source: base::read2(s, at),
             dest: base::read2(s, at + 2),
-        };
+        })
+    } else {
+        None
     }
-    Address::None
 }
 
 // The header's bytes before HCRC.
@@ -81,10 +82,7 @@ fn fields_of(s: &[u8]) -> Header
 fn is_short(s: &[u8]) -> bool
     ensures { result ≡ is_short s.now }
 {
-    if s.len() < LEAST_H {
-        return true;
-    }
-    s.len() < body_length(s) + 2
+    s.len() < LEAST_H || s.len() < body_length(s) + 2
 }
 
 // 4: whether HCRC is not the CRC of the bytes before it.
@@ -100,49 +98,28 @@ fn bad_crc(s: &[u8]) -> bool
 fn bad_length(s: &[u8], h: Header) -> bool
     ensures { result ≡ bad_length s.now h }
 {
-    if h.plen == 0 {
-        return true;
-    }
-    s.len() != body_length(s) + 2 + h.plen as usize
+    h.plen == 0 || s.len() != body_length(s) + 2 + h.plen as usize
 }
 
 // 6: whether the configured address is not that of a fragment that carries one.
-fn bad_address(own: Address, a: Address) -> bool
+fn bad_address(own: Option<Address>, a: Option<Address>) -> bool
     ensures { result ≡ bad_address own a }
 {
-    match a {
-        Address::None => false,
-        Address::Pair { source, dest } => other_pair(own, source, dest),
-    }
+    a.is_some() && own != a
 }
 
-// Whether another pair is configured, or none.
-fn other_pair(own: Address, source: u16, dest: u16) -> bool
-    ensures { result ≡ bad_address own (Pair source dest) }
+// Whether it is no count of fragments.
+fn bad_count(count: usize) -> bool
+    ensures { result ≡ bad_count count }
 {
-    match own {
-        Address::None => true,
-        Address::Pair { source: s, dest: d } => {
-            if s != source {
-                return true;
-            }
-            d != dest
-        }
-    }
+    count == 0 || MOST_F < count
 }
 
 // 7: whether Fcount is no count, or Findex is not below it.
 fn bad_index(h: Header) -> bool
     ensures { result ≡ bad_index h }
 {
-    let count = h.count as usize;
-    if count == 0 {
-        return true;
-    }
-    if MOST_F < count {
-        return true;
-    }
-    h.count <= h.index
+    bad_count(h.count as usize) || h.count <= h.index
 }
 
 // Of 8: whether k and z are no chunk's, or the f s cells hold none.
@@ -150,13 +127,7 @@ fn bad_chunk(f: usize, s: usize, k: usize, z: usize) -> bool
     requires { f * s ≤ place }
     ensures { result ≡ (bad_chunk f s k || leb k z) }
 {
-    if base::bad_k(k) {
-        return true;
-    }
-    if f * s < k + PARITY {
-        return true;
-    }
-    k <= z
+    base::bad_k(k) || f * s < k + PARITY || k <= z
 }
 
 // 8: whether the sizes cannot be.
@@ -166,49 +137,43 @@ fn bad_size(h: Header) -> bool
 {
     let f = h.count as usize;
     let s = h.plen as usize;
-    if PLACE < f * s {
-        return true;
-    }
-    if h.fec {
-        return bad_chunk(f, s, h.rsk as usize, h.rsz as usize);
-    }
-    false
+    PLACE < f * s || (h.fec && bad_chunk(f, s, h.rsk as usize, h.rsz as usize))
 }
 
-// The number with which a datagram is refused by its header, or 0.
-fn fault(own: Address, s: &[u8]) -> u8
-    ensures { result ≡ fault_of own s.now }
+// The checks 2 to 8 in order: the first that fails refuses.
+fn fault(own: Option<Address>, s: &[u8]) -> Result<(), Refusal>
+    ensures { fault_in result ≡ fault_of own s.now }
 {
     if is_short(s) {
-        return 2;
+        return Err(Refusal::Short);
     }
     if base::read2(s, 0) != SYNC {
-        return 3;
+        return Err(Refusal::Sync);
     }
     if bad_crc(s) {
-        return 4;
+        return Err(Refusal::Hcrc);
     }
     let h = fields_of(s);
     if bad_length(s, h) {
-        return 5;
+        return Err(Refusal::Length);
     }
     let address = h.address;
     if bad_address(own, address) {
-        return 6;
+        return Err(Refusal::Address);
     }
     if bad_index(h) {
-        return 7;
+        return Err(Refusal::Count);
     }
-    if bad_size(h) { 8 } else { 0 }
+    if bad_size(h) {
+        return Err(Refusal::Size);
+    }
+    Ok(())
 }
 
 // Reads the header of a datagram, for a receiver with this address or none.
-pub fn parse(own: Address, s: &[u8]) -> Parsed
+pub fn parse(own: Option<Address>, s: &[u8]) -> Result<Header, Refusal>
     ensures { (result ≡ parsed_of own s.now) × (number_of result ≡ parse_call own s.now) }
 {
-    let n = fault(own, s);
-    if n != 0 {
-        return Parsed::Refused(n);
-    }
-    Parsed::Fragment(fields_of(s))
+    fault(own, s)?;
+    Ok(fields_of(s))
 }

@@ -1,4 +1,4 @@
-// Writing a header.
+// Writing a header. Each part is put where the longest header has room, so that no answer is read there.
 ghost use Rattle.std.specs.Prelude.{◌≡◌, ◌+◌, ◌≤◌, length, take};
 ghost use Rattle.base_rules.specs.Answer.{outcome};
 ghost use Rattle.base_rules.specs.Bytes.{splice, bytes_of};
@@ -7,15 +7,15 @@ ghost use Rattle.crc_rules.specs.Crc.{word_of};
 ghost use Rattle.header_rules.specs.Header.{addr_flag, flags_of, fec_part, address_part, front_of, write_call};
 
 use crate::{ADDR_BIT, FEC_BIT, Header, SYNC};
-use base::Written;
+use base::Refusal;
 use cut::{Address, MOST_H};
 
-fn addr_flag(a: Address) -> u16
+fn addr_flag(a: Option<Address>) -> u16
     ensures { (result ≡ addr_flag a) × (result ≤ 16384) }
 {
     match a {
-        Address::None => 0,
-        Address::Pair { source: _, dest: _ } => ADDR_BIT,
+        None => 0,
+        Some(_) => ADDR_BIT,
     }
 }
 
@@ -29,55 +29,54 @@ fn flags(h: Header) -> u16
 }
 
 // "PF", Pseq, Findex, Fcount, the flags with Plen: 12 bytes.
-fn put_front(out: &mut [u8], h: Header)
-    requires { 12 ≤ length out.old }
-    ensures { out.new ≡ splice out.old 0 (front_of h) }
+fn put_front(head: &mut [u8; MOST_H], h: Header)
+    ensures { head.new ≡ splice head.old 0 (front_of h) }
 {
-    base::put(out, 0, &base::bytes2(SYNC));
-    base::put(out, 2, &base::bytes2(h.number));
-    base::put(out, 4, &base::bytes3(h.index));
-    base::put(out, 7, &base::bytes3(h.count));
-    base::put(out, 10, &base::bytes2(flags(h)));
+    let _ = base::put(head, 0, &base::bytes2(SYNC));
+    let _ = base::put(head, 2, &base::bytes2(h.number));
+    let _ = base::put(head, 4, &base::bytes3(h.index));
+    let _ = base::put(head, 7, &base::bytes3(h.count));
+    let _ = base::put(head, 10, &base::bytes2(flags(h)));
 }
 
 // RSk and RSz, where there is FEC; the answer is the place behind them.
-fn put_fec(out: &mut [u8], at: usize, h: Header) -> usize
-    requires { (at ≤ 12) × (at + 2 ≤ length out.old) }
-    ensures { (result ≡ at + length (fec_part h)) × (out.new ≡ splice out.old at (fec_part h)) }
+fn put_fec(head: &mut [u8; MOST_H], at: usize, h: Header) -> usize
+    requires { at ≤ 12 }
+    ensures { (result ≡ at + length (fec_part h)) × (head.new ≡ splice head.old at (fec_part h)) }
 {
     if h.fec {
-        base::put(out, at, &[h.rsk, h.rsz]);
+        let _ = base::put(head, at, &[h.rsk, h.rsz]);
         return at + 2;
     }
     at
 }
 
 // The address, where there is one; the answer is the place behind it.
-fn put_address(out: &mut [u8], at: usize, a: Address) -> usize
-    requires { (at ≤ 14) × (at + 4 ≤ length out.old) }
-    ensures { (result ≡ at + length (address_part a)) × (out.new ≡ splice out.old at (address_part a)) }
+fn put_address(head: &mut [u8; MOST_H], at: usize, a: Option<Address>) -> usize
+    requires { at ≤ 14 }
+    ensures { (result ≡ at + length (address_part a)) × (head.new ≡ splice head.old at (address_part a)) }
 {
     match a {
-        Address::None => at,
-        Address::Pair { source, dest } => {
-            base::put(out, at, &base::bytes2(source));
-            base::put(out, at + 2, &base::bytes2(dest));
+        None => at,
+        Some(pair) => {
+            let _ = base::put(head, at, &base::bytes2(pair.source));
+            let _ = base::put(head, at + 2, &base::bytes2(pair.dest));
             at + 4
         }
     }
 }
 
 // HCRC over the bytes before `at`.
-fn put_crc(out: &mut [u8], at: usize)
-    requires { (at ≤ 18) × (at + 2 ≤ length out.old) }
-    ensures { out.new ≡ splice out.old at (bytes_of 2 (word_of (take at out.old))) }
+fn put_crc(head: &mut [u8; MOST_H], at: usize)
+    requires { at ≤ 18 }
+    ensures { head.new ≡ splice head.old at (bytes_of 2 (word_of (take at head.old))) }
 {
-    let word = crc::word(&out[..at]);
-    base::put(out, at, &base::bytes2(word));
+    let word = crc::word(&head[..at]);
+    let _ = base::put(head, at, &base::bytes2(word));
 }
 
 // Writes a header at the front of out; 1 ROOM where it does not fit, and then out stays as it is.
-pub fn write_header(h: Header, out: &mut [u8]) -> Written
+pub fn write_header(h: Header, out: &mut [u8]) -> Result<(), Refusal>
     ensures { outcome (number_of result) out.new ≡ write_call h out.old }
 {
     let mut head = [0u8; MOST_H];

@@ -15,6 +15,7 @@ use Rattle.base_rules.proofs.ChunkSize.{k_fits}
 use Rattle.base_rules.proofs.Firsts.{skip, none_due, clear, clear_rest}
 use Rattle.base_rules.proofs.Logic.{either, or_left, or_right, same, other, same_from}
 use Rattle.crc_rules.specs.Crc.{word_of}
+use Rattle.std.specs.Prelude.{Option}
 use Rattle.cut_rules.specs.declared.Address.{Address}
 use Rattle.weave_rules.specs.Calls.{bad_count, too_much, bad_chunk}
 use Rattle.weave_rules.proofs.CallCases.{f_most, fits_place, chunk_some}
@@ -26,7 +27,7 @@ use Rattle.header_rules.proofs.Fields.{no_chunk}
 
 -- ---- the tests from each number on
 
-module _ (own : Address) (s : List ℕ) where
+module _ (own : Option Address) (s : List ℕ) where
   -- the last of the header's tests alone: sizes out of bounds give 8
   abbrev pub from_8 : List (Bool × ℕ)
   from_8 = (bad_size (fields_of s), 8) ∷ []
@@ -158,7 +159,7 @@ module _ (h : Header) where
       (λ (f : h.fec ≡ false). ap (λ (b : Bool). b && no_chunk h) f))
 
 -- the address of the fields, and a test on what was worked out
-pub address_told_lem : (own : Address) (s : List ℕ) (h : Header) {b y : Bool} → h ≡ fields_of s → b ≡ bad_address own h.address → b ≡ y
+pub address_told_lem : (own : Option Address) (s : List ℕ) (h : Header) {b y : Bool} → h ≡ fields_of s → b ≡ bad_address own h.address → b ≡ y
     → bad_address own (address_of s) ≡ y
 unfolding fields_of
 address_told_lem own s h is_h is_b e = ap (λ (x : Header). bad_address own x.address) (sym is_h) ∙ sym is_b ∙ e
@@ -170,7 +171,7 @@ told_by_lem test is_h is_b e = ap test (sym is_h) ∙ sym is_b ∙ e
 -- ---- a datagram that passes
 
 -- a datagram that passes the checks 2 to 8 for the configured address, and what each tells of it
-pub record Passing (own : Address) (s : List ℕ) : Type 0 where
+pub record Passing (own : Option Address) (s : List ℕ) : Type 0 where
   pub long : 14 ≤ length s
   pub whole : length_of s ≤ length s
   pub synced : number_at 2 s 0 ≡ sync
@@ -181,7 +182,7 @@ pub record Passing (own : Address) (s : List ℕ) : Type 0 where
   pub indexed : bad_index (fields_of s) ≡ false
   pub placed : bad_size (fields_of s) ≡ false
 
-module _ (own : Address) (s : List ℕ) where
+module _ (own : Option Address) (s : List ℕ) where
   -- a datagram that passes each check has no number due
   pub passes : Passing own s → 0 ≡ fault_of own s
   passes p =

@@ -1,5 +1,5 @@
 -- The fields of a header and the tests on them, each from what was worked out. Assumes nothing.
-use mathlib.Core.Path.{◌≡◌, sym, ap, ap₂, ◌∙◌}
+use mathlib.Core.Path.{◌≡◌, refl, sym, ap, ap₂, ◌∙◌}
 use mathlib.Core.Bool.{Bool, true, false, not, cond, ◌&&◌, ◌||◌}
 use mathlib.Core.List.{List}
 use Prim.Native.Nat.{ℕ, ◌+◌, ◌*◌, ◌%◌, ◌≤◌, ◌<◌}
@@ -13,13 +13,15 @@ use Rattle.base_rules.specs.Bytes.{number_at}
 use Rattle.crc_rules.specs.Crc.{word_of}
 use Rattle.cut_rules.specs.Sizes.{least_h, address_bytes}
 use Rattle.cut_rules.specs.declared.Address.{Address}
-use Rattle.cut_rules.specs.declared.Address.TheVariants.{None, Pair}
+use Rattle.std.specs.Prelude.{Option, Some, None, Ok, Err}
+use Rattle.base_rules.specs.Refusal.{number, refusal_of}
+use Rattle.base_rules.specs.declared.Refusal.{Refusal}
+use Rattle.base_rules.proofs.ByFault.{answers_ok, answers_err, answers_due}
 use Rattle.weave_rules.specs.Calls.{bad_count, too_much, bad_chunk}
 use Rattle.header_rules.specs.declared.Header.{Header}
-use Rattle.header_rules.specs.declared.Parsed.TheVariants.{Fragment, Refused}
 use Rattle.header_rules.specs.Header.{addr_bit}
 use Rattle.header_rules.specs.Read.{flags_at, has_fec, has_address, address_at, address_of, fields_of, body_length, length_of, is_short, bad_crc}
-use Rattle.header_rules.specs.Read.{bad_length, bad_address, bad_index, bad_size, fault_of, parsed_of}
+use Rattle.header_rules.specs.Read.{bad_length, bad_index, bad_size, fault_of, parsed_of}
 
 -- ---- what stands in a datagram
 
@@ -35,9 +37,10 @@ module _ (s : List ℕ) where
   at_plain e = rw e
 
   -- with the Addr bit the address is the Source and the Dest that stand at its place
-  pub address_there : (a x y : ℕ) → has_address s ≡ true → a ≡ address_at s → x ≡ number_at 2 s a → y ≡ number_at 2 s (a + 2) → Pair x y ≡ address_of s
+  pub address_there : (a x y : ℕ) → has_address s ≡ true → a ≡ address_at s → x ≡ number_at 2 s a → y ≡ number_at 2 s (a + 2)
+      → Some (record { source = x; dest = y }) ≡ address_of s
   unfolding address_of
-  address_there a x y e is-a is_x is_y = rw (e, ← is-a) (ap₂ Pair is_x is_y)
+  address_there a x y e is-a is_x is_y = rw (e, ← is-a, is_x, is_y) refl
 
   -- without the Addr bit there is no address
   pub address_none : has_address s ≡ false → None ≡ address_of s
@@ -55,7 +58,7 @@ module _ (s : List ℕ) where
   body_plain a e is-a = rw e (is-a ∙ sym (add-zero (address_at s)))
 
   -- what was read at the place of each field, RSk and RSz 0 without FEC, is the datagram's header
-  pub fields_read : (number index count rsk rsz flags : ℕ) (fec : Bool) (address : Address) → number ≡ number_at 2 s 2 → index ≡ number_at 3 s 4
+  pub fields_read : (number index count rsk rsz flags : ℕ) (fec : Bool) (address : Option Address) → number ≡ number_at 2 s 2 → index ≡ number_at 3 s 4
       → count ≡ number_at 3 s 7 → fec ≡ has_fec s → rsk ≡ cond fec (get_or s 12 0) 0 → rsz ≡ cond fec (get_or s 13 0) 0 → address ≡ address_of s
       → flags ≡ number_at 2 s 10
       → record {
@@ -108,23 +111,6 @@ module _ (s : List ℕ) where
   length_none h none = rw (eq-eqb h.plen 0 none)
 
 -- ---- the address
-
-module _ (own : Address) (source dest : ℕ) where
-  -- where no address is configured, any address fails 6 ADDRESS
-  pub other_none : own ≡ None → true ≡ bad_address own (Pair source dest)
-  unfolding bad_address
-  other_none e = rw e
-
-  module _ (x y : ℕ) (is-pair : own ≡ Pair x y) where
-    -- a Source that is not the configured pair's fails 6 ADDRESS
-    pub other_source : (x ≡ source → ⊥) → true ≡ bad_address own (Pair source dest)
-    unfolding bad_address
-    other_source ne = rw (is-pair, ne_eqb x source ne)
-
-    -- with the configured Source, an address fails 6 ADDRESS just where Dest is not the pair's
-    pub other_dest : x ≡ source → not (eqb y dest) ≡ bad_address own (Pair source dest)
-    unfolding bad_address
-    other_dest e = rw (is-pair, eq-eqb x source e)
 
 -- ---- the sizes
 
@@ -183,13 +169,18 @@ module _ (f s k z : ℕ) where
 
 -- ---- the answer
 
-module _ (own : Address) (s : List ℕ) (n : ℕ) (is_n : n ≡ fault_of own s) where
+module _ (own : Option Address) (s : List ℕ) where
   -- a datagram with a number due is answered by that refusal
-  pub parse_refused : (n ≡ 0 → ⊥) → Refused n ≡ parsed_of own s
+  pub parse_refused : (e : Refusal) → number e ≡ fault_of own s → Err e ≡ parsed_of own s
   unfolding parsed_of
-  parse_refused some = rw (← is_n, ne_eqb n 0 some)
+  parse_refused e due = answers_err (fault_of own s) (fields_of s) e due
+
+  -- also where it is known by its number alone
+  pub parse_due : (fault_of own s ≡ 0 → ⊥) → Err (refusal_of (fault_of own s)) ≡ parsed_of own s
+  unfolding parsed_of
+  parse_due some = answers_due (fault_of own s) (fields_of s) some
 
   -- a datagram with no number due is answered by its header's fields
-  pub parse_read : (h : Header) → n ≡ 0 → h ≡ fields_of s → Fragment h ≡ parsed_of own s
+  pub parse_read : (h : Header) → 0 ≡ fault_of own s → h ≡ fields_of s → Ok h ≡ parsed_of own s
   unfolding parsed_of
-  parse_read h none is_h = rw (← is_n, eq-eqb n 0 none) (ap Fragment is_h)
+  parse_read h none is_h = answers_ok (fault_of own s) (fields_of s) h none is_h

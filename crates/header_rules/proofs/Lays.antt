@@ -17,7 +17,7 @@ use Rattle.base_rules.proofs.Splice.{splice_none, splice-length, splice_next, sp
 use Rattle.crc_rules.specs.Crc.{word_of}
 use Rattle.cut_rules.specs.Sizes.{address_bytes}
 use Rattle.cut_rules.specs.declared.Address.{Address}
-use Rattle.cut_rules.specs.declared.Address.TheVariants.{None, Pair}
+use Rattle.std.specs.Prelude.{Option, Some, None}
 use Rattle.header_rules.specs.declared.Header.{Header}
 use Rattle.header_rules.specs.Header.{sync, fec_bit, addr_bit, addr_flag, flags_of, fec_part, address_part, front_of, body_of, header_bytes, write_call}
 
@@ -28,16 +28,16 @@ length_either true k z = refl
 length_either false k z = refl
 
 -- an address is written in the bytes that the size of a header counts for it: 4, or 0 for none
-pub address-length : (a : Address) → length (address_part a) ≡ address_bytes a
+pub address-length : (a : Option Address) → length (address_part a) ≡ address_bytes a
 unfolding address_part address_bytes bytes_of
 address-length None = refl
-address-length (Pair source dest) = refl
+address-length (Some a) = refl
 
 -- an address takes at most 4 bytes of a header
-pub address_most : (a : Address) → length (address_part a) ≤ 4
+pub address_most : (a : Option Address) → length (address_part a) ≤ 4
 unfolding address_part bytes_of
 address_most None = omega arith
-address_most (Pair source dest) = omega arith
+address_most (Some a) = omega arith
 
 most_two : (b : Bool) → cond b 2 0 ≤ 2
 most_two true = omega arith
@@ -137,20 +137,20 @@ module _ (h : Header) (out : List ℕ) (at : ℕ) where
   unfolding fec_part
   fec_none e = part_none out at (fec_part h) (ap (λ (b : Bool). cond b (h.rsk ∷ h.rsz ∷ []) []) (sym e))
 
-module _ (a : Address) (out : List ℕ) (at : ℕ) where
+module _ (a : Option Address) (out : List ℕ) (at : ℕ) where
   -- without an address its part is empty: nothing is written, and the next begins at once
   pub address_absent : a ≡ None → (at ≡ at + length (address_part a)) × (out ≡ splice out at (address_part a))
   unfolding address_part
   address_absent e = part_none out at (address_part a) (ap address_part (sym e))
 
   -- with an address the copies of Source and Dest write its part, and the next begins 4 bytes on
-  pub address_laid : (source dest : ℕ) (u v b d : List ℕ) (p q : Answer) → a ≡ Pair source dest → b ≡ bytes_of 2 source → d ≡ bytes_of 2 dest
+  pub address_laid : (pair : Address) (u v b d : List ℕ) (p q : Answer) → a ≡ Some pair → b ≡ bytes_of 2 pair.source → d ≡ bytes_of 2 pair.dest
       → at + 4 ≤ length out → outcome p u ≡ put_of out at b → outcome q v ≡ put_of u (at + 2) d
       → (at + 4 ≡ at + length (address_part a)) × (v ≡ splice out at (address_part a))
   unfolding address_part
-  address_laid source dest u v b d p q is-a is_b is-d room e f =
-      let two : length b ≡ 2 = ap length is_b ∙ length-bytes 2 source in
-      let more : length d ≡ 2 = ap length is-d ∙ length-bytes 2 dest in
+  address_laid pair u v b d p q is-a is_b is-d room e f =
+      let two : length b ≡ 2 = ap length is_b ∙ length-bytes 2 pair.source in
+      let more : length d ≡ 2 = ap length is-d ∙ length-bytes 2 pair.dest in
       let is-u : u ≡ splice out at b = put_is out b u at p (omega arith) e in
       let same : length u ≡ length out = ap length is-u ∙ splice-length out at b (omega arith) in
       let part : b ++ d ≡ address_part a = ap₂ (λ (l m : List ℕ). l ++ m) is_b is-d ∙ ap address_part (sym is-a) in (

@@ -12,9 +12,9 @@ use Rattle.base_rules.proofs.ByteLaws.{bytes_at_lem}
 use Rattle.base_rules.proofs.Logic.{bit_one}
 use Rattle.base_rules.proofs.Numbers.{number_lt}
 use Rattle.cut_rules.specs.declared.Address.{Address}
-use Rattle.cut_rules.specs.declared.Address.TheVariants.{None, Pair}
+use Rattle.std.specs.Prelude.{Option, Some, None}
+use Rattle.base_rules.proofs.Answers.{one_told}
 use Rattle.header_rules.specs.declared.Header.{Header}
-use Rattle.header_rules.specs.declared.Parsed.TheVariants.{Fragment, Refused}
 use Rattle.header_rules.specs.Read.{has_fec, has_address, address_at, address_of, fields_of, address_values, header_values, number_of, flags_at}
 use Rattle.header_rules.specs.Claims.{Fitting, Written, ReadsBack, Passes, PassedSound, PayloadStands, HeaderLength, OneParsed}
 use Rattle.header_rules.proofs.Checks.{Passing, passes, passing, index_from, size_from}
@@ -31,7 +31,7 @@ written_passes own h payload p long owned = sym (passes own _ (sound_passes own 
 
 -- ---- what passes is sound
 
-fitting : (b : Bool) (x y : ℕ) → x < 65536 → y < 65536 → Fitting (cond b (Pair x y) None)
+fitting : (b : Bool) (x y : ℕ) → x < 65536 → y < 65536 → Fitting (cond b (Some (record { source = x; dest = y })) None)
 unfolding Fitting
 fitting true x y p q = (p, q)
 fitting false x y p q = tt
@@ -79,14 +79,20 @@ header_lengths h = omega (arith, header_length_lem h, body_length_lem h, fec-len
 
 -- ---- no second answer
 
-address_one : (a b : Address) → address_values a ≡ address_values b → a ≡ b
+pair_one : (a b : Address) → a.source ≡ b.source → a.dest ≡ b.dest → a ≡ b
+pair_one a b source dest = grind arith
+
+address_one : (a b : Option Address) → address_values a ≡ address_values b → a ≡ b
 unfolding address_values
 address_one None None e = refl
-address_one None (Pair source dest) e = cc
-address_one (Pair source dest) None e = cc
-address_one (Pair source dest) (Pair source' dest') e = cc
+address_one None (Some b) e = cc
+address_one (Some a) None e = cc
+address_one (Some a) (Some b) e =
+    let source : a.source ≡ b.source = cc in
+    let dest : a.dest ≡ b.dest = cc in
+    ap Some (pair_one a b source dest)
 
-made : ℕ → ℕ → ℕ → Bool → ℕ → ℕ → Address → ℕ → Header
+made : ℕ → ℕ → ℕ → Bool → ℕ → ℕ → Option Address → ℕ → Header
 made number index count fec rsk rsz address plen =
     record { number = number; index = index; count = count; fec = fec; rsk = rsk; rsz = rsz; address = address; plen = plen }
 
@@ -96,11 +102,11 @@ header_one : (h g : Header) → h.number ≡ g.number → h.index ≡ g.index �
     ≡ made g.number g.index g.count g.fec g.rsk g.rsz g.address g.plen
 header_one h g e₁ e₂ e₃ e₄ e₅ e₆ e₇ e₈ = cc
 
+one_header : (h g : Header) → header_values h ≡ header_values g → h ≡ g
+unfolding header_values made
+one_header h g e =
+    header_one h g (cc) (cc) (cc) (bit_one h.fec g.fec (cc)) (cc) (cc) (address_one h.address g.address (cc)) (cc)
+
 pub one_parsed : OneParsed
-unfolding number_of header_values made
-one_parsed (Fragment h) (Fragment g) e =
-    ap Fragment
-    (header_one h g (cc) (cc) (cc) (bit_one h.fec g.fec (cc)) (cc) (cc) (address_one h.address g.address (cc)) (cc))
-one_parsed (Fragment h) (Refused n) e = cc
-one_parsed (Refused n) (Fragment g) e = cc
-one_parsed (Refused m) (Refused n) e = cc
+unfolding number_of
+one_parsed a b e = one_told header_values one_header a b e

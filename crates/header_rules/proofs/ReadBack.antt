@@ -14,7 +14,7 @@ use Rattle.crc_rules.specs.Crc.{word_of}
 use Rattle.crc_rules.proofs.Over.{word_lt}
 use Rattle.cut_rules.specs.Sizes.{address_bytes}
 use Rattle.cut_rules.specs.declared.Address.{Address}
-use Rattle.cut_rules.specs.declared.Address.TheVariants.{None, Pair}
+use Rattle.std.specs.Prelude.{Option, Some, None}
 use Rattle.header_rules.specs.declared.Header.{Header}
 use Rattle.header_rules.specs.Header.{sync, fec_bit, addr_bit, addr_flag, flags_of, fec_part, address_part, front_of, body_of, header_bytes}
 use Rattle.header_rules.specs.Read.{flags_at, has_fec, has_address, address_at, address_of, fields_of, body_length, length_of, bad_address}
@@ -24,40 +24,40 @@ use Rattle.header_rules.proofs.Lays.{fec-length, lead_length, body_length_lem, a
 
 -- ---- the flags
 
-abbrev addressed : Address → Bool
+abbrev addressed : Option Address → Bool
 addressed None = false
-addressed (Pair source dest) = true
+addressed (Some p) = true
 
-abbrev flags : Bool → Address → ℕ → ℕ
+abbrev flags : Bool → Option Address → ℕ → ℕ
 flags b a x = cond b fec_bit 0 + (addr_flag a + x % addr_bit)
 
-flags_lt : (b : Bool) (a : Address) (x : ℕ) → flags b a x < 65536
+flags_lt : (b : Bool) (a : Option Address) (x : ℕ) → flags b a x < 65536
 unfolding addr_flag
 flags_lt true None x = omega arith
-flags_lt true (Pair source dest) x = omega arith
+flags_lt true (Some p) x = omega arith
 flags_lt false None x = omega arith
-flags_lt false (Pair source dest) x = omega arith
+flags_lt false (Some p) x = omega arith
 
-fec_in : (b : Bool) (a : Address) (x : ℕ) → leb fec_bit (flags b a x) ≡ b
+fec_in : (b : Bool) (a : Option Address) (x : ℕ) → leb fec_bit (flags b a x) ≡ b
 unfolding addr_flag
 fec_in true None x = le-leb fec_bit (flags true None x) (omega arith)
-fec_in true (Pair source dest) x = le-leb fec_bit (flags true (Pair source dest) x) (omega arith)
+fec_in true (Some p) x = le-leb fec_bit (flags true (Some p) x) (omega arith)
 fec_in false None x = lt-leb fec_bit (flags false None x) (omega arith)
-fec_in false (Pair source dest) x = lt-leb fec_bit (flags false (Pair source dest) x) (omega arith)
+fec_in false (Some p) x = lt-leb fec_bit (flags false (Some p) x) (omega arith)
 
-addressed_in : (b : Bool) (a : Address) (x : ℕ) → leb addr_bit (flags b a x % fec_bit) ≡ addressed a
+addressed_in : (b : Bool) (a : Option Address) (x : ℕ) → leb addr_bit (flags b a x % fec_bit) ≡ addressed a
 unfolding addr_flag
 addressed_in true None x = lt-leb addr_bit (flags true None x % fec_bit) (omega arith)
-addressed_in true (Pair source dest) x = le-leb addr_bit (flags true (Pair source dest) x % fec_bit) (omega arith)
+addressed_in true (Some p) x = le-leb addr_bit (flags true (Some p) x % fec_bit) (omega arith)
 addressed_in false None x = lt-leb addr_bit (flags false None x % fec_bit) (omega arith)
-addressed_in false (Pair source dest) x = le-leb addr_bit (flags false (Pair source dest) x % fec_bit) (omega arith)
+addressed_in false (Some p) x = le-leb addr_bit (flags false (Some p) x % fec_bit) (omega arith)
 
-plen_in : (b : Bool) (a : Address) (x : ℕ) → x < addr_bit → flags b a x % addr_bit ≡ x
+plen_in : (b : Bool) (a : Option Address) (x : ℕ) → x < addr_bit → flags b a x % addr_bit ≡ x
 unfolding addr_flag
 plen_in true None x h = omega arith
-plen_in true (Pair source dest) x h = omega arith
+plen_in true (Some p) x h = omega arith
 plen_in false None x h = omega arith
-plen_in false (Pair source dest) x h = omega arith
+plen_in false (Some p) x h = omega arith
 
 -- ---- the parts that a header may have
 
@@ -67,17 +67,20 @@ rs_in : (b : Bool) (k z : ℕ) (a c rest : List ℕ) → (b ≡ false → (k ≡
 rs_in true k z a c rest plain = (refl, refl)
 rs_in false k z a c rest plain = (sym (plain refl).0, sym (plain refl).1)
 
-address_in : (a : Address) (rest : List ℕ) → Fitting a
-    → cond (addressed a) (Pair (number_at 2 (address_part a ++ rest) 0) (number_at 2 (address_part a ++ rest) 2)) None ≡ a
+abbrev pair : ℕ → ℕ → Option Address
+pair x y = Some (record { source = x; dest = y })
+
+address_in : (a : Option Address) (rest : List ℕ) → Fitting a
+    → cond (addressed a) (pair (number_at 2 (address_part a ++ rest) 0) (number_at 2 (address_part a ++ rest) 2)) None ≡ a
 unfolding Fitting address_part number_at bytes_of
 address_in None rest fits = refl
-address_in (Pair source dest) rest fits = ap₂ Pair (number_back 2 source [] fits.0) (number_back 2 dest [] fits.1)
+address_in (Some a) rest fits = ap₂ pair (number_back 2 a.source [] fits.0) (number_back 2 a.dest [] fits.1)
 
-address_from : (a : Address) (s rest : List ℕ) (at : ℕ) (b : Bool) → b ≡ addressed a → drop at s ≡ address_part a ++ rest → Fitting a
-    → cond b (Pair (number_at 2 s at) (number_at 2 s (at + 2))) None ≡ a
+address_from : (a : Option Address) (s rest : List ℕ) (at : ℕ) (b : Bool) → b ≡ addressed a → drop at s ≡ address_part a ++ rest → Fitting a
+    → cond b (pair (number_at 2 s at) (number_at 2 s (at + 2))) None ≡ a
 address_from a s rest at b is_b e fits =
-    ap₂ (λ (x : Bool) (p : Address). cond x p None) is_b (ap₂ Pair (sym (number_drop 2 s at)) (sym (number_from_lem 2 s at 2)))
-    ∙ ap (λ (l : List ℕ). cond (addressed a) (Pair (number_at 2 l 0) (number_at 2 l 2)) None) e
+    ap₂ (λ (x : Bool) (p : Option Address). cond x p None) is_b (ap₂ pair (sym (number_drop 2 s at)) (sym (number_from_lem 2 s at 2)))
+    ∙ ap (λ (l : List ℕ). cond (addressed a) (pair (number_at 2 l 0) (number_at 2 l 2)) None) e
     ∙ address_in a rest fits
 
 -- where they stand
@@ -162,7 +165,7 @@ module _ (h : Header) (w : Written h) (rest : List ℕ) where
   body_back : body_length s ≡ length (body_of h)
   unfolding body_length
   body_back =
-      ap₂ (λ (n : ℕ) (a : Address). n + address_bytes a) at_back address_back
+      ap₂ (λ (n : ℕ) (a : Option Address). n + address_bytes a) at_back address_back
       ∙ omega (arith, lead_length h, body_length_lem h, address-length h.address)
 
   length_back : length_of s ≡ length (header_bytes h)
@@ -183,7 +186,7 @@ module _ (h : Header) (w : Written h) (rest : List ℕ) where
 -- ---- so what a sender writes passes
 
 -- a sound header and Plen bytes of payload pass each of the checks where the address is accepted
-pub sound_passes : (own : Address) (h : Header) (payload : List ℕ) → Sound h → length payload ≡ h.plen → bad_address own h.address ≡ false
+pub sound_passes : (own : Option Address) (h : Header) (payload : List ℕ) → Sound h → length payload ≡ h.plen → bad_address own h.address ≡ false
     → Passing own (header_bytes h ++ payload)
 sound_passes own h payload p long owned =
     let w : Written h = p.written in

@@ -1,19 +1,18 @@
 -- What is claimed of headers (clause 7.1; document 01, "Numbers given back"): the proofs are in proofs/Proved.antt.
-use Rattle.std.specs.Prelude.{true, false, List, ◌++◌, ◌≡◌, ℕ, ◌+◌, ◌*◌, ◌≤◌, ◌<◌, length}
+use Rattle.std.specs.Prelude.{true, false, List, ◌++◌, ◌≡◌, ℕ, ◌+◌, ◌*◌, ◌≤◌, ◌<◌, length, Option, Some, None, Result}
 use Rattle.base_rules.specs.Bytes.{Bytes}
 use Rattle.base_rules.specs.Bounds.{most_f, most_k, place, parity}
+use Rattle.base_rules.specs.declared.Refusal.{Refusal}
 use Rattle.cut_rules.specs.Sizes.{header_length}
 use Rattle.cut_rules.specs.declared.Address.{Address}
-use Rattle.cut_rules.specs.declared.Address.TheVariants.{None, Pair}
 use Rattle.header_rules.specs.declared.Header.{Header}
-use Rattle.header_rules.specs.declared.Parsed.{Parsed}
 use Rattle.header_rules.specs.Header.{addr_bit, header_bytes}
 use Rattle.header_rules.specs.Read.{fields_of, length_of, bad_address, fault_of, number_of}
 
 -- an address's two numbers have two bytes each
-unfoldable pub Fitting : Address → Type 0
+unfoldable pub Fitting : Option Address → Type 0
 Fitting None = Unit {0}
-Fitting (Pair source dest) = (source < 65536) × (dest < 65536)
+Fitting (Some a) = (a.source < 65536) × (a.dest < 65536)
 
 -- a header whose fields have the bytes that clause 7.1 gives them; without FEC there is no RSk and no RSz
 pub record Written (h : Header) : Type 0 where
@@ -42,16 +41,16 @@ ReadsBack = (h : Header) (rest : List ℕ) → Written h → fields_of (header_b
 -- document 01: a written fragment passes the checks 2 to 8 for every configuration that accepts its address
 abbrev pub Passes : Type 0
 Passes =
-    (own : Address) (h : Header) (payload : List ℕ) → Sound h → length payload ≡ h.plen → bad_address own h.address ≡ false
+    (own : Option Address) (h : Header) (payload : List ℕ) → Sound h → length payload ≡ h.plen → bad_address own h.address ≡ false
     → fault_of own (header_bytes h ++ payload) ≡ 0
 
 -- and what passes them is sound,
 abbrev pub PassedSound : Type 0
-PassedSound = (own : Address) (s : List ℕ) → Bytes s → fault_of own s ≡ 0 → Sound (fields_of s)
+PassedSound = (own : Option Address) (s : List ℕ) → Bytes s → fault_of own s ≡ 0 → Sound (fields_of s)
 
 -- and its payload is all that stands behind it (document 01, 5 LENGTH)
 abbrev pub PayloadStands : Type 0
-PayloadStands = (own : Address) (s : List ℕ) → fault_of own s ≡ 0 → length s ≡ length_of s + (fields_of s).plen
+PayloadStands = (own : Option Address) (s : List ℕ) → fault_of own s ≡ 0 → length s ≡ length_of s + (fields_of s).plen
 
 -- document 01: h is 14, two more with FEC, four more with an address
 abbrev pub HeaderLength : Type 0
@@ -59,4 +58,4 @@ HeaderLength = (h : Header) → length (header_bytes h) ≡ header_length h.fec 
 
 -- no second answer of the parser has the same number and values
 abbrev pub OneParsed : Type 0
-OneParsed = (a b : Parsed) → number_of a ≡ number_of b → a ≡ b
+OneParsed = (a b : Result Header Refusal) → number_of a ≡ number_of b → a ≡ b

@@ -1,11 +1,10 @@
 -- The header of a PFT fragment as it is written (clause 7.1; document 01, "PFT layer").
-use Rattle.std.specs.Prelude.{cond, List, [], ◌∷◌, ◌++◌, ℕ, ◌+◌, ◌%◌, ltb, length}
+use Rattle.std.specs.Prelude.{cond, List, [], ◌∷◌, ◌++◌, ℕ, ◌+◌, ◌%◌, ltb, length, Option, Some, None}
 use Rattle.base_rules.specs.Answer.{Outcome, settled}
 use Rattle.base_rules.specs.Bytes.{splice, bytes_of}
 use Rattle.base_rules.specs.Tests.{first}
 use Rattle.crc_rules.specs.Crc.{word_of}
 use Rattle.cut_rules.specs.declared.Address.{Address}
-use Rattle.cut_rules.specs.declared.Address.TheVariants.{None, Pair}
 use Rattle.header_rules.specs.declared.Header.{Header}
 
 -- clause 7.1: "PF" in ASCII, 5046 hex
@@ -21,9 +20,9 @@ abbrev pub addr_bit : ℕ
 addr_bit = 16384
 
 -- the Addr bit where there is an address
-unfoldable pub addr_flag : Address → ℕ
+unfoldable pub addr_flag : Option Address → ℕ
 addr_flag None = 0
-addr_flag (Pair source dest) = addr_bit
+addr_flag (Some a) = addr_bit
 
 -- the number in the two bytes
 unfoldable pub flags_of : Header → ℕ
@@ -34,9 +33,9 @@ unfoldable pub fec_part : Header → List ℕ
 fec_part h = cond h.fec (h.rsk ∷ h.rsz ∷ []) []
 
 -- clause 7.1: with Addr, Source and Dest
-unfoldable pub address_part : Address → List ℕ
+unfoldable pub address_part : Option Address → List ℕ
 address_part None = []
-address_part (Pair source dest) = bytes_of 2 source ++ bytes_of 2 dest
+address_part (Some a) = bytes_of 2 a.source ++ bytes_of 2 a.dest
 
 -- clause 7.1: "PF", Pseq, Findex, Fcount, the flags with Plen
 unfoldable pub front_of : Header → List ℕ

@@ -1,16 +1,15 @@
 -- The header of a PFT fragment as it is read, and the checks 2 to 8 of document 01, "Numbers given back".
-use Rattle.std.specs.Prelude.{Bool, true, false, cond, not, ◌||◌, ◌&&◌, List, [], ◌∷◌, ℕ, ◌+◌, ◌%◌, ltb, leb, eqb, length, get_or, take}
-use Rattle.base_rules.specs.Answer.{Answer, granted, refused, answered}
+use Rattle.std.specs.Prelude.{Bool, true, false, cond, not, ◌||◌, ◌&&◌, List, [], ◌∷◌, ℕ, ◌+◌, ◌%◌, ltb, leb, eqb, length, get_or, take, Option, Some, None, Result}
+use Rattle.base_rules.specs.Answer.{Answer, answered}
+use Rattle.base_rules.specs.Refusal.{told, answer_by}
+use Rattle.base_rules.specs.declared.Refusal.{Refusal}
 use Rattle.base_rules.specs.Bytes.{number_at}
 use Rattle.base_rules.specs.Tests.{first, bit}
 use Rattle.crc_rules.specs.Crc.{word_of}
 use Rattle.cut_rules.specs.declared.Address.{Address}
-use Rattle.cut_rules.specs.declared.Address.TheVariants.{None, Pair}
 use Rattle.cut_rules.specs.Sizes.{least_h, address_bytes}
 use Rattle.weave_rules.specs.Calls.{bad_count, too_much, bad_chunk}
 use Rattle.header_rules.specs.declared.Header.{Header}
-use Rattle.header_rules.specs.declared.Parsed.{Parsed}
-use Rattle.header_rules.specs.declared.Parsed.TheVariants as parsed
 use Rattle.header_rules.specs.Header.{sync, fec_bit, addr_bit}
 
 -- clause 7.1: the two bytes of the flags and Plen
@@ -30,8 +29,8 @@ unfoldable pub address_at : List ℕ → ℕ
 address_at s = cond (has_fec s) 14 12
 
 -- clause 7.1: the address, or none
-unfoldable pub address_of : List ℕ → Address
-address_of s = cond (has_address s) (Pair (number_at 2 s (address_at s)) (number_at 2 s (address_at s + 2))) None
+unfoldable pub address_of : List ℕ → Option Address
+address_of s = cond (has_address s) (Some (record { source = number_at 2 s (address_at s); dest = number_at 2 s (address_at s + 2) })) None
 
 -- clause 7.1: the fields; RSk and RSz are 0 without FEC
 unfoldable pub fields_of : List ℕ → Header
@@ -71,10 +70,10 @@ unfoldable pub bad_length : List ℕ → Header → Bool
 bad_length s h = eqb h.plen 0 || not (eqb (length s) (length_of s + h.plen))
 
 -- 6 ADDRESS: address present, and not the configured pair, or none is configured
-unfoldable pub bad_address : Address → Address → Bool
+unfoldable pub bad_address : Option Address → Option Address → Bool
 bad_address own None = false
-bad_address None (Pair source dest) = true
-bad_address (Pair source dest) (Pair source' dest') = not (eqb source source' && eqb dest dest')
+bad_address None (Some a) = true
+bad_address (Some own) (Some a) = not (eqb own.source a.source && eqb own.dest a.dest)
 
 -- 7 COUNT: Fcount 0 or over 256, or Findex not below it
 unfoldable pub bad_index : Header → Bool
@@ -85,7 +84,7 @@ unfoldable pub bad_size : Header → Bool
 bad_size h = too_much h.count h.plen || (h.fec && (bad_chunk h.count h.plen h.rsk || leb h.rsk h.rsz))
 
 -- document 01: the number with which a datagram is refused by its header, for the configured address: 2 to 8 in this order
-unfoldable pub fault_of : Address → List ℕ → ℕ
+unfoldable pub fault_of : Option Address → List ℕ → ℕ
 fault_of own s =
     first
     ((is_short s, 2)
@@ -98,23 +97,22 @@ fault_of own s =
     ∷ [])
 
 -- what reading a datagram gives: the fields, or the number of the refusal
-unfoldable pub parsed_of : Address → List ℕ → Parsed
-parsed_of own s = cond (eqb (fault_of own s) 0) (parsed.Fragment (fields_of s)) (parsed.Refused (fault_of own s))
+unfoldable pub parsed_of : Option Address → List ℕ → Result Header Refusal
+parsed_of own s = answer_by (fault_of own s) (fields_of s)
 
 -- clause 7.1: the values of an address: none, or Source and Dest
-unfoldable pub address_values : Address → List ℕ
+unfoldable pub address_values : Option Address → List ℕ
 address_values None = []
-address_values (Pair source dest) = source ∷ dest ∷ []
+address_values (Some a) = a.source ∷ a.dest ∷ []
 
 -- clause 7.1: the values of a header in its order: Pseq, Findex, Fcount, FEC, RSk, RSz, Plen, and the address
 unfoldable pub header_values : Header → List ℕ
 header_values h = h.number ∷ h.index ∷ h.count ∷ bit h.fec ∷ h.rsk ∷ h.rsz ∷ h.plen ∷ address_values h.address
 
 -- document 01's number and values for each case
-unfoldable pub number_of : Parsed → Answer
-number_of (parsed.Fragment h) = granted (header_values h)
-number_of (parsed.Refused n) = refused n
+unfoldable pub number_of : Result Header Refusal → Answer
+number_of r = told header_values r
 
 -- document 01: reading a datagram as number and values: 2 to 8, else the header's values
-unfoldable pub parse_call : Address → List ℕ → Answer
+unfoldable pub parse_call : Option Address → List ℕ → Answer
 parse_call own s = answered (fault_of own s) (header_values (fields_of s))

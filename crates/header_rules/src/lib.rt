@@ -13,13 +13,6 @@ pub struct Header {
     pub fec: bool,
     pub rsk: u8,
     pub rsz: u8,
-    pub address: Address,
+    pub address: Option<Address>,
     pub plen: u16,
-}
-
-// What reading a datagram gives.
-#[derive(Clone, Copy)]
-pub enum Parsed {
-    Fragment(Header),
-    Refused(u8),
 }

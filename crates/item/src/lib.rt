@@ -3,10 +3,12 @@
 
 ghost use Rattle.std.specs.Prelude.{◌≡◌, false, ◌&&◌, ◌%◌, ◌<◌, replicate};
 ghost use Rattle.base_rules.specs.Answer.{granted};
+ghost use Rattle.base_rules.specs.Refusal.{fault_in};
 ghost use Rattle.item_rules.specs.Item.{bytes_for, unused_of, step_in, number_of, step_call};
 ghost use Rattle.item_rules.specs.Run.{run_of, first_of, first_values, found_number, bad_ptr, fault_of, forbids, is_before, slots};
 
-pub use item_rules::{Bits, Bytes, Found, Item, Repeats, Step};
+use base::Refusal;
+pub use item_rules::{Bits, Bytes, Item, Repeats, Step};
 
 // The bytes before a value.
 pub const HEAD: usize = 8;
@@ -38,54 +40,54 @@ pub fn unused_of(bits: Bits) -> Bits
 }
 
 // What stands at `at` in the packet that ends before `end`.
-pub fn step_in(s: &[u8], at: usize, end: usize) -> Step
+pub fn step_in(s: &[u8], at: usize, end: usize) -> Result<Step, Refusal>
     ensures { (result ≡ step_in s.now at end) × (number_of result ≡ step_call s.now at end) }
 {
     if end < at {
-        return Step::End(Bytes(0));
+        return Ok(Step::End(Bytes(0)));
     }
     let left = end - at;
     if left < HEAD {
-        return Step::End(Bytes(left));
+        return Ok(Step::End(Bytes(left)));
     }
     let name = base::read4(s, at);
     let bits = Bits(base::read4(s, at + 4));
     let len = bytes_of(bits);
     if left - HEAD < len.0 {
-        return Step::Refused(30);
+        return Err(Refusal::Overrun);
     }
     let unused = unused_of(bits);
     let from = at + HEAD;
-    Step::Item(Item {
+    Ok(Step::Item(Item {
         name,
         bits,
         from,
         len,
         start: at,
         unused,
-    })
+    }))
 }
 
 // The first item of that name in the packet from `from` to `end`.
-pub fn first_in(s: &[u8], name: u32, from: usize, end: usize) -> Found
+pub fn first_in(s: &[u8], name: u32, from: usize, end: usize) -> Option<Item>
     ensures { (result ≡ first_of name (run_of s.now from end))
         × (found_number result ≡ granted (first_values name (run_of s.now from end))) }
 {
     let mut at = from;
+    // A loop and no iterator: each item says where the next begins.
     loop {
-        let step = step_in(s, at, end);
+        let Ok(step) = step_in(s, at, end) else {
+            return None;
+        };
         match step {
             Step::Item(i) => {
                 if i.name == name {
-                    return Found::At(i);
+                    return Some(i);
                 }
                 at = i.from + i.len.0;
             }
             Step::End(_) => {
-                return Found::Nothing;
-            }
-            Step::Refused(_) => {
-                return Found::Nothing;
+                return None;
             }
         }
     }
@@ -98,8 +100,8 @@ fn again(s: &[u8], name: u32, from: usize, end: usize, at: usize, mark: bool) ->
     if mark {
         let f = first_in(s, name, from, end);
         match f {
-            Found::At(j) => j.from < at,
-            Found::Nothing => false,
+            Some(j) => j.from < at,
+            None => false,
         }
     } else {
         false
@@ -110,28 +112,30 @@ fn again(s: &[u8], name: u32, from: usize, end: usize, at: usize, mark: bool) ->
 pub fn bad_ptr(name: u32, bits: Bits) -> bool
     ensures { result ≡ bad_ptr name bits.0 }
 {
-    if name == PTR {
-        bits.0 != PTR_BITS
-    } else {
-        false
-    }
+    name == PTR && bits.0 != PTR_BITS
 }
 
-// The number of the fault of an item of the packet from `from` to `end`, or 0; `mark` is whether the slot of its name is
-// marked and that counts.
-pub fn fault_of(s: &[u8], from: usize, end: usize, i: Item, mark: bool) -> u8
-    ensures { result ≡ fault_of (mark && is_before (first_of i.name (run_of s.now from end)) i.from) i }
+// Refused where an item of the packet from `from` to `end` is at fault; `mark` is whether the slot of its name is marked and that
+// counts.
+pub fn fault_of(s: &[u8], from: usize, end: usize, i: Item, mark: bool) -> Result<(), Refusal>
+    ensures { fault_in result ≡ fault_of (mark && is_before (first_of i.name (run_of s.now from end)) i.from) i }
 {
+    // A test for each refusal, in the order in which they are due: a function for each, with `?`, would hold the same test.
     if i.name == DMY {
-        return 0;
+        return Ok(());
     }
     if again(s, i.name, from, end, i.from, mark) {
-        return 31;
+        return Err(Refusal::Twice);
     }
-    if bad_ptr(i.name, i.bits) { 33 } else { 0 }
+    if bad_ptr(i.name, i.bits) {
+        Err(Refusal::Ptr)
+    } else {
+        Ok(())
+    }
 }
 
 // The mark of a name's slot as it counts by the caller's word: where names may repeat it does not, and so nothing is searched.
+// A flag, since the caller keeps one for each slot, and `again` alone asks it.
 pub fn marked(repeats: Repeats, mark: bool) -> bool
     ensures { result ≡ (forbids repeats && mark) }
 {

@@ -1,10 +1,12 @@
 -- The claims of specs/Claims.antt. Assumes nothing.
 use Prim.Native.Nat.{ℕ}
 use mathlib.Core.Path.{◌≡◌, refl, ap}
+use Rattle.std.specs.Prelude.{Some, None}
+use Rattle.base_rules.proofs.Answers.{one_told}
 use Rattle.item_rules.specs.declared.Item.{Item}
+use Rattle.item_rules.specs.declared.Step.{Step}
 use Rattle.item_rules.specs.declared.Step.TheVariants as step
-use Rattle.item_rules.specs.declared.Found.TheVariants as found
-use Rattle.item_rules.specs.Item.{values_of, number_of}
+use Rattle.item_rules.specs.Item.{values_of, values_in, number_of}
 use Rattle.item_rules.specs.Run.{found_number}
 use Rattle.item_rules.specs.Claims.{OneStep, OneFound, FirstIsNth, AsItWas, Twice, NeverTwice}
 use Rattle.item_rules.specs.Claims.{StartsAt, RawItem, UnusedIs}
@@ -32,26 +34,26 @@ one_item i j e =
     same i.name j.name i.bits.0 j.bits.0 i.from j.from i.len.0 j.len.0 i.start j.start i.unused.0 j.unused.0
     (cc) (cc) (cc) (cc) (cc) (cc)
 
+-- nor do an item and an end, or two ends
+one_values : (a b : Step) → values_in a ≡ values_in b → a ≡ b
+unfolding values_in
+one_values (step.Item i) (step.Item j) e = ap step.Item (one_item i j (cc))
+one_values (step.Item i) (step.End q) e = cc
+one_values (step.End p) (step.Item j) e = cc
+one_values (step.End p) (step.End q) e = ap (λ (n : ℕ). step.End (record { 0 = n })) (let z : p.0 ≡ q.0 = cc in z)
+
 -- no two answers of a step have the same number and values
 pub one_step : OneStep
 unfolding number_of
-one_step (step.Item i) (step.Item j) e = ap step.Item (one_item i j (cc))
-one_step (step.Item i) (step.End q) e = cc
-one_step (step.Item i) (step.Refused m) e = cc
-one_step (step.End p) (step.Item j) e = cc
-one_step (step.End p) (step.End q) e = ap (λ (n : ℕ). step.End (record { 0 = n })) (let z : p.0 ≡ q.0 = cc in z)
-one_step (step.End p) (step.Refused m) e = cc
-one_step (step.Refused n) (step.Item j) e = cc
-one_step (step.Refused n) (step.End q) e = cc
-one_step (step.Refused n) (step.Refused m) e = cc
+one_step a b e = one_told values_in one_values a b e
 
 -- nor have two of a search
 pub one_found : OneFound
 unfolding found_number
-one_found (found.At i) (found.At j) e = ap found.At (one_item i j (cc))
-one_found (found.At i) found.Nothing e = cc
-one_found found.Nothing (found.At j) e = cc
-one_found found.Nothing found.Nothing e = refl
+one_found (Some i) (Some j) e = ap Some (one_item i j (cc))
+one_found (Some i) None e = cc
+one_found None (Some j) e = cc
+one_found None None e = refl
 
 -- the first of a name is its occurrence 0
 pub first_is_nth : FirstIsNth

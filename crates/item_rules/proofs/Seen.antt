@@ -9,12 +9,11 @@ use lib.ListN.{length, get_or, set, length-set}
 use lib.Seq.{get_or-set_same, get_or-set_other}
 use lib.Dec.{eqb}
 use borrow.Author.Tests.{ne_eqb, eqb-true, eqb-false, ltb-true, lt-ltb, le-ltb}
+use Rattle.std.specs.Prelude.{Ok, Option, Some, None}
 use Rattle.base_rules.specs.Tests.{among}
 use Rattle.base_rules.proofs.Logic.{clash, and_false}
 use Rattle.item_rules.specs.declared.Item.{Item}
 use Rattle.item_rules.specs.declared.Step.TheVariants as step
-use Rattle.item_rules.specs.declared.Found.{Found}
-use Rattle.item_rules.specs.declared.Found.TheVariants as found
 use Rattle.item_rules.specs.Item.{head, step_in}
 use Rattle.item_rules.specs.Run.{Run, item, next_of, or_else, run_of, first_of, is_before, slots}
 use Rattle.item_rules.proofs.Runs.{item_begins, run-item, first_here, first_next}
@@ -43,12 +42,12 @@ unfolding among
 seen_none F s from end marks h =
     record { names = []; rest = refl; left = λ n q. clash q refl; right = λ n q. refl; marked = λ n q. clash q refl; long = h }
 
-before_more : (f : Found) (a b : ℕ) → is_before f a ≡ true → a ≤ b → is_before f b ≡ true
-before_more (found.At j) a b q h = let l = ltb-true j.from a q in lt-ltb j.from b (omega arith)
-before_more found.Nothing a b q h = q
+before_more : (f : Option Item) (a b : ℕ) → is_before f a ≡ true → a ≤ b → is_before f b ≡ true
+before_more (Some j) a b q h = let l = ltb-true j.from a q in lt-ltb j.from b (omega arith)
+before_more None a b q h = q
 
 module _ (F : List ℕ → Run → ℕ) (G : Bool → Item → ℕ) (law : ByItem F G) (s : List ℕ) (from end : ℕ) (marks : List Bool) (at : ℕ) (i : Item)
-    (w : Seen F s from end marks at) (e : step_in s at end ≡ step.Item i) where
+    (w : Seen F s from end marks at) (e : step_in s at end ≡ Ok (step.Item i)) where
   begins : i.from ≡ at + head
   begins = item_begins s at end i e
 

@@ -5,6 +5,7 @@ use mathlib.Core.Path.{◌≡◌, sym, ap, subst, ◌∙◌}
 use native.Mathlib.Omega.{arith}
 use lib.ListN.{length, take, drop}
 use lib.Seq.{take-add, drop-drop}
+use Rattle.std.specs.Prelude.{Ok}
 use Rattle.base_rules.specs.Bytes.{Bytes, number_at, bytes_of}
 use Rattle.base_rules.specs.Round.{ceil}
 use Rattle.base_rules.proofs.Numbers.{bytes_back}
@@ -16,7 +17,7 @@ use Rattle.item_rules.specs.Claims.{StartsIn, StartsAt, RawItem, Unused, UnusedI
 use Rattle.item_rules.proofs.Steps.{item_fits, item_at_lem}
 
 -- an item starts where it stands
-pub item_starts : (s : List ℕ) (at end : ℕ) (i : Item) → step_in s at end ≡ step.Item i → i.start ≡ at
+pub item_starts : (s : List ℕ) (at end : ℕ) (i : Item) → step_in s at end ≡ Ok (step.Item i) → i.start ≡ at
 unfolding item_at
 item_starts s at end i e = ap (λ (j : Item). j.start) (item_at_lem s at end i e)
 

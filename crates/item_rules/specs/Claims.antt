@@ -1,23 +1,24 @@
 -- What holds of the answers of a step and of a search, of the faults of a run, and of where an item starts, as claims (clause 5; document 02, Items 1
 -- and 11): the proofs are in proofs/Proved.antt.
 use Rattle.std.specs.Prelude.{true, List, ◌∷◌, ◌++◌, ◌≡◌, ℕ, ◌+◌, ◌*◌, ◌≤◌, ◌<◌, length, take, drop}
+use Rattle.std.specs.Prelude.{Result, Ok, Option}
 use Rattle.base_rules.specs.Bytes.{Bytes, bytes_of}
+use Rattle.base_rules.specs.declared.Refusal.{Refusal}
 use Rattle.base_rules.specs.Tests.{among}
 use Rattle.item_rules.specs.declared.Item.{Item}
 use Rattle.item_rules.specs.declared.Repeats.TheVariants.{Forbidden, Allowed}
 use Rattle.item_rules.specs.declared.Step.{Step}
 use Rattle.item_rules.specs.declared.Step.TheVariants as step
-use Rattle.item_rules.specs.declared.Found.{Found}
 use Rattle.item_rules.specs.Item.{head, item_at, step_in, number_of}
 use Rattle.item_rules.specs.Run.{Run, item, padding, refused, run_of, first_of, nth_of, found_number, dmy, fault_of, or_else, faults_of}
 
 -- no second answer fits: two steps with the same number and values are the same step
 abbrev pub OneStep : Type 0
-OneStep = (a b : Step) → number_of a ≡ number_of b → a ≡ b
+OneStep = (a b : Result Step Refusal) → number_of a ≡ number_of b → a ≡ b
 
 -- so it is of what a search finds
 abbrev pub OneFound : Type 0
-OneFound = (a b : Found) → found_number a ≡ found_number b → a ≡ b
+OneFound = (a b : Option Item) → found_number a ≡ found_number b → a ≡ b
 
 -- document 02, Item 1, "finding by name shows the first", "counted from 0": in every run that is occurrence 0
 abbrev pub FirstIsNth : Type 0
@@ -51,7 +52,7 @@ pub record StartsIn (s : List ℕ) (i : Item) : Type 0 where
 
 -- so it is of every item that a step hands out, in s or in a packet that s holds: it starts where the step was made
 abbrev pub StartsAt : Type 0
-StartsAt = (s : List ℕ) (at end : ℕ) (i : Item) → end ≤ length s → step_in s at end ≡ step.Item i → StartsIn s i × (i.start ≡ at)
+StartsAt = (s : List ℕ) (at end : ℕ) (i : Item) → end ≤ length s → step_in s at end ≡ Ok (step.Item i) → StartsIn s i × (i.start ≡ at)
 
 -- so the bytes from its start on, 8 and those of its value, are the four of its name, the four of its bits, and its value: what a display marks
 abbrev pub RawItem : Type 0

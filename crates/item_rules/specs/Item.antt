@@ -1,6 +1,10 @@
 -- A TAG item (clause 5.2): a name of 4 bytes, a length in bits of 4 bytes, and the value.
 use Rattle.std.specs.Prelude.{cond, not, ◌&&◌, List, [], ◌∷◌, ℕ, ◌+◌, ◌-◌, ◌*◌, ltb, leb}
-use Rattle.base_rules.specs.Answer.{Answer, granted, refused, answered}
+use Rattle.std.specs.Prelude.{Result, Ok, Err}
+use Rattle.base_rules.specs.Answer.{Answer, answered}
+use Rattle.base_rules.specs.Refusal.{told}
+use Rattle.base_rules.specs.declared.Refusal.{Refusal}
+use Rattle.base_rules.specs.declared.Refusal.TheVariants as refusal
 use Rattle.base_rules.specs.Bytes.{number_at}
 use Rattle.base_rules.specs.Round.{ceil}
 use Rattle.base_rules.specs.Tests.{first}
@@ -33,20 +37,23 @@ item_at s at = record {
 
 -- document 01, "TAG layer": what stands at `at` in a packet that ends before `end`. 7 or fewer bytes are padding; else an item follows, which
 -- must not pass the end: 30 OVERRUN
-unfoldable pub step_in : List ℕ → ℕ → ℕ → Step
+unfoldable pub step_in : List ℕ → ℕ → ℕ → Result Step Refusal
 step_in s at end =
-    cond (ltb (end - at) head) (step.End (record { 0 = end - at }))
-    (cond (leb (head + bytes_for (number_at 4 s (at + 4))) (end - at)) (step.Item (item_at s at)) (step.Refused 30))
+    cond (ltb (end - at) head) (Ok (step.End (record { 0 = end - at })))
+    (cond (leb (head + bytes_for (number_at 4 s (at + 4))) (end - at)) (Ok (step.Item (item_at s at))) (Err refusal.Overrun))
 
 -- what an item tells: its name, its bits, and its value's place and bytes; document 02, Item 11: its start and its unused bits
 abbrev pub values_of : Item → List ℕ
 values_of i = i.name ∷ i.bits.0 ∷ i.from ∷ i.len.0 ∷ i.start ∷ i.unused.0 ∷ []
 
--- document 01's number and values for each case
-unfoldable pub number_of : Step → Answer
-number_of (step.Item i) = granted (values_of i)
-number_of (step.End p) = granted (p.0 ∷ [])
-number_of (step.Refused n) = refused n
+-- document 01's values for each case,
+unfoldable pub values_in : Step → List ℕ
+values_in (step.Item i) = values_of i
+values_in (step.End p) = p.0 ∷ []
+
+-- and with the number of a refusal
+unfoldable pub number_of : Result Step Refusal → Answer
+number_of r = told values_in r
 
 -- document 01, 30 OVERRUN: 8 bytes or more remain, so an item must follow, and it passes the end; 0 where it does not
 unfoldable pub overrun_in : List ℕ → ℕ → ℕ → ℕ

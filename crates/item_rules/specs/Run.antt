@@ -1,12 +1,12 @@
 -- A packet is a run of items (document 01, "TAG layer"): what is found in it, and when an item is at fault.
 use Rattle.std.specs.Prelude.{Bool, true, false, cond, not, ◌&&◌, ◌||◌, List, [], ◌∷◌, map, ℕ, zero, suc, ◌+◌, ◌-◌, ltb, eqb, get_or}
+use Rattle.std.specs.Prelude.{Result, Ok, Err, Option, Some, None}
 use Rattle.base_rules.specs.Answer.{Answer, granted}
+use Rattle.base_rules.specs.Refusal.{number}
 use Rattle.base_rules.specs.Tests.{first, among}
 use Rattle.item_rules.specs.declared.Item.{Item}
 use Rattle.item_rules.specs.declared.Step.{Step}
 use Rattle.item_rules.specs.declared.Step.TheVariants as step
-use Rattle.item_rules.specs.declared.Found.{Found}
-use Rattle.item_rules.specs.declared.Found.TheVariants as found
 use Rattle.item_rules.specs.declared.Repeats.{Repeats}
 use Rattle.item_rules.specs.declared.Repeats.TheVariants.{Forbidden, Allowed}
 use Rattle.item_rules.specs.Item.{step_in, values_of}
@@ -22,25 +22,25 @@ abbrev pub next_of : Item → ℕ
 next_of i = i.from + i.len.0
 
 -- what is made of an item, of padding, of a refusal
-abbrev pub on_step : {A : Type 0} → Step → (Item → A) → (ℕ → A) → (ℕ → A) → A
-on_step (step.Item i) f e r = f i
-on_step (step.End p) f e r = e p.0
-on_step (step.Refused n) f e r = r n
+abbrev pub on_step : {A E : Type 0} → Result Step E → (Item → A) → (ℕ → A) → (E → A) → A
+on_step (Ok (step.Item i)) f e r = f i
+on_step (Ok (step.End p)) f e r = e p.0
+on_step (Err x) f e r = r x
 
 -- the run of s from `at` to `end`, in at most so many steps
 unfoldable pub run_in : ℕ → List ℕ → ℕ → ℕ → Run
 run_in zero s at end = padding 0
-run_in (suc steps) s at end = on_step (step_in s at end) (λ i. item i (run_in steps s (next_of i) end)) padding refused
+run_in (suc steps) s at end = on_step (step_in s at end) (λ i. item i (run_in steps s (next_of i) end)) padding (λ e. refused (number e))
 
 -- the same in as many steps as there are bytes: each takes 8 or more of them, but the last
 unfoldable pub run_of : List ℕ → ℕ → ℕ → Run
 run_of s at end = run_in (end - at) s at end
 
 -- document 01, "Finding by name looks in the packet": the first item of that name
-unfoldable pub first_of : ℕ → Run → Found
-first_of name (item i r) = cond (eqb i.name name) (found.At i) (first_of name r)
-first_of name (padding n) = found.Nothing
-first_of name (refused n) = found.Nothing
+unfoldable pub first_of : ℕ → Run → Option Item
+first_of name (item i r) = cond (eqb i.name name) (Some i) (first_of name r)
+first_of name (padding n) = None
+first_of name (refused n) = None
 
 -- document 01, 34 ABSENT: whether the packet "holds the name"
 unfoldable pub has_name : ℕ → Run → Bool
@@ -61,17 +61,17 @@ named_in name (padding n) = []
 named_in name (refused n) = []
 
 -- document 02, Item 1, "the occurrence of a given number, counted from 0": that one of them, or nothing
-unfoldable pub nth_of : ℕ → ℕ → Run → Found
-nth_of name number r = get_or (map found.At (named_in name r)) number found.Nothing
+unfoldable pub nth_of : ℕ → ℕ → Run → Option Item
+nth_of name number r = get_or (map Some (named_in name r)) number None
 
 -- what it tells; no values where there is no occurrence of that number
 unfoldable pub nth_values : ℕ → ℕ → Run → List ℕ
 nth_values name number r = get_or (map values_of (named_in name r)) number []
 
 -- document 01's number and values for each case: a search of a run refuses nothing; 34 ABSENT is said by the calls above it
-unfoldable pub found_number : Found → Answer
-found_number (found.At i) = granted (values_of i)
-found_number found.Nothing = granted []
+unfoldable pub found_number : Option Item → Answer
+found_number (Some i) = granted (values_of i)
+found_number None = granted []
 
 -- document 01: "*dmy" is filler
 abbrev pub dmy : ℕ
@@ -109,9 +109,9 @@ faults_of w seen (padding n) = 0
 faults_of w seen (refused n) = n
 
 -- whether what was found stands before `at`
-abbrev pub is_before : Found → ℕ → Bool
-is_before (found.At j) at = ltb j.from at
-is_before found.Nothing at = false
+abbrev pub is_before : Option Item → ℕ → Bool
+is_before (Some j) at = ltb j.from at
+is_before None at = false
 
 -- the slots of the marks by which a name is known not to have stood before
 abbrev pub slots : ℕ

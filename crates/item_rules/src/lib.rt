@@ -2,16 +2,16 @@
 #![tactic(auto)]
 
 // A length in bits, as a TAG length counts.
-#[derive(Clone, Copy)]
+#[derive(Clone, Copy, Debug, PartialEq, Eq)]
 pub struct Bits(pub u32);
 
 // A length in bytes, as a value is counted.
-#[derive(Clone, Copy)]
+#[derive(Clone, Copy, Debug, PartialEq, Eq)]
 pub struct Bytes(pub usize);
 
 // An item of a packet: its name as a big-endian number, its length, and the place of its value in the lent packet; the byte of that packet at which
 // it starts, with its name, and the bits of its last byte that are unused.
-#[derive(Clone, Copy)]
+#[derive(Clone, Copy, Debug, PartialEq, Eq)]
 pub struct Item {
     pub name: u32,
     pub bits: Bits,
@@ -21,12 +21,11 @@ pub struct Item {
     pub unused: Bits,
 }
 
-// What stands at a position: an item, the end with so many bytes of padding, or an item that is refused.
-#[derive(Clone, Copy)]
+// What stands at a position, where nothing is refused: an item, or the end with so many bytes of padding.
+#[derive(Clone, Copy, Debug, PartialEq, Eq)]
 pub enum Step {
     Item(Item),
     End(Bytes),
-    Refused(u8),
 }
 
 // Whether names may repeat, as the caller says: one word for a call, for every level of a walk and both packets of a finding.
@@ -34,11 +33,4 @@ pub enum Step {
 pub enum Repeats {
     Forbidden,
     Allowed,
-}
-
-// What a search by name finds.
-#[derive(Clone, Copy)]
-pub enum Found {
-    At(Item),
-    Nothing,
 }

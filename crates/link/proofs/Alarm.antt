@@ -6,15 +6,13 @@ use Prim.Native.Nat.{ℕ, ◌+◌, ◌≤◌}
 use native.Mathlib.Omega.{arith}
 use borrow.Author.Tests.{eqb-true}
 use lib.Dec.{eqb}
+use Rattle.std.specs.Prelude.{Option, Some, None}
 use Rattle.base_rules.proofs.Logic.{either, clash}
 use Rattle.header_rules.specs.Read.{fields_of}
 use Rattle.places_rules.specs.declared.Place.{Place}
 use Rattle.places_rules.specs.declared.Table.{Table}
-use Rattle.places_rules.specs.declared.Displaced.{Displaced}
-use Rattle.places_rules.specs.declared.Displaced.TheVariants as displaced
 use Rattle.places_rules.specs.Places.{four, open_now, place_at, key_in, key_of, holds, held_at, open_at, displaced_at, turned}
-use Rattle.receiver_rules.specs.declared.Received.TheVariants.{Refused}
-use Rattle.receiver_rules.specs.Promise.{displaced_values, number_of, Reception, reception, State, keep_at}
+use Rattle.receiver_rules.specs.Promise.{displaced_values, number_of, Reception, refused_as, State, keep_at}
 use Rattle.link.specs.Run.{Call, after, Made, Reached, Holds, ShownOpen}
 use Rattle.link.specs.Demand.{Names, by_kept, by_delivered, by_damaged, NamesGone}
 use Rattle.link.proofs.Basic.{same_or_not, held_absent, held_none, holds_yes, holds_other}
@@ -34,18 +32,18 @@ named_in (a ∷ (b ∷ [])) = b + 1
 named_in (a ∷ (b ∷ (c ∷ []))) = 0
 named_in (a ∷ (b ∷ (c ∷ (d ∷ s)))) = d + 1
 
-code : Displaced → ℕ
-code displaced.None = 0
-code (displaced.Number n) = n + 1
+code : Option ℕ → ℕ
+code None = 0
+code (Some n) = n + 1
 
-names_code : (d : Displaced) (a : ℕ × List ℕ) → Names d a → named_in a.1 ≡ code d
+names_code : (d : Option ℕ) (a : ℕ × List ℕ) → Names d a → named_in a.1 ≡ code d
 unfolding number_of displaced_values named_in code
-names_code displaced.None a by_kept = refl
-names_code displaced.None a (by_delivered l m) = refl
-names_code displaced.None a by_damaged = refl
-names_code (displaced.Number n) a by_kept = refl
-names_code (displaced.Number n) a (by_delivered l m) = refl
-names_code (displaced.Number n) a by_damaged = refl
+names_code None a by_kept = refl
+names_code None a (by_delivered l m) = refl
+names_code None a by_damaged = refl
+names_code (Some n) a by_kept = refl
+names_code (Some n) a (by_delivered l m) = refl
+names_code (Some n) a by_damaged = refl
 
 displaced_code : (t : Table) (i n : ℕ) → code (displaced_at t i) ≡ n + 1 → ((place_at t i).condition ≡ open_now) × (key_in (place_at t i) ≡ n)
 unfolding displaced_at code
@@ -53,19 +51,19 @@ displaced_code t i n e =
     let p : Place = place_at t i in
     either (eqb p.condition open_now)
     (λ is.
-    let z : key_in p + 1 ≡ n + 1 = sym (ap (λ (v : Bool). code (cond v (displaced.Number (key_in p)) displaced.None)) is) ∙ e in
+    let z : key_in p + 1 ≡ n + 1 = sym (ap (λ (v : Bool). code (cond v (Some (key_in p)) None)) is) ∙ e in
     (eqb-true _ _ is, omega (arith, z)))
     (λ no.
-    let z : 0 ≡ n + 1 = sym (ap (λ (v : Bool). code (cond v (displaced.Number (key_in p)) displaced.None)) no) ∙ e in
+    let z : 0 ≡ n + 1 = sym (ap (λ (v : Bool). code (cond v (Some (key_in p)) None)) no) ∙ e in
     absurd (omega (arith, z)))
 
-module _ (s : State) (c : Reached s) (e : Call) (made : Made s e) (n : ℕ) (names : Names (displaced.Number n) e.left.answer) where
+module _ (s : State) (c : Reached s) (e : Call) (made : Made s e) (n : ℕ) (names : Names (Some n) e.left.answer) where
   its_code : named_in e.left.answer.1 ≡ n + 1
   unfolding code
-  its_code = names_code (displaced.Number n) e.left.answer names
+  its_code = names_code (Some n) e.left.answer names
 
-  refused_none : (x : ℕ) → e.left ≡ reception (Refused x) s.table s.bytes e.lent → ⊥
-  unfolding reception number_of named_in
+  refused_none : (x : ℕ) → e.left ≡ refused_as x s.table s.bytes e.lent → ⊥
+  unfolding refused_as named_in
   refused_none x q =
       let z : 0 ≡ n + 1 = sym (ap (λ (y : Reception). named_in y.answer.1) q) ∙ its_code in
       omega (arith, z)
@@ -75,7 +73,7 @@ module _ (s : State) (c : Reached s) (e : Call) (made : Made s e) (n : ℕ) (nam
   gone (unheard fault q) = absurd (refused_none _ q)
   gone (refuses passes low fault q) = absurd (refused_none _ q)
   gone (keeps passes low fault z) =
-      let none : named_in e.left.answer.1 ≡ 0 = names_code displaced.None _ (settled_names z) in
+      let none : named_in e.left.answer.1 ≡ 0 = names_code None _ (settled_names z) in
       absurd (omega (arith, none, its_code))
   gone (opens passes high z) =
       let t : Table = s.table in

@@ -6,12 +6,12 @@ use Prim.Native.Nat.{ℕ, ◌<◌}
 use native.Mathlib.Omega.{arith}
 use borrow.Author.Tests.{eq-eqb, ltb-true, not-true}
 use lib.Dec.{ltb, eqb, lit<}
+use Rattle.std.specs.Prelude.{Option, Some, None}
 use Rattle.base_rules.specs.Bytes.{Bytes}
 use Rattle.base_rules.specs.Tests.{first}
 use Rattle.base_rules.proofs.Logic.{either, clash, and_left, and_right}
 use Rattle.base_rules.proofs.ByteLaws.{bytes-append}
 use Rattle.cut_rules.specs.declared.Address.{Address}
-use Rattle.cut_rules.specs.declared.Address.TheVariants.{None, Pair}
 use Rattle.header_rules.specs.declared.Header.{Header}
 use Rattle.header_rules.specs.Read.{address_of, fields_of, bad_address, fault_of}
 use Rattle.header_rules.specs.Header.{header_bytes}
@@ -62,10 +62,10 @@ index_at (Fragment own n i) = i
 index_at (Longer n i) = 0
 index_at (Other d) = 0
 
-accepts_itself : (a : Address) → bad_address a a ≡ false
+accepts_itself : (a : Option Address) → bad_address a a ≡ false
 unfolding bad_address
 accepts_itself None = refl
-accepts_itself (Pair s d) = rw (eq-eqb s s refl, eq-eqb d d refl)
+accepts_itself (Some a) = rw (eq-eqb a.source a.source refl, eq-eqb a.dest a.dest refl)
 
 bytes_small : (d : List ℕ) → small d ≡ true → Bytes d
 unfolding small
@@ -119,7 +119,7 @@ address_due false false false false true y ts e = absurd (omega arith)
 address_due false false false false false true ts e = refl
 address_due false false false false false false ts e = e
 
-same_but_address : (own own' : Address) (d : List ℕ) → fault_of own d ≡ 0 → fault_of own' d ≡ cond (bad_address own' (address_of d)) 6 0
+same_but_address : (own own' : Option Address) (d : List ℕ) → fault_of own d ≡ 0 → fault_of own' d ≡ cond (bad_address own' (address_of d)) 6 0
 unfolding fault_of
 same_but_address own own' d e = address_due _ _ _ _ (bad_address own (address_of d)) _ _ e
 
@@ -129,7 +129,7 @@ pub record Kind (a : Arrival) (e : Call) : Type 0 where
   pub own : e.own ≡ own_at a
   pub datagram : e.datagram ≡ datagram_at a
 
-fault_sent : (own : Address) (n i : ℕ) → (ltb n 65536 && ltb i (count_under n)) ≡ true
+fault_sent : (own : Option Address) (n i : ℕ) → (ltb n 65536 && ltb i (count_under n)) ≡ true
     → fault_of own (fragment_for (settings_of n) n (packet_under n) i) ≡ cond (bad_address own (settings_of n).address) 6 0
 unfolding fields_of header_for
 fault_sent own n i fine =
@@ -148,11 +148,11 @@ fault_told (Other d) fine = refl
 pub fault_is : {a : Arrival} {e : Call} → Kind a e → fault_of e.own e.datagram ≡ fault_at a
 fault_is {a} k = ap₂ fault_of k.own k.datagram ∙ fault_told a k.fine
 
-accepted : (own : Address) (n i : ℕ) → hears (Fragment own n i) ≡ true → bad_address own (settings_of n).address ≡ false
+accepted : (own : Option Address) (n i : ℕ) → hears (Fragment own n i) ≡ true → bad_address own (settings_of n).address ≡ false
 unfolding fault_at
 accepted own n i h = either (bad_address own (settings_of n).address) (λ e. clash h (ap (λ (b : Bool). eqb (cond b 6 0) 0) e)) (λ e. e)
 
-module _ {own : Address} {n i : ℕ} {e : Call} (k : Kind (Fragment own n i) e) where
+module _ {own : Option Address} {n i : ℕ} {e : Call} (k : Kind (Fragment own n i) e) where
   -- the index of a fragment is below the count,
   pub index_below : i < count (settings_of n) (packet_under n)
   unfolding possible
@@ -167,7 +167,7 @@ module _ {own : Address} {n i : ℕ} {e : Call} (k : Kind (Fragment own n i) e) 
     -- the address of one that is heard matches,
     pub matches : bad_address e.own (settings_of n).address ≡ false
     unfolding own_at
-    matches = ap (λ (a : Address). bad_address a (settings_of n).address) k.own ∙ accepted own n i h
+    matches = ap (λ (a : Option Address). bad_address a (settings_of n).address) k.own ∙ accepted own n i h
 
     -- and the call brings it
     pub brings_sent : Brings (settings_of n) n (packet_under n) e i
@@ -176,7 +176,7 @@ module _ {own : Address} {n i : ℕ} {e : Call} (k : Kind (Fragment own n i) e) 
 
 -- a datagram that is no fragment is not heard
 pub heard_fragment : {a : Arrival} {e : Call} (P : Arrival → Type 0) → Kind a e → hears a ≡ true
-    → ((own : Address) (n i : ℕ) → Kind (Fragment own n i) e → hears (Fragment own n i) ≡ true → P (Fragment own n i)) → P a
+    → ((own : Option Address) (n i : ℕ) → Kind (Fragment own n i) e → hears (Fragment own n i) ≡ true → P (Fragment own n i)) → P a
 unfolding possible fault_at
 heard_fragment {a = Fragment own n i} P k h f = f own n i k h
 heard_fragment {a = Longer n i} P k h f = clash refl (sym h)

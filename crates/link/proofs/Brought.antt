@@ -1,13 +1,17 @@
 -- A call that brings one of the packet's fragments: what it is answered, and how the packet stands after it. Assumes nothing.
 use mathlib.Core.Path.{◌≡◌, refl, sym, ap, ap₂, ◌∙◌, subst}
 use mathlib.Core.Bool.{Bool, true, false, not, ◌||◌}
-use mathlib.Core.List.{List, ◌∷◌}
+use mathlib.Core.List.{List, [], ◌∷◌}
 use Prim.Native.Nat.{ℕ, ◌+◌, ◌*◌, ◌≤◌}
 use native.Mathlib.Omega.{arith}
 use lib.Dec.{eqb}
 use lib.ListN.{length, get_or, length-set}
+use Rattle.std.specs.Prelude.{Option, None, Ok, Err}
 use Rattle.base_rules.specs.Bounds.{place}
 use Rattle.base_rules.specs.Bytes.{splice}
+use Rattle.base_rules.specs.Refusal.{number}
+use Rattle.base_rules.specs.declared.Refusal.{Refusal}
+use Rattle.base_rules.specs.declared.Refusal.TheVariants as refusal
 use Rattle.base_rules.proofs.Logic.{either, clash}
 use Rattle.cut_rules.specs.declared.Settings.{Settings}
 use Rattle.cut_rules.specs.Missing.{losses}
@@ -15,13 +19,11 @@ use Rattle.header_rules.specs.declared.Header.{Header}
 use Rattle.header_rules.specs.Read.{fields_of}
 use Rattle.places_rules.specs.declared.Place.{Place}
 use Rattle.places_rules.specs.declared.Table.{Table}
-use Rattle.places_rules.specs.declared.Displaced.{Displaced}
-use Rattle.places_rules.specs.declared.Displaced.TheVariants.{None}
 use Rattle.places_rules.specs.Places.{four, delivered, place_at, with_place, key_of, holds, held_at, open_at, displaced_at, turned, opened_by, offset_of}
 use Rattle.places_rules.specs.Places.{kept_in, in_condition}
 use Rattle.places_rules.specs.Faults.{place_fault}
-use Rattle.receiver_rules.specs.declared.Received.TheVariants.{Delivered, Refused}
-use Rattle.receiver_rules.specs.Promise.{number_of, Reception, reception, State, payload_of, keep_at, closed_at, Settled, SettledAfter}
+use Rattle.receiver_rules.specs.declared.Received.TheVariants.{Delivered}
+use Rattle.receiver_rules.specs.Promise.{number_of, Reception, refused_as, State, payload_of, keep_at, closed_at, Settled, SettledAfter}
 use Rattle.receiver_rules.proofs.Ranges.{written_place}
 use Rattle.sender_rules.specs.Fragments.{payload_for, header_for}
 use Rattle.link.specs.Run.{Call, after, Made, come, lost}
@@ -72,7 +74,7 @@ module _ (g : Settings) (n : ℕ) (packet : List ℕ) (takes : Takes g n packet)
 
   -- ---- it is kept in place `at`, which was p
 
-  module _ (u : Table) (size-u : length u.places ≡ four) (at : ℕ) (p : Place) (d : Displaced) (only : FirstOnly (key_for g n) es d)
+  module _ (u : Table) (size-u : length u.places ≡ four) (at : ℕ) (p : Place) (d : Option ℕ) (only : FirstOnly (key_for g n) es d)
       (full : Full g n packet (come (key_for g n) es) at p s.bytes) (alone : Alone (key_for g n) s.table at)
       (new : come (key_for g n) es i ≡ false) (before : enough_after g n packet es ≡ false) (w : Wrote s u (fields_of e.datagram) at e.left)
       (settled : SettledAfter (keep_at u at p d (header_for g n packet i) s.bytes (payload_for g packet i)) e.lent e.left) where
@@ -149,7 +151,7 @@ module _ (g : Settings) (n : ℕ) (packet : List ℕ) (takes : Takes g n packet)
                 again = λ c f. clash c new;
                 delivered = λ c f.
                     let v = hands_now (sym enough_now ∙ f) in
-                    let told = v.answer ∙ ap (λ (x : ℕ). number_of (Delivered (length packet) x d)) lost_now in
+                    let told = v.answer ∙ ap (λ (x : ℕ). number_of (Ok (Delivered (length packet) x d))) lost_now in
                     (record { displaced = d; told = told; written = v.out }, only);
                 late = λ f. clash f before;
               };
@@ -166,7 +168,7 @@ module _ (g : Settings) (n : ℕ) (packet : List ℕ) (takes : Takes g n packet)
   key_is = brings_number g n packet e i b
 
   -- what is kept is its fragment
-  its_settled : (u : Table) (at : ℕ) (p : Header → Place) (d : Displaced)
+  its_settled : (u : Table) (at : ℕ) (p : Header → Place) (d : Option ℕ)
       → SettledAfter (keep_at u at (p (fields_of e.datagram)) d (fields_of e.datagram) s.bytes (payload_of e.datagram)) e.lent e.left
       → SettledAfter (keep_at u at (p (header_for g n packet i)) d (header_for g n packet i) s.bytes (payload_for g packet i)) e.lent e.left
   its_settled u at p d z =
@@ -174,10 +176,10 @@ module _ (g : Settings) (n : ℕ) (packet : List ℕ) (takes : Takes g n packet)
       e.left) b.payload
       (subst (λ (h : Header). SettledAfter (keep_at u at (p h) d h s.bytes (payload_of e.datagram)) e.lent e.left) b.fields z)
 
-  refused-answer : (x y : ℕ) → e.left ≡ reception (Refused x) s.table s.bytes e.lent → x ≡ y
-      → (e.left.answer ≡ number_of (Refused y)) × (e.left.out ≡ e.lent)
-  unfolding reception
-  refused-answer x y q is = (ap (λ (z : Reception). z.answer) q ∙ ap (λ (k : ℕ). number_of (Refused k)) is, ap (λ (z : Reception). z.out) q)
+  refused-answer : (x : ℕ) (y : Refusal) → e.left ≡ refused_as x s.table s.bytes e.lent → x ≡ number y
+      → (e.left.answer ≡ number_of (Err y)) × (e.left.out ≡ e.lent)
+  unfolding refused_as number_of
+  refused-answer x y q is = (ap (λ (z : Reception). z.answer) q ∙ ap (λ (k : ℕ). (k, [])) is, ap (λ (z : Reception). z.out) q)
 
   -- ---- where nothing of it came
 
@@ -219,6 +221,7 @@ module _ (g : Settings) (n : ℕ) (packet : List ℕ) (takes : Takes g n packet)
     old_fault c = fault_12 g n packet takes.passed i (place_at s.table at) o.full.mine o.sized o.full.is_open (kept_is ∙ c)
 
     open_step : View e.own s e.datagram e.lent e.left → Next g n packet es e i
+    unfolding number
     open_step (unheard fault q) = absurd (fault b.passes)
     open_step (refuses passes low fault q) =
         let old : come (key_for g n) es i ≡ true = either (come (key_for g n) es i) (λ c. c) (λ c. absurd (fault (fault_is ∙ new_fault c))) in
@@ -227,7 +230,7 @@ module _ (g : Settings) (n : ℕ) (packet : List ℕ) (takes : Takes g n packet)
           answered =
               record {
                 kept = λ c f. clash old c;
-                again = λ c f. refused-answer _ 12 q (fault_is ∙ old_fault old);
+                again = λ c f. refused-answer _ refusal.Repeat q (fault_is ∙ old_fault old);
                 delivered = λ c f. clash f (enough_with g n packet takes (e ∷ es) (come (key_for g n) es) same
                     ∙ sym (enough_is g packet takes.passed n es) ∙ before);
                 late = λ f. clash f before;
@@ -266,7 +269,7 @@ module _ (g : Settings) (n : ℕ) (packet : List ℕ) (takes : Takes g n packet)
         (sym (enough_is g packet takes.passed n es) ∙ yet)
 
     done_step : View e.own s e.datagram e.lent e.left → Next g n packet es e i
-    unfolding reception
+    unfolding refused_as number
     done_step (unheard fault q) = absurd (fault b.passes)
     done_step (refuses passes low fault q) =
         record {
@@ -275,7 +278,7 @@ module _ (g : Settings) (n : ℕ) (packet : List ℕ) (takes : Takes g n packet)
                 kept = λ c f. clash still f;
                 again = λ c f. clash yet f;
                 delivered = λ c f. clash yet c;
-                late = λ f. refused-answer _ 11 q done_fault;
+                late = λ f. refused-answer _ refusal.Late q done_fault;
               };
           stage = done_at at (subst (λ (y : Reception). DoneAt g n packet (left_by_call y) at) (sym q) o) still;
         }

@@ -8,6 +8,7 @@ use lib.ListN.{length, take, drop}
 use Rattle.places_rules.specs.Places.{all_places}
 use Rattle.base_rules.specs.Bytes.{number_at}
 use Rattle.base_rules.specs.Tests.{among, first}
+use Rattle.base_rules.specs.Refusal.{refusal_of}
 use Rattle.base_rules.proofs.Logic.{clash}
 use Rattle.cut_rules.specs.declared.Settings.{Settings}
 use Rattle.cut_rules.specs.Missing as missing
@@ -175,7 +176,7 @@ record Tests : Type 0 where
 tests : Tests
 unfolding three_others four_others opening displaced_in displaced_by settles answer_of answer_to answers_to turns_out all_turn_out turns since turn came
     missed enough_in begins_with limited all_possible missing.losses missing.count among packets.size_under packets.count_under packets.bearable
-    brings.possible brings.small brings.fault_at brings.number_at brings.index_at settings_of first number_at read.fault_of read.is_short read.not_sync
+    brings.possible brings.small brings.fault_at brings.number_at brings.index_at settings_of refusal_of first number_at read.fault_of read.is_short read.not_sync
     read.bad_address read.body_length read.length_of read.address_at read.address_of read.has_fec read.has_address read.flags_at cut.address_bytes
 tests =
     record {

@@ -7,6 +7,7 @@ use native.Mathlib.Omega.{arith}
 use lib.Dec.{eqb}
 use lib.ListN.{length, take, drop, length-set, length-drop, length-replicate}
 use lib.Seq.{set-set}
+use Rattle.std.specs.Prelude.{Option, None}
 use Rattle.base_rules.specs.Bounds.{place}
 use Rattle.base_rules.specs.Bytes.{Bytes, splice}
 use Rattle.base_rules.proofs.Splice.{splice-length}
@@ -17,8 +18,6 @@ use Rattle.header_rules.specs.Claims.{Sound}
 use Rattle.header_rules.proofs.Proved.{passed_sound, payload_stands}
 use Rattle.places_rules.specs.declared.Place.{Place}
 use Rattle.places_rules.specs.declared.Table.{Table}
-use Rattle.places_rules.specs.declared.Displaced.{Displaced}
-use Rattle.places_rules.specs.declared.Displaced.TheVariants.{None}
 use Rattle.places_rules.specs.Places.{four, all_places, free, delivered, spoiled, free_place, fresh_table, place_at, with_place, key_of, key_in, holds}
 use Rattle.places_rules.specs.Places.{held_at, open_at}
 use Rattle.places_rules.specs.Places.{turned, opened_by, offset_of, kept_in, in_condition}
@@ -27,7 +26,7 @@ use Rattle.places_rules.proofs.Checks.{bad_3}
 use Rattle.places_rules.proofs.Keys.{key_opened, key-kept, key-closed}
 use Rattle.places_rules.proofs.Ranges.{InRange, range_from, range_to}
 use Rattle.places_rules.proofs.Proved.{fresh_in_range, kept_in_range, opened_in_range}
-use Rattle.receiver_rules.specs.Promise.{Reception, reception, State, payload_of, keep_at, closed_at, Settled, waits, delivers, damaged}
+use Rattle.receiver_rules.specs.Promise.{Reception, reception, refused_as, State, payload_of, keep_at, closed_at, Settled, waits, delivers, damaged}
 use Rattle.receiver_rules.specs.Promise.{SettledAfter}
 use Rattle.receiver_rules.proofs.Ranges.{turn_fine, place_fine, opens_below, written_place}
 use Rattle.receiver_rules.proofs.Offsets.{offset_fits}
@@ -65,7 +64,7 @@ module _ (u : Table) (j : ℕ) (p : Place) (below : j < four) (size : length u.p
   as_before = refl
 
   -- however it settles, the table is the one that keeping left, but for the condition of place j
-  pub settled-place : {d : Displaced} {b o : List ℕ} {y : Reception} → (p.condition ≡ free → ⊥) → p.condition ≤ spoiled
+  pub settled-place : {d : Option ℕ} {b o : List ℕ} {y : Reception} → (p.condition ≡ free → ⊥) → p.condition ≤ spoiled
       → Settled (with_place u j p) j d b o y → Closed u j p y
   unfolding reception
   settled-place some known (waits e) = record { condition = p.condition; some = some; known = known; table = as_before }
@@ -74,7 +73,7 @@ module _ (u : Table) (j : ℕ) (p : Place) (below : j < four) (size : length u.p
   settled-place some known (damaged e a) = record { condition = spoiled; some = λ z. omega arith; known = omega arith; table = closed_again spoiled }
 
 -- however it settles, the lent bytes are those that keeping left
-pub settled-bytes : {t : Table} {j : ℕ} {d : Displaced} {b o : List ℕ} {y : Reception} → Settled t j d b o y → y.bytes ≡ b
+pub settled-bytes : {t : Table} {j : ℕ} {d : Option ℕ} {b o : List ℕ} {y : Reception} → Settled t j d b o y → y.bytes ≡ b
 unfolding reception
 settled-bytes (waits e) = refl
 settled-bytes (delivers P e a) = refl
@@ -114,7 +113,7 @@ record Same (s : State) (u : Table) : Type 0 where
   pub turn : u.oldest < four
   pub places : (i : ℕ) → place_at u i ≡ place_at s.table i
 
-module _ (own : Address) (s : State) (r : Good s) (d o : List ℕ) (bytes : Bytes d) (heard : fault_of own d ≡ 0) where
+module _ (own : Option Address) (s : State) (r : Good s) (d o : List ℕ) (bytes : Bytes d) (heard : fault_of own d ≡ 0) where
   abbrev h : Header
   h = fields_of d
 
@@ -127,7 +126,7 @@ module _ (own : Address) (s : State) (r : Good s) (d o : List ℕ) (bytes : Byte
   payload_long = length-drop (length_of d) d ∙ omega (arith, payload_stands own d heard)
 
   module _ (u : Table) (same : Same s u) (j : ℕ) (low : j < four) (p : Place) (some : p.condition ≡ free → ⊥) (is_number : key_in p ≡ key_of h)
-      (fine : bad_place (kept_in p h) ≡ false) (l : Displaced) (y : Reception) where
+      (fine : bad_place (kept_in p h) ≡ false) (l : Option ℕ) (y : Reception) where
     abbrev kept : Place
     kept = kept_in p h
 
@@ -219,7 +218,7 @@ turned_same s r =
     choice true p q = p
     choice false p q = q
 
-module _ (own : Address) (s : State) (r : Good s) (d o : List ℕ) (bytes : Bytes d) (heard : fault_of own d ≡ 0) (y : Reception) where
+module _ (own : Option Address) (s : State) (r : Good s) (d o : List ℕ) (bytes : Bytes d) (heard : fault_of own d ≡ 0) (y : Reception) where
   -- a fragment that is not refused by the place that holds its number is kept there
   pub wrote_held : (j : ℕ) → j ≡ held_at s.table (key_of (fields_of d)) → j < four → place_fault (place_at s.table j) (fields_of d) ≡ 0
       → SettledAfter (keep_at s.table j (place_at s.table j) None (fields_of d) s.bytes (payload_of d)) o y → Wrote s s.table (fields_of d) j y
@@ -232,7 +231,7 @@ module _ (own : Address) (s : State) (r : Good s) (d o : List ℕ) (bytes : Byte
       (kept_in_range _ _ (place_fine s.table r.ranged j low) (passed_sound own d bytes heard) f) None y z
 
   -- a fragment that opens a place is kept there
-  pub wrote_opened : (l : Displaced)
+  pub wrote_opened : (l : Option ℕ)
       → SettledAfter (keep_at (turned s.table (open_at s.table)) (open_at s.table) (opened_by (fields_of d)) l (fields_of d) s.bytes
       (payload_of d)) o y
       → Wrote s (turned s.table (open_at s.table)) (fields_of d) (open_at s.table) y
@@ -271,7 +270,7 @@ module _ {s : State} {u : Table} {h : Header} {j : ℕ} {y : Reception} (w : Wro
 -- ---- every reached state is good
 
 good_view : (s : State) → Good s → (e : Call) → Bytes e.datagram → View e.own s e.datagram e.lent e.left → Good (after e)
-unfolding reception
+unfolding refused_as
 good_view s r e b (unheard n q) = subst (λ (y : Reception). Good (left_by_call y)) (sym q) r
 good_view s r e b (refuses heard low f q) = subst (λ (y : Reception). Good (left_by_call y)) (sym q) r
 good_view s r e b (keeps heard low f z) = (wrote_held e.own s r e.datagram e.lent b heard e.left _ refl low f z).good

@@ -8,6 +8,7 @@ use borrow.Author.Tests.{eqb-true, eq-eqb, ne_eqb}
 use lib.Dec.{eqb}
 use lib.ListN.{length}
 use lib.Seq.{drop_at}
+use Rattle.std.specs.Prelude.{Option}
 use Rattle.base_rules.proofs.Logic.{either}
 use Rattle.cut_rules.specs.declared.Address.{Address}
 use Rattle.cut_rules.specs.declared.Settings.{Settings}
@@ -44,7 +45,7 @@ module _ (g : Settings) (n : ℕ) (packet : List ℕ) (takes : Takes g n packet)
   plen_is = ap (λ (h : Header). h.plen) fields_are
 
   -- the payload starts where the header ends
-  payload_is : (own : Address) → fault_of own (fragment_for g n packet i) ≡ 0 → payload_of (fragment_for g n packet i) ≡ payload_for g packet i
+  payload_is : (own : Option Address) → fault_of own (fragment_for g n packet i) ≡ 0 → payload_of (fragment_for g n packet i) ≡ payload_for g packet i
   unfolding payload_of fragment_for
   payload_is own passes =
       let d : List ℕ = fragment_for g n packet i in

@@ -6,6 +6,7 @@ use Prim.Native.Nat.{ℕ, ◌<◌}
 use native.Mathlib.Omega.{arith}
 use borrow.Author.Tests.{eq-eqb}
 use lib.ListN.{get_or, replicate, length-replicate, get_or-replicate, get_or-eq_default}
+use Rattle.std.specs.Prelude.{Option, None}
 use Rattle.base_rules.specs.Bounds.{most_f}
 use Rattle.base_rules.specs.Bytes.{Bytes}
 use Rattle.base_rules.proofs.Logic.{clash}
@@ -14,14 +15,12 @@ use Rattle.header_rules.specs.Read.{fields_of, fault_of}
 use Rattle.header_rules.specs.Claims.{Sound}
 use Rattle.header_rules.proofs.Proved.{passed_sound}
 use Rattle.places_rules.specs.declared.Place.{Place}
-use Rattle.places_rules.specs.declared.Displaced.{Displaced}
-use Rattle.places_rules.specs.declared.Displaced.TheVariants.{None}
 use Rattle.places_rules.specs.Places.{four, place_at, key_in, key_of, holds, held_at, open_at, turned, opened_by}
 use Rattle.places_rules.specs.Places.{kept_in}
 use Rattle.places_rules.specs.Faults.{place_fault}
 use Rattle.places_rules.proofs.Ranges.{InRange, Belongs, range_from, belongs, belongs_opened, range_kept, range_opened}
 use Rattle.places_rules.proofs.Keys.{key_opened}
-use Rattle.receiver_rules.specs.Promise.{Reception, reception, State, payload_of, keep_at, SettledAfter}
+use Rattle.receiver_rules.specs.Promise.{Reception, refused_as, State, payload_of, keep_at, SettledAfter}
 use Rattle.receiver_rules.proofs.Ranges.{place_fine, opens_below}
 use Rattle.link.specs.Run.{Call, after, Made, Run, start, next, Reached}
 use Rattle.link.specs.Reached.{HeldCame, Stays, displaced, stays, StaysKept}
@@ -123,7 +122,7 @@ none_kept x j =
     (λ l. get_or-eq_default (replicate most_f false) false {n = j} (omega (arith, length-replicate most_f false)))
 
 module _ (e : Call) (es : List Call) (s : State) (good : Good s) (bytes : Bytes e.datagram) (passes : fault_of e.own e.datagram ≡ 0)
-    (l : Displaced)
+    (l : Option ℕ)
     (settled : SettledAfter (keep_at (turned s.table (open_at s.table)) (open_at s.table) (opened_by (fields_of e.datagram)) l
     (fields_of e.datagram) s.bytes (payload_of e.datagram)) e.lent e.left) where
   abbrev new : Header
@@ -158,7 +157,7 @@ module _ (e : Call) (es : List Call) (s : State) (good : Good s) (bytes : Bytes 
 
 at_view : {es : List Call} {s : State} {e : Call} → Good s → Made s e → ((i : ℕ) → i < four → At es s i)
     → View e.own s e.datagram e.lent e.left → (i : ℕ) → i < four → At (e ∷ es) (after e) i
-unfolding reception
+unfolding refused_as
 at_view {es} {s} {e} r m all (unheard n q) i l = at_spared e i
     (unchanged i e.left (ap (λ (y : Reception). y.table) q) (ap (λ (y : Reception). y.bytes) q)) (all i l)
 at_view {es} {s} {e} r m all (refuses passes low fault q) i l = at_spared e i
@@ -214,7 +213,7 @@ spared_stays e i spared all n j a b =
 
 stays_view : {es : List Call} {s : State} {e : Call} → Good s → Made s e → ((i : ℕ) → i < four → At es s i)
     → View e.own s e.datagram e.lent e.left → (i : ℕ) → i < four → StaysAt s e i
-unfolding reception key_of
+unfolding refused_as key_of
 stays_view {es} {s} {e} r m all (unheard n q) i l =
     spared_stays e i (unchanged i e.left (ap (λ (y : Reception). y.table) q) (ap (λ (y : Reception). y.bytes) q)) (all i l)
 stays_view {es} {s} {e} r m all (refuses passes low fault q) i l =

@@ -7,6 +7,7 @@ use native.Mathlib.Omega.{arith}
 use borrow.Author.Tests.{le-ltb, ne_eqb}
 use lib.ListN.{length, length-append, get_or-append}
 use lib.Seq.{take-append-le}
+use Rattle.std.specs.Prelude.{Option}
 use Rattle.base_rules.specs.Bytes.{number_at}
 use Rattle.base_rules.proofs.Firsts.{due, skip}
 use Rattle.base_rules.proofs.Logic.{pass, same, other}
@@ -23,7 +24,7 @@ module _ (s t : List ℕ) where
   number_front (suc w) i h =
       ap₂ (λ (x y : ℕ). x * 256 + y) (number_front w i (omega arith)) (get_or-append s t 0 (i + w) (omega arith))
 
-  module _ (own : Address) (passes : fault_of own s ≡ 0) (reads : fields_of (s ++ t) ≡ fields_of s) (some : 0 < length t) where
+  module _ (own : Option Address) (passes : fault_of own s ≡ 0) (reads : fields_of (s ++ t) ≡ fields_of s) (some : 0 < length t) where
     p : Passing own s
     p = passing own s passes
 
@@ -60,7 +61,7 @@ module _ (s t : List ℕ) where
         sym (pass (ne_eqb (fields_of (s ++ t)).plen 0 (λ z. omega (arith, size, p.some))) (sym (other wrong)))
 
     -- for every configured address
-    pub longer_fault : (own' : Address) → fault_of own' (s ++ t) ≡ 5
+    pub longer_fault : (own' : Option Address) → fault_of own' (s ++ t) ≡ 5
     unfolding fault_of
     longer_fault own' =
         sym (skip 2 _ not_short

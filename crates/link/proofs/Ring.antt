@@ -17,7 +17,7 @@ use Rattle.places_rules.specs.Places.{four, free, free_place, fresh_table, place
 use Rattle.places_rules.specs.Claims.{Opened}
 use Rattle.places_rules.proofs.Ranges.{range_from}
 use Rattle.places_rules.proofs.Proved.{fresh_is_opened, next_is_opened, kept_is_opened}
-use Rattle.receiver_rules.specs.Promise.{Reception, reception, State, keep_at}
+use Rattle.receiver_rules.specs.Promise.{Reception, refused_as, State, keep_at}
 use Rattle.receiver_rules.proofs.Ranges.{place_fine}
 use Rattle.link.specs.Run.{Call, after, Made, Run, start, next, Reached}
 use Rattle.link.specs.Reached.{StaysInRange, GoesRound, HeldOnce, PartsApart, OpenWaits, ClosedSuffices}
@@ -84,7 +84,7 @@ record Standing (s : State) : Type 0 where
   pub weighed : AllWeighed s
 
 standing_view : {s : State} {e : Call} → Good s → Made s e → Standing s → View e.own s e.datagram e.lent e.left → Standing (after e)
-unfolding reception key_of turned opened_by kept_in keep_at
+unfolding refused_as key_of turned opened_by kept_in keep_at
 standing_view r m z (unheard n q) = subst (λ (y : Reception). Standing (left_by_call y)) (sym q) z
 standing_view r m z (refuses heard low f q) = subst (λ (y : Reception). Standing (left_by_call y)) (sym q) z
 standing_view {s} {e} r m z (keeps heard low f settled) =

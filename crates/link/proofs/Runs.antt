@@ -3,6 +3,7 @@ use mathlib.Core.Path.{refl, ap}
 use mathlib.Core.List.{List, [], ◌∷◌, ◌++◌}
 use Prim.Native.Nat.{ℕ, zero, suc, ◌+◌, ◌*◌, ◌<◌}
 use lib.ListN.{length, get_or, take, drop}
+use Rattle.std.specs.Prelude.{Option, Some, None}
 use Rattle.base_rules.specs.Bytes.{Bytes, bytes_of, part_of}
 use Rattle.base_rules.specs.Table.{table}
 use Rattle.base_rules.proofs.ByteLaws.{bytes_at_lem, bytes-append, bytes_take, bytes_drop, bytes_zeros}
@@ -11,7 +12,6 @@ use Rattle.af_rules.proofs.ReadBack.{bytes-bytes, bytes-then}
 use Rattle.codeword.specs.Code.{parity_of}
 use Rattle.codeword.proofs.Encoder.{bytes-parity}
 use Rattle.cut_rules.specs.declared.Address.{Address}
-use Rattle.cut_rules.specs.declared.Address.TheVariants.{None, Pair}
 use Rattle.cut_rules.specs.declared.Settings.{Settings}
 use Rattle.cut_rules.specs.Block as block
 use Rattle.cut_rules.specs.Cells.{fragment_of}
@@ -46,10 +46,10 @@ bytes-fec : (h : Header) → Written h → Bytes (fec_part h)
 unfolding fec_part
 bytes-fec h w = either h.fec (λ e. rw e (w.rsk, (w.rsz, tt))) (λ e. rw e tt)
 
-bytes-address : (a : Address) → Bytes (address_part a)
+bytes-address : (a : Option Address) → Bytes (address_part a)
 unfolding address_part
 bytes-address None = tt
-bytes-address (Pair source dest) = bytes-then 2 source _ (bytes-bytes 2 dest)
+bytes-address (Some a) = bytes-then 2 a.source _ (bytes-bytes 2 a.dest)
 
 module _ (h : Header) (w : Written h) where
   bytes_front : Bytes (front_of h)

@@ -9,12 +9,12 @@ use native.Mathlib.Omega.{arith}
 use borrow.Author.Tests.{eq-eqb}
 use lib.Dec.{eqb}
 use lib.ListN.{length, get_or, take, drop, replicate, length-replicate}
+use Rattle.std.specs.Prelude.{None}
 use Rattle.base_rules.specs.Bounds.{place}
 use Rattle.base_rules.specs.Bytes.{splice}
 use Rattle.base_rules.specs.Tests.{bit}
 use Rattle.base_rules.proofs.Logic.{clash}
 use Rattle.code_rules.proofs.RowLaws.{zeros_at}
-use Rattle.cut_rules.specs.declared.Address.TheVariants.{None}
 use Rattle.cut_rules.specs.declared.Settings.{Settings}
 use Rattle.cut_rules.specs.Missing as missing
 use Rattle.header_rules.specs.Read.{bad_address}

@@ -5,6 +5,7 @@ use mathlib.Core.List.{List}
 use Prim.Native.Nat.{ℕ, ◌≤◌, ◌<◌}
 use native.Mathlib.Omega.{arith}
 use lib.ListN.{length}
+use Rattle.std.specs.Prelude.{Option, Ok}
 use Rattle.base_rules.specs.Bounds.{most_k}
 use Rattle.base_rules.specs.Bytes.{splice}
 use Rattle.base_rules.proofs.Logic.{clash}
@@ -15,7 +16,6 @@ use Rattle.form_rules.specs.Agree.{enough, enough_in, missing_in, lost_in, Agree
 use Rattle.form_rules.proofs.Unique.{one_packet}
 use Rattle.places_rules.specs.declared.Place.{Place}
 use Rattle.places_rules.specs.declared.Table.{Table}
-use Rattle.places_rules.specs.declared.Displaced.{Displaced}
 use Rattle.places_rules.specs.Places.{delivered, place_at}
 use Rattle.receiver_rules.specs.declared.Received.TheVariants.{Kept, Delivered}
 use Rattle.receiver_rules.specs.Promise.{number_of, Reception, reception, closed_at, bytes_at, Settled, waits, delivers, damaged}
@@ -76,20 +76,20 @@ module _ (g : Settings) (n : ℕ) (packet : List ℕ) (takes : Takes g n packet)
 -- ---- what settling leaves
 
 -- the fragment is kept and that is all: out is as lent, table and bytes are as keeping left them
-pub record Waited (t : Table) (d : Displaced) (b o : List ℕ) (y : Reception) : Type 0 where
-  pub answer : y.answer ≡ number_of (Kept d)
+pub record Waited (t : Table) (d : Option ℕ) (b o : List ℕ) (y : Reception) : Type 0 where
+  pub answer : y.answer ≡ number_of (Ok (Kept d))
   pub out : y.out ≡ o
   pub table : y.table ≡ t
   pub bytes : y.bytes ≡ b
 
 -- out begins with the packet, its length and the fragments not come are told, its place is delivered
-pub record Handed (g : Settings) (packet : List ℕ) (came : ℕ → Bool) (t : Table) (i : ℕ) (d : Displaced) (b o : List ℕ) (y : Reception) : Type 0 where
-  pub answer : y.answer ≡ number_of (Delivered (length packet) (losses (λ j. not (came j)) (count g packet)) d)
+pub record Handed (g : Settings) (packet : List ℕ) (came : ℕ → Bool) (t : Table) (i : ℕ) (d : Option ℕ) (b o : List ℕ) (y : Reception) : Type 0 where
+  pub answer : y.answer ≡ number_of (Ok (Delivered (length packet) (losses (λ j. not (came j)) (count g packet)) d))
   pub out : y.out ≡ splice o 0 packet
   pub table : y.table ≡ closed_at t i delivered
   pub bytes : y.bytes ≡ b
 
-module _ (g : Settings) (n : ℕ) (packet : List ℕ) (takes : Takes g n packet) (came : ℕ → Bool) (t : Table) (i : ℕ) (d : Displaced) (b o : List ℕ)
+module _ (g : Settings) (n : ℕ) (packet : List ℕ) (takes : Takes g n packet) (came : ℕ → Bool) (t : Table) (i : ℕ) (d : Option ℕ) (b o : List ℕ)
     (full : Full g n packet came i (place_at t i) b) (sized : SizeKnown g packet (place_at t i)) where
   is_enough : enough_in (place_at t i) ≡ suffices g packet came
   is_enough = enough_in_lem g n packet takes came i (place_at t i) b full sized
@@ -108,7 +108,7 @@ module _ (g : Settings) (n : ℕ) (packet : List ℕ) (takes : Takes g n packet)
   handed (delivers P e a) f =
       let is : P ≡ packet = only g n packet takes came i (place_at t i) b full sized f P a in
       record {
-        answer = ap₂ (λ (x m : ℕ). number_of (Delivered x m d)) (ap length is) (missing_in_lem g n packet takes came i (place_at t i) b full sized);
+        answer = ap₂ (λ (x m : ℕ). number_of (Ok (Delivered x m d))) (ap length is) (missing_in_lem g n packet takes came i (place_at t i) b full sized);
         out = ap (splice o 0) is;
         table = refl;
         bytes = refl;

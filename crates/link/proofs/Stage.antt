@@ -7,6 +7,7 @@ use Prim.Native.Nat.{ℕ, ◌+◌, ◌*◌, ◌≤◌, ◌<◌}
 use native.Mathlib.Omega.{arith}
 use borrow.Author.Tests.{eq-eqb, ne_eqb}
 use lib.ListN.{length}
+use Rattle.std.specs.Prelude.{Option, Some, None}
 use Rattle.base_rules.specs.Bounds.{place}
 use Rattle.base_rules.proofs.Logic.{clash}
 use Rattle.cut_rules.specs.declared.Settings.{Settings}
@@ -14,12 +15,9 @@ use Rattle.header_rules.specs.declared.Header.{Header}
 use Rattle.header_rules.specs.Read.{fields_of}
 use Rattle.places_rules.specs.declared.Place.{Place}
 use Rattle.places_rules.specs.declared.Table.{Table}
-use Rattle.places_rules.specs.declared.Displaced.{Displaced}
-use Rattle.places_rules.specs.declared.Displaced.TheVariants.{None, Number}
 use Rattle.places_rules.specs.Places.{four, open_now, delivered, place_at, key_of, key_in, holds, held_at, open_at, displaced_at, turned, in_condition}
 use Rattle.places_rules.proofs.Keys.{key-closed}
-use Rattle.receiver_rules.specs.declared.Received.TheVariants.{Refused}
-use Rattle.receiver_rules.specs.Promise.{Reception, reception, State, keep_at, Settled, waits, delivers, damaged}
+use Rattle.receiver_rules.specs.Promise.{Reception, reception, refused_as, State, keep_at, Settled, waits, delivers, damaged}
 use Rattle.sender_rules.specs.Fragments.{payload_for}
 use Rattle.link.specs.Run.{Call, after, Made, Holds, number_in, come}
 use Rattle.link.specs.Demand.{Takes, key_for, enough_after, Names, by_kept, by_delivered, by_damaged}
@@ -103,19 +101,19 @@ unfolding in_condition
 condition_closed p c = refl
 
 -- however it settles, the answer names the displaced number
-pub settled_names : {t : Table} {j : ℕ} {d : Displaced} {b o : List ℕ} {y : Reception} → Settled t j d b o y → Names d y.answer
+pub settled_names : {t : Table} {j : ℕ} {d : Option ℕ} {b o : List ℕ} {y : Reception} → Settled t j d b o y → Names d y.answer
 unfolding reception
 settled_names (waits e) = by_kept
 settled_names (delivers P e a) = by_delivered _ _
 settled_names (damaged e a) = by_damaged
 
-displaced_open : (t : Table) (i n : ℕ) → (place_at t i).condition ≡ open_now → key_in (place_at t i) ≡ n → displaced_at t i ≡ Number n
+displaced_open : (t : Table) (i n : ℕ) → (place_at t i).condition ≡ open_now → key_in (place_at t i) ≡ n → displaced_at t i ≡ Some n
 unfolding displaced_at
-displaced_open t i n c e = ap (λ (v : Bool). cond v (Number (key_in (place_at t i))) None) (eq-eqb _ _ c) ∙ ap (λ (k : ℕ). Number k) e
+displaced_open t i n c e = ap (λ (v : Bool). cond v (Some (key_in (place_at t i))) None) (eq-eqb _ _ c) ∙ ap (λ (k : ℕ). Some k) e
 
 displaced_done : (t : Table) (i : ℕ) → (place_at t i).condition ≡ delivered → displaced_at t i ≡ None
 unfolding displaced_at
-displaced_done t i c = ap (λ (v : Bool). cond v (Number (key_in (place_at t i))) None) (ne_eqb (place_at t i).condition open_now (λ z. omega arith))
+displaced_done t i c = ap (λ (v : Bool). cond v (Some (key_in (place_at t i))) None) (ne_eqb (place_at t i).condition open_now (λ z. omega arith))
 
 module _ (g : Settings) (n : ℕ) (packet : List ℕ) (takes : Takes g n packet) where
   -- it is enough after the calls just where the fragments that came in them suffice
@@ -176,9 +174,9 @@ module _ (g : Settings) (n : ℕ) (packet : List ℕ) (takes : Takes g n packet)
     moved_stage u c (done_at i o z) = done_at i o (enough_with (e ∷ es) (come (key_for g n) es) c ∙ sym (enough_is g packet takes.passed n es) ∙ z)
 
     -- a refusal leaves all as it was
-    pub refused_stage : (x : ℕ) → e.left ≡ reception (Refused x) s.table s.bytes e.lent → Stage g n packet es s
+    pub refused_stage : (x : ℕ) → e.left ≡ refused_as x s.table s.bytes e.lent → Stage g n packet es s
         → Stage g n packet es (after e)
-    unfolding reception
+    unfolding refused_as
     refused_stage x q st = subst (λ (y : Reception). Stage g n packet es (left_by_call y)) (sym q) st
 
     -- a fragment of another number is kept in place j; it is the packet's own only where it displaces it
@@ -210,7 +208,7 @@ module _ (g : Settings) (n : ℕ) (packet : List ℕ) (takes : Takes g n packet)
             gone = gone_from i o.alone q;
             by = record {
               named = λ f.
-                  subst (λ (d : Displaced). Names d e.left.answer) (displaced_open s.table i (key_for g n) o.full.is_open o.full.mine.number)
+                  subst (λ (d : Option ℕ). Names d e.left.answer) (displaced_open s.table i (key_for g n) o.full.is_open o.full.mine.number)
                   (names i o.full.mine.number q);
               silent = λ f. clash f z;
             };
@@ -224,7 +222,7 @@ module _ (g : Settings) (n : ℕ) (packet : List ℕ) (takes : Takes g n packet)
             by = record {
               named = λ f. clash z f;
               silent = λ f.
-                  subst (λ (d : Displaced). Names d e.left.answer) (displaced_done s.table i o.is_done) (names i o.mine.number q);
+                  subst (λ (d : Option ℕ). Names d e.left.answer) (displaced_done s.table i o.is_done) (names i o.mine.number q);
             };
           }))
           (λ q. inl (done_at i (done_spared s i e.left (wrote_spares w i q) (still_alone i o.alone) o) z))

@@ -9,6 +9,7 @@ use borrow.Author.Tests.{eq-eqb}
 use lib.Dec.{leb}
 use lib.ListN.{length, get_or, take, drop, set}
 use lib.Seq.{get_or-set_other, drop-drop}
+use Rattle.std.specs.Prelude.{Option}
 use Rattle.base_rules.specs.Bounds.{place}
 use Rattle.base_rules.specs.Bytes.{Bytes, splice, part_of}
 use Rattle.base_rules.proofs.Logic.{either}
@@ -17,7 +18,6 @@ use Rattle.header_rules.specs.declared.Header.{Header}
 use Rattle.header_rules.specs.Read.{fields_of, fault_of}
 use Rattle.places_rules.specs.declared.Place.{Place}
 use Rattle.places_rules.specs.declared.Table.{Table}
-use Rattle.places_rules.specs.declared.Displaced.{Displaced}
 use Rattle.places_rules.specs.Places.{four, free, spoiled, place_at, key_of, key_in, holds, is_last, offset_of}
 use Rattle.places_rules.specs.Places.{kept_in, in_condition}
 use Rattle.places_rules.proofs.Ranges.{InRange}
@@ -110,7 +110,7 @@ pub record Put (e : Call) (s : State) (p : Place) (i : ℕ) : Type 0 where
   pub bytes : e.left.bytes ≡ splice s.bytes (i * place + offset_of (fields_of e.datagram)) (payload_of e.datagram)
 
 -- a call that keeps its fragment in place i puts it there, however it settles
-pub put_in : (e : Call) (s : State) (u : Table) (i : ℕ) (p : Place) (l : Displaced) → length u.places ≡ four → i < four
+pub put_in : (e : Call) (s : State) (u : Table) (i : ℕ) (p : Place) (l : Option ℕ) → length u.places ≡ four → i < four
     → (p.condition ≡ free → ⊥) → p.condition ≤ spoiled
     → SettledAfter (keep_at u i p l (fields_of e.datagram) s.bytes (payload_of e.datagram)) e.lent e.left → Put e s p i
 unfolding keep_at kept_in

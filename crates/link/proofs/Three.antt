@@ -16,7 +16,7 @@ use Rattle.places_rules.specs.declared.Table.{Table}
 use Rattle.places_rules.specs.Places.{four, place_at, key_in, key_of, holds, held_at, open_at, turned}
 use Rattle.places_rules.specs.Claims.{Opened}
 use Rattle.places_rules.proofs.Proved.{opens_in_turn}
-use Rattle.receiver_rules.specs.Promise.{Reception, reception, State}
+use Rattle.receiver_rules.specs.Promise.{Reception, refused_as, State}
 use Rattle.link.specs.Run.{Call, after, Made, Run, start, next, Reached, Holds, heard, number_in, All}
 use Rattle.link.specs.Demand.{Among, Begins}
 use Rattle.link.proofs.Basic.{same_or_not, held_found, held_some, holds_yes, holds_number, holds_some}
@@ -169,7 +169,7 @@ module _ (n m : ℕ) (others : List ℕ) {s : State} {e : Call} (good : Good s) 
       three_first few ring begins.1 (wrote_opened e.own s good e.datagram e.lent made.bytes passed e.left _ z)
 
   next_view : Three n m others s → Among n others e → View e.own s e.datagram e.lent e.left → Three n m others (after e)
-  unfolding reception key_of Among
+  unfolding refused_as key_of Among
   next_view r am (unheard f q) = subst (λ (y : Reception). Three n m others (left_by_call y)) (sym q) r
   next_view r am (refuses passed low f q) = subst (λ (y : Reception). Three n m others (left_by_call y)) (sym q) r
   next_view r am (keeps passed low f z) =

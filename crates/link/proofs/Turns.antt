@@ -13,8 +13,7 @@ use Rattle.header_rules.specs.Read.{fields_of}
 use Rattle.places_rules.specs.Places.{four, place_at, key_in, key_of, holds, held_at, open_at, turned, all_places}
 use Rattle.places_rules.specs.Claims.{Opened}
 use Rattle.places_rules.proofs.Proved.{fresh_is_opened, opens_in_turn}
-use Rattle.receiver_rules.specs.declared.Received.TheVariants.{Refused}
-use Rattle.receiver_rules.specs.Promise.{Reception, reception, State}
+use Rattle.receiver_rules.specs.Promise.{Reception, refused_as, State}
 use Rattle.link.specs.Run.{Call, after, Made, Run, start, next, fresh_with, Holds, heard, number_in}
 use Rattle.link.proofs.Basic.{same_or_not, less_or-not, held_found, held_some, holds_yes, holds_number, holds_some}
 use Rattle.link.proofs.View.{Good, View, unheard, refuses, keeps, opens}
@@ -87,8 +86,8 @@ unfoldable pub turn : Bool → ℕ → List ℕ → List ℕ
 turn hears n ns = cond (hears && not (lately n ns)) (n ∷ ns) ns
 
 module _ {ns : List ℕ} {s : State} {e : Call} (r : Stands ns s) (good : Good s) (made : Made s e) where
-  same_stands : (x : ℕ) → e.left ≡ reception (Refused x) s.table s.bytes e.lent → Stands ns (after e)
-  unfolding reception
+  same_stands : (x : ℕ) → e.left ≡ refused_as x s.table s.bytes e.lent → Stands ns (after e)
+  unfolding refused_as
   same_stands x q = subst (λ (y : Reception). Stands ns (left_by_call y)) (sym q) r
 
   kept_stands : {j : ℕ} → Wrote s s.table (fields_of e.datagram) j e.left → holds (place_at s.table j) (number_in e) ≡ true

@@ -6,14 +6,16 @@ use mathlib.Core.List.{List, [], ◌∷◌}
 use Prim.Native.Nat.{ℕ, ◌<◌}
 use native.Mathlib.Omega.{arith}
 use lib.ListN.{length}
+use Rattle.std.specs.Prelude.{Option, Some, None, Ok, Err}
+use Rattle.base_rules.specs.Refusal.{number}
+use Rattle.base_rules.specs.declared.Refusal.{Refusal}
+use Rattle.base_rules.specs.declared.Refusal.TheVariants as refusal
 use Rattle.base_rules.proofs.Logic.{either, clash}
 use Rattle.cut_rules.specs.declared.Settings.{Settings}
 use Rattle.header_rules.specs.Read.{fault_of}
-use Rattle.places_rules.specs.declared.Displaced.{Displaced}
-use Rattle.places_rules.specs.declared.Displaced.TheVariants as displaced
 use Rattle.places_rules.specs.Places.{four, held_at}
-use Rattle.receiver_rules.specs.declared.Received.TheVariants.{Kept, Delivered, Refused}
-use Rattle.receiver_rules.specs.Promise.{displaced_values, number_of, Reception, reception, State}
+use Rattle.receiver_rules.specs.declared.Received.TheVariants.{Kept, Delivered}
+use Rattle.receiver_rules.specs.Promise.{displaced_values, number_of, Reception, refused_as, State}
 use Rattle.link.specs.Run.{Call, after, Made, Run, start, next, Reached, Holds, ShownOpen, number_in, come, All}
 use Rattle.link.specs.Demand.{Takes, key_for, Own, enough_after, HandsOut, Handed, HeldAfter}
 use Rattle.link.specs.Steps.{Answered, DisplacedBy, Promised, HandedOut, T2}
@@ -28,20 +30,25 @@ use Rattle.link.proofs.Brought.{Next, own_step}
 
 -- ---- answers that are not a packet handed out
 
--- the answer of a refusal is not that of a delivery
-pub refused-or-handed : (x length missing : ℕ) (d : Displaced) → number_of (Refused x) ≡ number_of (Delivered length missing d) → ⊥
+-- a number without values is not the answer of a delivery,
+pub number-or-handed : (x length missing : ℕ) (d : Option ℕ) → (x, []) ≡ number_of (Ok (Delivered length missing d)) → ⊥
 unfolding number_of
-refused-or-handed x l m d e = let z : ◌≡◌ {A = ℕ} 0 (length (l ∷ m ∷ displaced_values d)) = ap (λ (a : ℕ × List ℕ). length a.1) e in omega arith
+number-or-handed x l m d e = let z : ◌≡◌ {A = ℕ} 0 (length (l ∷ m ∷ displaced_values d)) = ap (λ (a : ℕ × List ℕ). length a.1) e in omega arith
 
-kept-or-handed : (d' : Displaced) (length missing : ℕ) (d : Displaced) → number_of (Kept d') ≡ number_of (Delivered length missing d) → ⊥
+-- so that of a refusal is not
+refused-or-handed : (x : Refusal) (length missing : ℕ) (d : Option ℕ) → number_of (Err x) ≡ number_of (Ok (Delivered length missing d)) → ⊥
+unfolding number_of
+refused-or-handed x = number-or-handed (number x)
+
+kept-or-handed : (d' : Option ℕ) (length missing : ℕ) (d : Option ℕ) → number_of (Ok (Kept d')) ≡ number_of (Ok (Delivered length missing d)) → ⊥
 unfolding number_of displaced_values
-kept-or-handed displaced.None l m d e =
+kept-or-handed None l m d e =
     let z : ◌≡◌ {A = ℕ} 1 (length (l ∷ m ∷ displaced_values d)) = ap (λ (a : ℕ × List ℕ). length a.1) e in omega arith
-kept-or-handed (displaced.Number x) l m displaced.None e = let z : ◌≡◌ {A = ℕ} 2 3 = ap (λ (a : ℕ × List ℕ). length a.1) e in omega arith
-kept-or-handed (displaced.Number x) l m (displaced.Number y) e = let z : ◌≡◌ {A = ℕ} 2 4 = ap (λ (a : ℕ × List ℕ). length a.1) e in omega arith
+kept-or-handed (Some x) l m None e = let z : ◌≡◌ {A = ℕ} 2 3 = ap (λ (a : ℕ × List ℕ). length a.1) e in omega arith
+kept-or-handed (Some x) l m (Some y) e = let z : ◌≡◌ {A = ℕ} 2 4 = ap (λ (a : ℕ × List ℕ). length a.1) e in omega arith
 
-refused_told : (e : Call) (s : State) (x : ℕ) → e.left ≡ reception (Refused x) s.table s.bytes e.lent → e.left.answer ≡ number_of (Refused x)
-unfolding reception
+refused_told : (e : Call) (s : State) (x : ℕ) → e.left ≡ refused_as x s.table s.bytes e.lent → e.left.answer ≡ (x, [])
+unfolding refused_as
 refused_told e s x q = ap (λ (y : Reception). y.answer) q
 
 module _ (g : Settings) (n : ℕ) (packet : List ℕ) (takes : Takes g n packet) where
@@ -86,18 +93,18 @@ module _ (g : Settings) (n : ℕ) (packet : List ℕ) (takes : Takes g n packet)
 
       -- before it is enough its own fragment is answered with no packet,
       not-handed : (i : ℕ) → Brings g n packet e i → enough_after g n packet (e ∷ es) ≡ false
-          → (length missing : ℕ) (d : Displaced) → HandsOut e length missing d → ⊥
+          → (length missing : ℕ) (d : Option ℕ) → HandsOut e length missing d → ⊥
       not-handed i b f l m d told =
           let a : Answered g n packet es e i = (brought i b).answered in
           either (come (key_for g n) es i)
           (λ old.
           either (enough_after g n packet es)
-          (λ yet. refused-or-handed 11 l m d (sym (a.late yet).0 ∙ told))
-          (λ before. refused-or-handed 12 l m d (sym (a.again old before).0 ∙ told)))
+          (λ yet. refused-or-handed refusal.Late l m d (sym (a.late yet).0 ∙ told))
+          (λ before. refused-or-handed refusal.Repeat l m d (sym (a.again old before).0 ∙ told)))
           (λ new. let k = (a.kept new f).0 in kept-or-handed k.0 l m d (sym k.1 ∙ told))
 
       -- so what hands out something of its number is the first with which it is enough
-      once_call : Own g n packet e → (length missing : ℕ) (d : Displaced) → HandsOut e length missing d → number_in e ≡ key_for g n
+      once_call : Own g n packet e → (length missing : ℕ) (d : Option ℕ) → HandsOut e length missing d → number_in e ≡ key_for g n
           → (enough_after g n packet es ≡ false) × (enough_after g n packet (e ∷ es) ≡ true)
       once_call own l m d told is = go (see r made)
         where
@@ -105,14 +112,14 @@ module _ (g : Settings) (n : ℕ) (packet : List ℕ) (takes : Takes g n packet)
           heard_call passes =
               let one = its_own g n packet takes e own passes is in
               either (enough_after g n packet es)
-              (λ yet. absurd (refused-or-handed 11 l m d (sym ((brought one.0 one.1).answered.late yet).0 ∙ told)))
+              (λ yet. absurd (refused-or-handed refusal.Late l m d (sym ((brought one.0 one.1).answered.late yet).0 ∙ told)))
               (λ before.
               either (enough_after g n packet (e ∷ es))
               (λ now. (before, now))
               (λ f. absurd (not-handed one.0 one.1 f l m d told)))
 
           go : View e.own s e.datagram e.lent e.left → (enough_after g n packet es ≡ false) × (enough_after g n packet (e ∷ es) ≡ true)
-          go (unheard fault q) = absurd (refused-or-handed _ l m d (sym (refused_told e s _ q) ∙ told))
+          go (unheard fault q) = absurd (number-or-handed _ l m d (sym (refused_told e s _ q) ∙ told))
           go (refuses passes low fault q) = heard_call passes
           go (keeps passes low fault z) = heard_call passes
           go (opens passes high z) = heard_call passes

@@ -7,16 +7,17 @@ use native.Mathlib.Omega.{arith}
 use lib.Dec.{lit<}
 use lib.ListN.{length, get_or, drop}
 use lib.Seq.{get_or-take, get_or-drop}
+use Rattle.std.specs.Prelude.{None, Ok, Err}
+use Rattle.base_rules.specs.Refusal.{number}
+use Rattle.base_rules.specs.declared.Refusal.TheVariants as refusal
 use Rattle.base_rules.specs.Answer as answer
 use Rattle.base_rules.specs.Bytes.{splice}
 use Rattle.base_rules.proofs.Logic.{clash}
 use Rattle.base_rules.proofs.Splice.{splice_none}
-use Rattle.cut_rules.specs.declared.Address.TheVariants as address
 use Rattle.form_rules.specs.Agree.{missing_in}
-use Rattle.places_rules.specs.declared.Displaced.TheVariants.{None}
 use Rattle.places_rules.specs.declared.Table.{Table}
 use Rattle.places_rules.specs.Places.{four, place_at, held_at}
-use Rattle.receiver_rules.specs.declared.Received.TheVariants.{Delivered, Refused}
+use Rattle.receiver_rules.specs.declared.Received.TheVariants.{Delivered}
 use Rattle.receiver_rules.specs.Promise.{number_of, Reception, reception, State}
 use Rattle.receiver_rules.specs.Claims.{kept_by}
 use Rattle.receiver_rules.proofs.Proved.{some_reception, count_told}
@@ -28,7 +29,7 @@ use Rattle.link.specs.Useless.{Withholds, Invents, FalseCount, Sender, WholeSend
 use Rattle.link.proofs.Senders as senders
 use Rattle.link.proofs.Served.{Ready, call, serves, does, number_brought, episode, not-before, enough, not-enough}
 use Rattle.link.proofs.Served.{lent, lent-zero, fresh, fresh_free, at_first, first, said_by_lem, held, another, delivers, written, stands}
-use Rattle.link.proofs.Until.{refused-or-handed}
+use Rattle.link.proofs.Until.{number-or-handed}
 use Rattle.link.proofs.Witness.{plain_at, packet_with, room, in_one, in_two, halved, written_apart, begins_a}
 
 module _ (R : Receiver) (keeps : Keeps R) where
@@ -56,7 +57,7 @@ module _ (R : Receiver) (keeps : Keeps R) where
       let one = first 1 (lit< tt) 0 (lit< tt) in
       let good = delivers keeps one (in_one 1 (lit< tt)) in
       let refused = does one _ bad.refuses in
-      refused-or-handed refused.0 good.0 good.1 good.2 (sym refused.1 ∙ good.3)
+      number-or-handed refused.0 good.0 good.1 good.2 (sym refused.1 ∙ good.3)
 
   hands_nothing : HandsNothing R → ⊥
   hands_nothing bad = let one = first 1 (lit< tt) 0 (lit< tt) in does one _ bad.never (delivers keeps one (in_one 1 (lit< tt)))
@@ -137,11 +138,11 @@ some_keep = (
 
 -- one that refuses everything, and leaves all as it was
 refuser : Receiver
-refuser own s datagram out = reception (Refused 2) s.table s.bytes out
+refuser own s datagram out = reception (Err refusal.Short) s.table s.bytes out
 
 module _ {s : State} {e : Call} (c : Serves refuser s e) where
-  refuses : e.left.answer ≡ number_of (Refused 2)
-  unfolding refuser reception
+  refuses : e.left.answer ≡ (2, [])
+  unfolding refuser reception number_of number
   refuses = ap (λ (y : Reception). y.answer) c.leaves
 
   same-table : e.left.table ≡ s.table
@@ -153,7 +154,7 @@ module _ {s : State} {e : Call} (c : Serves refuser s e) where
   same_bytes = ap (λ (y : Reception). y.bytes) c.leaves
 
   delivers_nothing : Delivers e → ⊥
-  delivers_nothing d = refused-or-handed 2 d.0 d.1 d.2 (sym refuses ∙ d.3)
+  delivers_nothing d = number-or-handed 2 d.0 d.1 d.2 (sym refuses ∙ d.3)
 
 one : Ready refuser (plain_at 1400) 0 (packet_with 1) fresh
 one = first 1 (lit< tt) 0 (lit< tt)
@@ -175,7 +176,7 @@ withholder =
 -- one that answers every datagram with an empty packet, and with one fragment more missing than its record misses
 liar : Receiver
 liar own s datagram out =
-    reception (Delivered 0 (suc (missing_in (place_at s.table (kept_by s datagram).at))) None) s.table s.bytes out
+    reception (Ok (Delivered 0 (suc (missing_in (place_at s.table (kept_by s datagram).at))) None)) s.table s.bytes out
 
 lends_back : {s : State} {e : Call} → Serves liar s e → e.left.out ≡ e.lent
 unfolding liar reception
@@ -203,7 +204,7 @@ miscounter : FalseCount liar
 unfolding liar reception
 miscounter =
     record {
-      own = address.None;
+      own = None;
       state = fresh;
       datagram = [];
       out = [];

@@ -6,6 +6,7 @@ use Prim.Native.Nat.{ℕ, ◌≤◌, ◌<◌}
 use borrow.Author.Tests.{eq-eqb, ne_eqb, eqb-true, eqb-false, ltb-true, ltb-false, lt-ltb, le-ltb}
 use lib.Dec.{ltb, eqb}
 use lib.ListN.{length}
+use Rattle.std.specs.Prelude.{Option, None}
 use Rattle.base_rules.specs.Bounds.{most_l}
 use Rattle.base_rules.specs.Tests.{first}
 use Rattle.base_rules.proofs.Firsts.{due, skip, none_due}
@@ -13,11 +14,9 @@ use Rattle.base_rules.proofs.Logic.{either}
 use Rattle.cut_rules.specs.declared.Address.{Address}
 use Rattle.header_rules.specs.Read.{fields_of, fault_of}
 use Rattle.places_rules.specs.declared.Table.{Table}
-use Rattle.places_rules.specs.declared.Displaced.TheVariants.{None}
 use Rattle.places_rules.specs.Places.{four, place_at, key_of, held_at, open_at, displaced_at, turned, opened_by, all_places}
 use Rattle.places_rules.specs.Faults.{bad_table, place_fault}
-use Rattle.receiver_rules.specs.declared.Received.TheVariants.{Refused}
-use Rattle.receiver_rules.specs.Promise.{Reception, reception, State, room_fault, held_fault, receive_fault, payload_of, Keeping, keep_at, keep_of}
+use Rattle.receiver_rules.specs.Promise.{Reception, refused_as, State, room_fault, held_fault, receive_fault, payload_of, Keeping, keep_at, keep_of}
 use Rattle.receiver_rules.specs.Promise.{SettledAfter, Step}
 use Rattle.receiver_rules.proofs.Ranges.{room_told, due_none}
 
@@ -29,11 +28,11 @@ pub record Good (s : State) : Type 0 where
 
 -- what a call does: the header is refused (2 to 8), the place that holds the number refuses the fragment (9 to 12), that place keeps it, or it
 -- opens a place
-pub data View (own : Address) (s : State) (d o : List ℕ) (y : Reception) : Type 0 where
-  unheard : (fault_of own d ≡ 0 → ⊥) → y ≡ reception (Refused (fault_of own d)) s.table s.bytes o → View own s d o y
+pub data View (own : Option Address) (s : State) (d o : List ℕ) (y : Reception) : Type 0 where
+  unheard : (fault_of own d ≡ 0 → ⊥) → y ≡ refused_as (fault_of own d) s.table s.bytes o → View own s d o y
   refuses : fault_of own d ≡ 0 → held_at s.table (key_of (fields_of d)) < four
       → (place_fault (place_at s.table (held_at s.table (key_of (fields_of d)))) (fields_of d) ≡ 0 → ⊥)
-      → y ≡ reception (Refused (place_fault (place_at s.table (held_at s.table (key_of (fields_of d)))) (fields_of d))) s.table s.bytes o
+      → y ≡ refused_as (place_fault (place_at s.table (held_at s.table (key_of (fields_of d)))) (fields_of d)) s.table s.bytes o
       → View own s d o y
   keeps : fault_of own d ≡ 0 → held_at s.table (key_of (fields_of d)) < four
       → place_fault (place_at s.table (held_at s.table (key_of (fields_of d)))) (fields_of d) ≡ 0
@@ -58,10 +57,10 @@ pub no_room_fault : (s : State) → Good s → (room : ℕ) → most_l ≤ room 
 no_room_fault s r room h =
     sym (due_none s.table _ room r.ranged (sym (room_told (length s.bytes) room r.whole) ∙ le-ltb room most_l h))
 
-abbrev fault : Address → State → List ℕ → List ℕ → ℕ
+abbrev fault : Option Address → State → List ℕ → List ℕ → ℕ
 fault own s d o = receive_fault own s.table (length s.bytes) d (length o)
 
-module _ (own : Address) (s : State) (d o : List ℕ) (good : Good s) (room : most_l ≤ length o) where
+module _ (own : Option Address) (s : State) (d o : List ℕ) (good : Good s) (room : most_l ≤ length o) where
   -- after 14 and 1, the header's
   fault_heard : (fault_of own d ≡ 0 → ⊥) → fault own s d o ≡ fault_of own d
   unfolding receive_fault
@@ -104,12 +103,12 @@ module _ (t : Table) (d : List ℕ) where
 
 -- ---- the four cases
 
-module _ (own : Address) (s : State) (d o : List ℕ) (y : Reception) where
+module _ (own : Option Address) (s : State) (d o : List ℕ) (y : Reception) where
   kept_by_lem : fault own s d o ≡ 0 → Step own s d o y → SettledAfter (keep_of s.table (fields_of d) s.bytes (payload_of d)) o y
   unfolding Step
   kept_by_lem e f = rw (eq-eqb _ _ e) at f
 
-  refused_by : (n : ℕ) → fault own s d o ≡ n → (n ≡ 0 → ⊥) → Step own s d o y → y ≡ reception (Refused n) s.table s.bytes o
+  refused_by : (n : ℕ) → fault own s d o ≡ n → (n ≡ 0 → ⊥) → Step own s d o y → y ≡ refused_as n s.table s.bytes o
   unfolding Step
   refused_by n e some f = rw (e, ne_eqb _ _ some) at f
 
@@ -131,7 +130,7 @@ module _ (own : Address) (s : State) (d o : List ℕ) (y : Reception) where
         opens e l (subst (λ (k : Keeping). SettledAfter k o y) (new-keeps s.table d s.bytes l) (kept_by_lem is f))
 
 -- whatever a call with room does from a good state is one of these four cases
-pub view : (own : Address) (s : State) (d o : List ℕ) (y : Reception) → Good s → most_l ≤ length o → Step own s d o y → View own s d o y
+pub view : (own : Option Address) (s : State) (d o : List ℕ) (y : Reception) → Good s → most_l ≤ length o → Step own s d o y → View own s d o y
 view own s d o y r h f =
     either (eqb (fault_of own d) 0)
     (λ e.

@@ -5,9 +5,9 @@ use mathlib.Core.List.{List}
 use Prim.Native.Nat.{ℕ, ◌<◌}
 use native.Mathlib.Omega.{arith}
 use lib.ListN.{length}
+use Rattle.std.specs.Prelude.{Option}
 use Rattle.places_rules.specs.declared.Place.{Place}
 use Rattle.places_rules.specs.declared.Table.{Table}
-use Rattle.places_rules.specs.declared.Displaced.{Displaced}
 use Rattle.places_rules.specs.Places.{four, open_now, delivered, spoiled, free_place, place_at, with_place, in_condition}
 use Rattle.form_rules.specs.Agree.{enough_in}
 use Rattle.receiver_rules.specs.Promise.{Reception, reception, closed_at, Settled, waits, delivers, damaged}
@@ -34,7 +34,7 @@ module _ (u : Table) (j : ℕ) (p : Place) (below : j < four) (size : length u.p
       (weighed_closed p c other (ap enough_in (sym (written_place u j p size below)) ∙ e))
 
   -- an open place in which a fragment was just kept stays open just where what it holds does not suffice
-  pub weighed_settled : p.condition ≡ open_now → {d : Displaced} {b o : List ℕ} {y : Reception}
+  pub weighed_settled : p.condition ≡ open_now → {d : Option ℕ} {b o : List ℕ} {y : Reception}
       → Settled (with_place u j p) j d b o y → Weighed (place_at y.table j)
   unfolding reception
   weighed_settled is_open (waits e) =

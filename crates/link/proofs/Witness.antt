@@ -6,13 +6,13 @@ use Prim.Native.Nat.{ℕ, ◌<◌}
 use native.Mathlib.Omega.{arith}
 use lib.Dec.{ltb, lit<}
 use lib.ListN.{length, get_or, take, replicate, length-replicate}
+use Rattle.std.specs.Prelude.{None}
 use Rattle.base_rules.specs.Bounds.{most_l, most_f}
 use Rattle.base_rules.specs.Bytes.{splice, bytes_of, part_of}
 use Rattle.base_rules.specs.Round.{ceil}
 use Rattle.base_rules.proofs.Firsts.{skip, none_due}
 use Rattle.base_rules.proofs.Splice.{splice_start}
 use Rattle.base_rules.proofs.Logic.{same}
-use Rattle.cut_rules.specs.declared.Address.TheVariants.{None}
 use Rattle.cut_rules.specs.declared.Rule.TheVariants.{Older}
 use Rattle.cut_rules.specs.declared.Settings.{Settings}
 use Rattle.cut_rules.specs.Plan.{fit}

@@ -1,6 +1,6 @@
 -- DEMAND 3, as one theorem over every call of a run: `Demand3`, and `Lifted` without the limit of three. What is supposed, what is promised,
 -- and nothing else; docs/DEMAND3.md sets each line beside the demand's words. The proofs are cited in proofs/Proved.antt, and assume nothing.
-use Rattle.std.specs.Prelude.{◌≡◌, Bool, true, false, cond, List, [], ◌∷◌, ℕ, ◌≤◌, ◌<◌, eqb, length}
+use Rattle.std.specs.Prelude.{◌≡◌, Bool, true, false, cond, List, [], ◌∷◌, ℕ, ◌≤◌, ◌<◌, eqb, length, Option, Some, Ok}
 use Rattle.base_rules.specs.Bytes.{Bytes, splice}
 use Rattle.base_rules.specs.Tests.{among}
 use Rattle.cut_rules.specs.declared.Settings.{Settings}
@@ -9,8 +9,6 @@ use Rattle.cut_rules.specs.Missing.{losses, suffice}
 use Rattle.cut_rules.specs.Sizes as cut
 use Rattle.header_rules.specs.Read.{bad_address}
 use Rattle.header_rules.specs.Claims.{Fitting}
-use Rattle.places_rules.specs.declared.Displaced.{Displaced}
-use Rattle.places_rules.specs.declared.Displaced.TheVariants.{Number}
 use Rattle.sender_rules.specs.Fragments.{fragment_for}
 use Rattle.sender_rules.specs.Calls.{packet_fault}
 use Rattle.receiver_rules.specs.declared.Received.TheVariants.{Kept, Delivered, Damaged}
@@ -80,24 +78,24 @@ BeforeDone g n packet P es = Each (λ earlier e. enough_after g n packet earlier
 -- ---- what is promised
 
 -- document 01: the answer that hands a packet out tells its length, the count of fragments not held, and a displaced number or none
-abbrev pub handing : ℕ → ℕ → Displaced → ℕ × List ℕ
-handing length missing d = number_of (Delivered length missing d)
+abbrev pub handing : ℕ → ℕ → Option ℕ → ℕ × List ℕ
+handing length missing d = number_of (Ok (Delivered length missing d))
 
 -- the call hands a packet out
-abbrev pub HandsOut : Call → ℕ → ℕ → Displaced → Type 0
+abbrev pub HandsOut : Call → ℕ → ℕ → Option ℕ → Type 0
 HandsOut e length missing d = e.left.answer ≡ handing length missing d
 
 -- "handed out byte for byte": with its length and the count of its fragments that have not come, and in the buffer at its front
 pub record Handed (g : Settings) (n : ℕ) (packet : List ℕ) (earlier : List Call) (e : Call) : Type 0 where
-  pub displaced : Displaced
+  pub displaced : Option ℕ
   pub told : HandsOut e (length packet) (losses (lost (key_for g n) (e ∷ earlier)) (count g packet)) displaced
   pub written : e.left.out ≡ splice e.lent 0 packet
 
 -- the answer names the displaced number, or that there was none; a delivering and a DAMAGED one too
-pub data Names (d : Displaced) : ℕ × List ℕ → Type 0 where
-  by_kept : Names d (number_of (Kept d))
+pub data Names (d : Option ℕ) : ℕ × List ℕ → Type 0 where
+  by_kept : Names d (number_of (Ok (Kept d)))
   by_delivered : (length missing : ℕ) → Names d (handing length missing d)
-  by_damaged : Names d (number_of (Damaged d))
+  by_damaged : Names d (number_of (Ok (Damaged d)))
 
 -- what is said of the call e after the calls `earlier`, each of which left its number held
 pub record Said (g : Settings) (n : ℕ) (packet : List ℕ) (earlier : List Call) (e : Call) : Type 0 where
@@ -107,11 +105,11 @@ pub record Said (g : Settings) (n : ℕ) (packet : List ℕ) (earlier : List Cal
   pub handed : enough_after g n packet earlier ≡ false → enough_after g n packet (e ∷ earlier) ≡ true → Handed g n packet earlier e
   -- "until then nothing of its number is handed out", "and not again while its number is held": a call that hands out a packet of its number,
   -- whatever its datagram and configuration, is the one with which it became enough
-  pub once : (length missing : ℕ) (d : Displaced) → HandsOut e length missing d → number_in e ≡ key_for g n
+  pub once : (length missing : ℕ) (d : Option ℕ) → HandsOut e length missing d → number_in e ≡ key_for g n
       → (enough_after g n packet earlier ≡ false) × (enough_after g n packet (e ∷ earlier) ≡ true)
   -- "the answer that displaces it while open names it"
   pub named : 0 < length earlier → (Holds (after e) (key_for g n) → ⊥) → enough_after g n packet earlier ≡ false
-      → Names (Number (key_for g n)) e.left.answer
+      → Names (Some (key_for g n)) e.left.answer
 
 -- ---- the theorem
 
@@ -171,5 +169,5 @@ StaysEnough =
 -- state, for any datagram, a number that the answer names was shown as open before the call, and is not held after it
 abbrev pub NamesGone : Type 0
 NamesGone =
-    (s : State) → Reached s → (e : Call) → Made s e → (key : ℕ) → Names (Number key) e.left.answer
+    (s : State) → Reached s → (e : Call) → Made s e → (key : ℕ) → Names (Some key) e.left.answer
     → ShownOpen s key × (Holds (after e) key → ⊥)

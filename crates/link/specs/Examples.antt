@@ -1,19 +1,19 @@
 -- Demand 3 is not empty: two closed runs, `three_others` and `four_others`, line by line. There are such runs; in every one of them each call
 -- answers what its line says, and demand 3's suppositions hold, so that its promise does. The proofs are cited in proofs/Proved.antt.
-use Rattle.std.specs.Prelude.{◌≡◌, true, false, cond, List, [], ◌∷◌, ◌++◌, reverse, ℕ, ◌≤◌, eqb, length, replicate, take, drop}
+use Rattle.std.specs.Prelude.{◌≡◌, true, false, cond, List, [], ◌∷◌, ◌++◌, reverse, ℕ, ◌≤◌, eqb, length, replicate, take, drop, Option, Some, None, Result, Ok, Err}
+use Rattle.base_rules.specs.declared.Refusal.{Refusal}
+use Rattle.base_rules.specs.declared.Refusal.TheVariants as refusal
 use Rattle.base_rules.specs.Bounds.{most_l}
 use Rattle.base_rules.specs.Bytes.{splice}
 use Rattle.af_rules.specs.Packet.{packet_of}
 use Rattle.cut_rules.specs.declared.Address.{Address}
-use Rattle.cut_rules.specs.declared.Address.TheVariants.{Pair}
 use Rattle.cut_rules.specs.declared.Settings.{Settings}
 use Rattle.cut_rules.specs.Edge.{plain}
 use Rattle.cut_rules.specs.Plan.{two_losses_of}
-use Rattle.places_rules.specs.declared.Displaced.TheVariants.{None, Number}
 use Rattle.places_rules.specs.Places.{all_places}
 use Rattle.sender_rules.specs.Fragments.{fragment_for}
 use Rattle.receiver_rules.specs.declared.Received.{Received}
-use Rattle.receiver_rules.specs.declared.Received.TheVariants.{Kept, Delivered, Damaged, Refused}
+use Rattle.receiver_rules.specs.declared.Received.TheVariants.{Kept, Delivered, Damaged}
 use Rattle.receiver_rules.specs.Promise.{number_of, State}
 use Rattle.link.specs.Run.{Call, after, Run, fresh_with, Holds, ShownOpen, All, Each}
 use Rattle.link.specs.Demand.{key_for, Scene, Begins, Among, enough_after, BeforeDone, Handed, Names, HeldAfter, Said, Demanded}
@@ -21,8 +21,8 @@ use Rattle.link.specs.Demand.{key_for, Scene, Begins, Among, enough_after, Befor
 -- ---- the packets
 
 -- the address that the packet carries and the card is set for: Source 1, Dest 2
-abbrev pub here : Address
-here = Pair 1 2
+abbrev pub here : Option Address
+here = Some (record { source = 1; dest = 2 })
 
 -- document 01, "Bounds": the setting for two losses, but with this address
 abbrev pub two_losses : Settings
@@ -53,7 +53,7 @@ packet_under n = cond (eqb n number) packet other
 -- what comes in a call: fragment i of what is sent under the number n, at a card that is set for the address own; the same with a byte too
 -- many; or another datagram
 pub data Arrival : Type 0 where
-  Fragment : (own : Address) (n i : ℕ) → Arrival
+  Fragment : (own : Option Address) (n i : ℕ) → Arrival
   Longer : (n i : ℕ) → Arrival
   Other : List ℕ → Arrival
 
@@ -63,14 +63,14 @@ Its i = Fragment here number i
 
 -- fragment i of the packet, at a card that is set for another address
 abbrev pub Missed : ℕ → Arrival
-Missed i = Fragment (Pair 1 3) number i
+Missed i = Fragment (Some (record { source = 1; dest = 3 })) number i
 
 -- fragment i of the other packet, under the number n
 abbrev pub Of : ℕ → ℕ → Arrival
 Of n i = Fragment here n i
 
 -- the address that the card is set for
-unfoldable pub own_at : Arrival → Address
+unfoldable pub own_at : Arrival → Option Address
 own_at (Fragment own n i) = own
 own_at (Longer n i) = here
 own_at (Other d) = here
@@ -89,7 +89,7 @@ packet_at (Other d) = []
 
 -- a line: what comes, and what is answered
 abbrev pub Line : Type 0
-Line = Arrival × Received
+Line = Arrival × Result Received Refusal
 
 -- the call has what comes
 pub record Comes (line : Line) (e : Call) : Type 0 where
@@ -97,11 +97,11 @@ pub record Comes (line : Line) (e : Call) : Type 0 where
   pub datagram : e.datagram ≡ datagram_at line.0
 
 -- what is in the packet buffer after an answer: the packet at its front where it is handed out, else what was lent
-unfoldable pub out_after : Received → List ℕ → List ℕ → List ℕ
-out_after (Kept d) packet lent = lent
-out_after (Delivered l m d) packet lent = splice lent 0 packet
-out_after (Damaged d) packet lent = lent
-out_after (Refused n) packet lent = lent
+unfoldable pub out_after : Result Received Refusal → List ℕ → List ℕ → List ℕ
+out_after (Ok (Kept d)) packet lent = lent
+out_after (Ok (Delivered l m d)) packet lent = splice lent 0 packet
+out_after (Ok (Damaged d)) packet lent = lent
+out_after (Err n) packet lent = lent
 
 -- and it answers what the line says
 pub record Answers (line : Line) (e : Call) : Type 0 where
@@ -163,11 +163,11 @@ pub record Gone (g : Settings) (n : ℕ) (packet : List ℕ) (first : State) (es
   -- so its number shows as open until then, and the answer of that call names it
   pub shown : All (λ e. ShownOpen (after e) (key_for g n)) earlier
   pub said : Said g n packet earlier last
-  pub named : Names (Number (key_for g n)) last.left.answer
+  pub named : Names (Some (key_for g n)) last.left.answer
 
 -- old packets, one in each of the four places
 unfoldable pub opening : List Line
-opening = (Of 101 0, Kept None) ∷ (Of 102 0, Kept None) ∷ (Of 103 0, Kept None) ∷ (Of 104 0, Kept None) ∷ []
+opening = (Of 101 0, Ok (Kept None)) ∷ (Of 102 0, Ok (Kept None)) ∷ (Of 103 0, Ok (Kept None)) ∷ (Of 104 0, Ok (Kept None)) ∷ []
 
 -- ---- three other numbers
 
@@ -175,43 +175,43 @@ opening = (Of 101 0, Kept None) ∷ (Of 102 0, Kept None) ∷ (Of 103 0, Kept No
 unfoldable pub three_others : List Line
 three_others =
     -- its first fragment to come is not fragment 0; it displaces an old packet
-    (Its 4, Kept (Number 101))
+    (Its 4, Ok (Kept (Some 101)))
     -- an empty datagram
-    ∷ (Other [], Refused 2)
+    ∷ (Other [], Err refusal.Short)
     -- the first other number, without FEC: its last fragment comes first, of which the size of the others cannot be told
-    ∷ (Of 1 1, Kept (Number 102))
-    ∷ (Its 0, Kept None)
+    ∷ (Of 1 1, Ok (Kept (Some 102)))
+    ∷ (Its 0, Ok (Kept None))
     -- a repeat
-    ∷ (Its 0, Refused 12)
+    ∷ (Its 0, Err refusal.Repeat)
     -- the second other number, and a repeat of it
-    ∷ (Of 2 0, Kept (Number 103))
-    ∷ (Of 2 0, Refused 12)
+    ∷ (Of 2 0, Ok (Kept (Some 103)))
+    ∷ (Of 2 0, Err refusal.Repeat)
     -- "PF" and nothing behind it; and 14 bytes that begin with "AF"
-    ∷ (Other (0x50 ∷ 0x46 ∷ []), Refused 2)
-    ∷ (Other (0x41 ∷ 0x46 ∷ replicate 12 0), Refused 3)
-    ∷ (Its 1, Kept None)
-    ∷ (Its 2, Kept None)
+    ∷ (Other (0x50 ∷ 0x46 ∷ []), Err refusal.Short)
+    ∷ (Other (0x41 ∷ 0x46 ∷ replicate 12 0), Err refusal.Sync)
+    ∷ (Its 1, Ok (Kept None))
+    ∷ (Its 2, Ok (Kept None))
     -- addresses do not match: fragment 3 has not come by this
-    ∷ (Missed 3, Refused 6)
+    ∷ (Missed 3, Err refusal.Address)
     -- the third other number
-    ∷ (Of 3 0, Kept (Number 104))
+    ∷ (Of 3 0, Ok (Kept (Some 104)))
     -- number 1's last fragment missing: that packet is handed out; and not again
-    ∷ (Of 1 0, Delivered 1387 0 None)
-    ∷ (Of 1 1, Refused 11)
+    ∷ (Of 1 0, Ok (Delivered 1387 0 None))
+    ∷ (Of 1 1, Err refusal.Late)
     -- fragment 5 is lost
-    ∷ (Its 6, Kept None)
+    ∷ (Its 6, Ok (Kept None))
     -- fragment 7 has a byte too many: it has not come by this either
-    ∷ (Longer number 7, Refused 5)
-    ∷ (Its 8, Kept None)
-    ∷ (Its 9, Kept None)
+    ∷ (Longer number 7, Err refusal.Length)
+    ∷ (Its 8, Ok (Kept None))
+    ∷ (Its 9, Ok (Kept None))
     -- with this one 8 of the 12 have come: four are missing, which do not rebuild
-    ∷ (Its 10, Kept None)
+    ∷ (Its 10, Ok (Kept None))
     -- and with this one 9: three are missing, which do
-    ∷ (Its 11, Delivered 415 3 None)
+    ∷ (Its 11, Ok (Delivered 415 3 None))
     -- fragment 3 after all: too late
-    ∷ (Its 3, Refused 11)
+    ∷ (Its 3, Err refusal.Late)
     -- a fourth other number, now that it is done: it displaces it and names none
-    ∷ (Of 4 0, Kept None)
+    ∷ (Of 4 0, Ok (Kept None))
     ∷ []
 
 -- what such a run shows
@@ -239,12 +239,12 @@ pub record ThreeOthers : Type 0 where
 -- demand 3: "Lift the limit of three"
 unfoldable pub four_others : List Line
 four_others =
-    (Its 0, Kept (Number 101))
-    ∷ (Of 1 0, Kept (Number 102))
-    ∷ (Of 2 0, Kept (Number 103))
-    ∷ (Of 3 0, Kept (Number 104))
+    (Its 0, Ok (Kept (Some 101)))
+    ∷ (Of 1 0, Ok (Kept (Some 102)))
+    ∷ (Of 2 0, Ok (Kept (Some 103)))
+    ∷ (Of 3 0, Ok (Kept (Some 104)))
     -- the fourth: the place opened longest ago is now that of 5
-    ∷ (Of 4 0, Kept (Number 5))
+    ∷ (Of 4 0, Ok (Kept (Some 5)))
     ∷ []
 
 -- what such a run shows: the last of the five calls behind the opening displaces the packet

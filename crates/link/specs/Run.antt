@@ -1,5 +1,5 @@
 -- Runs of the receiver, and what came in them, as demand 3 speaks of them. A run's step is what `receive` promises, `Step`, by name.
-use Rattle.std.specs.Prelude.{◌≡◌, Bool, false, not, ◌||◌, ◌&&◌, List, [], ◌∷◌, ◌++◌, map, ℕ, ◌≤◌, ◌<◌, eqb, length}
+use Rattle.std.specs.Prelude.{◌≡◌, Bool, false, not, ◌||◌, ◌&&◌, List, [], ◌∷◌, ◌++◌, map, ℕ, ◌≤◌, ◌<◌, eqb, length, Option}
 use Rattle.base_rules.specs.Answer.{granted}
 use Rattle.base_rules.specs.Bounds.{most_l}
 use Rattle.base_rules.specs.Bytes.{Bytes}
@@ -11,7 +11,7 @@ use Rattle.receiver_rules.specs.Calls.{shown_of, query_call}
 
 -- a call: the configured address, the datagram, the packet buffer that is lent, and what the call left
 pub record Call : Type 0 where
-  pub own : Address
+  pub own : Option Address
   pub datagram : List ℕ
   pub lent : List ℕ
   pub left : Reception
@@ -58,7 +58,7 @@ pub record ShownOpen (s : State) (n : ℕ) : Type 0 where
 
 -- what a call is handed
 pub record Input : Type 0 where
-  pub own : Address
+  pub own : Option Address
   pub datagram : List ℕ
   pub lent : List ℕ
 

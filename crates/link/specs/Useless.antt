@@ -1,17 +1,15 @@
 -- Document 01, "What a promise has to say here": the useless stacks, and the false count. None of them keeps the promise: `Falls`.
-use Rattle.std.specs.Prelude.{◌≡◌, true, false, List, [], ◌∷◌, ℕ, ◌≤◌, ◌<◌, length}
+use Rattle.std.specs.Prelude.{◌≡◌, true, false, List, [], ◌∷◌, ℕ, ◌≤◌, ◌<◌, length, Option}
 use Rattle.base_rules.specs.Answer as answer
 use Rattle.base_rules.specs.Bounds.{most_l}
 use Rattle.base_rules.specs.Bytes.{Bytes, splice}
 use Rattle.cut_rules.specs.declared.Address.{Address}
 use Rattle.cut_rules.specs.declared.Settings.{Settings}
-use Rattle.places_rules.specs.declared.Displaced.{Displaced}
 use Rattle.places_rules.specs.Places.{place_at, all_places}
 use Rattle.form_rules.specs.Agree.{missing_in}
 use Rattle.sender_rules.specs.Calls.{fragment_call, fragments_call}
 use Rattle.sender_rules.specs.Fragments.{fragment_for, fragments_for}
-use Rattle.receiver_rules.specs.declared.Received.TheVariants.{Refused}
-use Rattle.receiver_rules.specs.Promise.{number_of, Reception, State, Step}
+use Rattle.receiver_rules.specs.Promise.{Reception, State, Step}
 use Rattle.receiver_rules.specs.Claims.{kept_by}
 use Rattle.link.specs.Run.{Call, after, fresh_with, Holds, number_in, All}
 use Rattle.link.specs.Demand.{Takes, count, key_for, Own, enough_after, handing, HandsOut, Handed, HeldAfter}
@@ -20,11 +18,11 @@ use Rattle.link.specs.Demand.{Takes, count, key_for, Own, enough_after, handing,
 
 -- a receiver: what it leaves, from every state and for every input
 abbrev pub Receiver : Type 0
-Receiver = Address → State → List ℕ → List ℕ → Reception
+Receiver = Option Address → State → List ℕ → List ℕ → Reception
 
 -- it keeps the promise: each reception meets that of `receive`
 pub record Keeps (R : Receiver) : Type 0 where
-  pub meets : (own : Address) (s : State) (datagram out : List ℕ) → Bytes datagram → Step own s datagram out (R own s datagram out)
+  pub meets : (own : Option Address) (s : State) (datagram out : List ℕ) → Bytes datagram → Step own s datagram out (R own s datagram out)
 
 -- a call of its own in the state s: it "lends full room", a datagram is bytes, and what the call left is what the receiver leaves
 pub record Serves (R : Receiver) (s : State) (e : Call) : Type 0 where
@@ -50,13 +48,13 @@ Always R P = (s : State) → Reaches R s → (e : Call) → Serves R s e → P s
 
 -- document 01, "Numbers given back": the answer says that a packet is handed out
 abbrev pub Delivers : Call → Type 0
-Delivers e = (l : ℕ) × (m : ℕ) × (d : Displaced) × HandsOut e l m d
+Delivers e = (l : ℕ) × (m : ℕ) × (d : Option ℕ) × HandsOut e l m d
 
 -- ---- useless receivers
 
 -- "One that refuses everything"
 pub record RefusesAll (R : Receiver) : Type 0 where
-  pub refuses : Always R (λ s e. (n : ℕ) × (e.left.answer ≡ number_of (Refused n)))
+  pub refuses : Always R (λ s e. (n : ℕ) × (e.left.answer ≡ (n, [])))
 
 -- "demand 3 forces delivery": one that hands nothing out, though it keeps every fragment for ever or answers DAMAGED for ever
 pub record HandsNothing (R : Receiver) : Type 0 where
@@ -118,14 +116,14 @@ pub record Invents (R : Receiver) : Type 0 where
 
 -- "A false count of missing fragments": one that a delivery of its own tells, and the set kept in the record that it left does not
 pub record FalseCount (R : Receiver) : Type 0 where
-  pub own : Address
+  pub own : Option Address
   pub state : State
   pub datagram : List ℕ
   pub out : List ℕ
   pub bytes : Bytes datagram
   pub l : ℕ
   pub m : ℕ
-  pub displaced : Displaced
+  pub displaced : Option ℕ
   pub told : (R own state datagram out).answer ≡ handing l m displaced
   pub false_count : m ≡ missing_in (place_at (R own state datagram out).table (kept_by state datagram).at) → ⊥
 

@@ -10,10 +10,9 @@ ghost use Rattle.base_rules.specs.Answer.{outcome};
 ghost use Rattle.lister_rules.specs.Listing.{containers, newline, head_line, item_line, lines_of, refused_line, payload_lines, listing_of};
 ghost use Rattle.lister_rules.specs.Calls.{number_of, list_call};
 
-use af::{Checked, Figures, MOST_PAYLOAD};
-use base::MOST_L;
+use af::{Figures, MOST_PAYLOAD};
+use base::{MOST_L, Refusal};
 use item::{HEAD, Repeats};
-pub use lister_rules::Listed;
 use walk::{Handed, Visit, Walker};
 
 // A buffer as long as this holds every packet and a byte more. So a program may stop reading where it is full: a longer input is listed as
@@ -26,7 +25,7 @@ pub const LISTING: usize = MOST_PAYLOAD / HEAD * 17 + 25;
 // The only container.
 const CONTAINERS: [u8; 4] = *b"fio_";
 
-// A word, a number and the end of the line.
+// A word, a number and the end of the line: laid by `text`, whose writers promise each byte, as far as out goes.
 fn number_line(out: &mut [u8], at: usize, word: &[u8], n: usize) -> usize
     ensures { (result ≡ behind out.old at (word.now ++ (decimal_of n ++ newline)))
         × (out.new ≡ laid out.old at (word.now ++ (decimal_of n ++ newline))) }
@@ -36,14 +35,14 @@ fn number_line(out: &mut [u8], at: usize, word: &[u8], n: usize) -> usize
     text::plain(out, to, b"\n")
 }
 
-// The line of a refusal, which stands alone.
+// The line of a refusal, which stands alone: laid by `text`, so that its bytes are promised.
 fn refused_line(out: &mut [u8], n: u8) -> usize
     ensures { (result ≡ behind out.old 0 (refused_line n)) × (out.new ≡ laid out.old 0 (refused_line n)) }
 {
     number_line(out, 0, b"refused ", n as usize)
 }
 
-// The line on the packet, which is the first.
+// The line on the packet, which is the first: laid by `text`, so that its bytes are promised.
 fn head_line(out: &mut [u8], figures: Figures) -> usize
     ensures { (result ≡ behind out.old 0 (head_line figures.seq figures.minor figures.len))
         × (out.new ≡ laid out.old 0 (head_line figures.seq figures.minor figures.len)) }
@@ -55,7 +54,7 @@ fn head_line(out: &mut [u8], figures: Figures) -> usize
     number_line(out, to, b" ", figures.len as usize)
 }
 
-// The line on an item.
+// The line on an item: laid by `text`, so that its bytes are promised.
 fn item_line(out: &mut [u8], at: usize, visit: Visit) -> usize
     ensures { (result ≡ behind out.old at (item_line visit.depth visit.item))
         × (out.new ≡ laid out.old at (item_line visit.depth visit.item)) }
@@ -76,9 +75,12 @@ fn item_lines(payload: &[u8], opened: Walker, out: &mut [u8], at: usize) -> usiz
 {
     let mut w = opened;
     let mut to = at;
+    // A loop and no iterator: each step gives the walker of the next.
     loop {
         let walked = walk::walk_step(payload, &CONTAINERS, w);
-        let handed = walked.handed;
+        let Ok(handed) = walked.handed else {
+            return to;
+        };
         match handed {
             Handed::Item(visit) => {
                 to = item_line(out, to, visit);
@@ -86,9 +88,6 @@ fn item_lines(payload: &[u8], opened: Walker, out: &mut [u8], at: usize) -> usiz
             }
             Handed::End(p) => {
                 return number_line(out, to, b"pad ", p.0);
-            }
-            Handed::Refused(_) => {
-                return to;
             }
         }
     }
@@ -115,22 +114,21 @@ fn lay(packet: &[u8], out: &mut [u8]) -> usize
     ensures { (result ≡ behind out.old 0 (listing_of packet.now))
         × (out.new ≡ laid out.old 0 (listing_of packet.now)) }
 {
-    let checked = af::check(packet);
-    match checked {
-        Checked::Refused(n) => refused_line(out, n),
-        Checked::Packet(figures) => list_payload(af::payload(packet), figures, out),
+    match af::check(packet) {
+        Err(e) => refused_line(out, u8::from(e)),
+        Ok(figures) => list_payload(af::payload(packet), figures, out),
     }
 }
 
 // Writes the listing of a packet at the front of out and answers its length; 1 where out is too short for it, and then out stays as it is.
-pub fn list(packet: &[u8], out: &mut [u8]) -> Listed
+pub fn list(packet: &[u8], out: &mut [u8]) -> Result<usize, Refusal>
     ensures { outcome (number_of result) out.new ≡ list_call packet.now out.old }
 {
     let mut listing = [0u8; LISTING];
     let n = lay(packet, &mut listing);
     if out.len() < n {
-        return Listed::Refused(1);
+        return Err(Refusal::Room);
     }
     text::plain(out, 0, &listing[..n]);
-    Listed::Length(n)
+    Ok(n)
 }

@@ -2,13 +2,16 @@
 -- Assumes nothing.
 use Prim.Native.Nat.{ℕ, zero, suc, ◌+◌, ◌-◌, ◌*◌, ◌≤◌, ◌<◌}
 use mathlib.Core.List.{List, [], ◌∷◌}
-use mathlib.Core.Path.{◌≡◌, refl}
+use mathlib.Core.Path.{◌≡◌, refl, ap}
 use mathlib.Core.Bool.{Bool, true, false, cond, ◌&&◌}
 use native.Mathlib.Nat.{mod-lt}
 use native.Mathlib.Omega.{arith}
 use borrow.Author.Tests.{ltb-false, eqb-true, eqb-false}
 use lib.Dec.{eqb}
 use lib.ListN.{length, length-append, length-take, length-drop}
+use Rattle.base_rules.specs.Refusal.{number}
+use Rattle.std.specs.Prelude.{Result, Ok, Err}
+use Rattle.base_rules.specs.declared.Refusal.{Refusal}
 use Rattle.base_rules.specs.Bytes.{Bytes}
 use Rattle.base_rules.specs.Tests.{first, among}
 use Rattle.base_rules.proofs.Ceil.{up}
@@ -118,21 +121,21 @@ module _ (inner : Item → Tour) (fits : (i : Item) → i.len.0 ≤ most_payload
       unless_fits fault _ _ (fault_few cs d (forbids Forbidden && among i.name seen) i)
       (λ z. ((omega (arith, depth_few cs d (forbids Forbidden && among i.name seen) i z), omega (arith, bits), both.0), omega (arith, both.1)))
 
-  bits_few : (at end : ℕ) (i : Item) → step_in s at end ≡ step.Item i → i.bits.0 ≤ i.len.0 * 8
+  bits_few : (at end : ℕ) (i : Item) → step_in s at end ≡ Ok (step.Item i) → i.bits.0 ≤ i.len.0 * 8
   unfolding item_at bytes_for
   bits_few at end i e = rw (item_at_lem s at end i e) (omega (arith, up (item_at s at).bits.0 8 (omega arith)))
 
   step_fits : (at end : ℕ) (seen : List ℕ) → end - at ≤ most_payload
       → ((b : ℕ) (names : List ℕ) → end - b < end - at → Fits (tour_by Forbidden inner cs d names (run_of s b end)) (end - b))
-      → (x : Step) → step_in s at end ≡ x → Fits (tour_by Forbidden inner cs d seen (run_of s at end)) (end - at)
-  unfolding tour_by visits
-  step_fits at end seen short rest (step.Item i) e =
+      → (x : Result Step Refusal) → step_in s at end ≡ x → Fits (tour_by Forbidden inner cs d seen (run_of s at end)) (end - at)
+  unfolding tour_by visits number
+  step_fits at end seen short rest (Ok (step.Item i)) e =
       let room = item_fits s at end i e in
       let behind = rest (next_of i) (i.name ∷ seen) (falls s at end i e) in
       let all = item_fits_in seen i (run_of s (next_of i) end) (end - next_of i) (bits_few at end i e) (omega arith) behind in
       rw (run-item s at end i e) (all.0, omega (arith, all.1, item_begins s at end i e))
-  step_fits at end seen short rest (step.End p) e = rw (run_end s at end p e) (omega (arith, end_few s at end p e), omega arith)
-  step_fits at end seen short rest (step.Refused n) e = rw (run-refused s at end n e) (omega (arith, refused_is s at end n e), omega arith)
+  step_fits at end seen short rest (Ok (step.End p)) e = rw (run_end s at end p e) (omega (arith, end_few s at end p e), omega arith)
+  step_fits at end seen short rest (Err n) e = rw (run-refused s at end n e) (omega (arith, ap number (refused_is s at end n e)), omega arith)
 
   -- the items of a run fit its bytes; `most` counts the turns
   run_fits : (most at end : ℕ) (seen : List ℕ) → end - at ≤ most → end - at ≤ most_payload

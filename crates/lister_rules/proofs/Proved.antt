@@ -1,5 +1,7 @@
 -- The claims of specs/Claims.antt, by citation. Assumes nothing.
-use Rattle.lister_rules.specs.declared.Listed.TheVariants.{Length, Refused}
+use mathlib.Core.List.{[], ◌∷◌}
+use Prim.Native.Nat.{ℕ}
+use Rattle.base_rules.proofs.Answers.{one_told}
 use Rattle.lister_rules.specs.Calls.{number_of}
 use Rattle.lister_rules.specs.Claims.{ListingFits, FirstBytes, OneListed}
 use Rattle.lister_rules.proofs.Bound.{listing_few}
@@ -16,7 +18,4 @@ first-bytes = lists_as_first
 -- no second answer of a listing has the same number and length
 pub one_listed : OneListed
 unfolding number_of
-one_listed (Length m) (Length n) e = cc
-one_listed (Length m) (Refused n) e = cc
-one_listed (Refused m) (Length n) e = cc
-one_listed (Refused m) (Refused n) e = cc
+one_listed a b e = one_told (λ n. n ∷ []) (λ (n m : ℕ) q. cc) a b e

@@ -7,11 +7,12 @@ use native.Mathlib.Omega.{arith}
 use lib.Dec.{eqb}
 use borrow.Author.Tests.{eq-eqb, ne_eqb}
 use Rattle.base_rules.specs.Answer.{granted, refused, answered}
-use Rattle.af_rules.specs.declared.Checked.{Checked}
-use Rattle.af_rules.specs.declared.Checked.TheVariants as checked
+use Rattle.std.specs.Prelude.{Result, Ok, Err}
+use Rattle.base_rules.specs.Refusal.{number, told}
+use Rattle.base_rules.specs.declared.Refusal.{Refusal}
 use Rattle.af_rules.specs.declared.Figures.{Figures}
 use Rattle.af_rules.specs.Packet.{seq_of, minor_of, len_of, payload_of}
-use Rattle.af_rules.specs.Calls.{af_fault, check_call, number_of}
+use Rattle.af_rules.specs.Calls.{af_fault, check_call, values_of, number_of}
 use Rattle.item_rules.specs.declared.Repeats.TheVariants.{Forbidden}
 use Rattle.walk_rules.specs.declared.Walker.{Walker}
 use Rattle.walk_rules.specs.Walk.{refusal, walk_of}
@@ -50,21 +51,21 @@ granted-tells given zero values e = (refl, cc)
 granted-tells given (suc fault) values e = let z : ◌≡◌ {A = ℕ} 0 1 = cc in absurd (omega arith)
 
 -- the listing of a packet, refused or not
-module _ (s : List ℕ) (a : Checked) (said : number_of a ≡ check_call s) where
+module _ (s : List ℕ) (a : Result Figures Refusal) (said : number_of a ≡ check_call s) where
   -- where the AF checks refuse it, the listing is the line of that refusal alone
-  pub packet-refused : (n : ℕ) → a ≡ checked.Refused n → refused_line n ≡ listing_of s
-  unfolding number_of check_call listing_of
-  packet-refused n q =
-      let told = refused-tells n (af_fault s) _ (sym (ap number_of q) ∙ said) in
-      ap refused_line told.0 ∙ sym (simp told.1)
+  pub packet-refused : (e : Refusal) → a ≡ Err e → refused_line (number e) ≡ listing_of s
+  unfolding number_of told values_of check_call listing_of
+  packet-refused e q =
+      let due = refused-tells (number e) (af_fault s) _ (sym (ap number_of q) ∙ said) in
+      ap refused_line due.0 ∙ sym (simp due.1)
 
   -- where they pass it, the listing is that of its payload, with SEQ, revision and LEN in front
-  pub packet_passes : (f : Figures) (payload : List ℕ) → a ≡ checked.Packet f → payload ≡ payload_of s
+  pub packet_passes : (f : Figures) (payload : List ℕ) → a ≡ Ok f → payload ≡ payload_of s
       → payload_lines (head_line f.seq f.minor f.len) (walk_of Forbidden payload containers) ≡ listing_of s
-  unfolding number_of check_call listing_of
+  unfolding number_of told values_of check_call listing_of
   packet_passes f payload q p =
-      let told = granted-tells _ (af_fault s) _ (sym (ap number_of q) ∙ said) in
-      let seq : f.seq ≡ seq_of s = cc told.1 in
-      let minor : f.minor ≡ minor_of s = cc told.1 in
-      let len : f.len ≡ len_of s = cc told.1 in
-      rw (seq, minor, len, p) (sym (simp (eq-eqb (af_fault s) 0 told.0)))
+      let given = granted-tells _ (af_fault s) _ (sym (ap number_of q) ∙ said) in
+      let seq : f.seq ≡ seq_of s = cc given.1 in
+      let minor : f.minor ≡ minor_of s = cc given.1 in
+      let len : f.len ≡ len_of s = cc given.1 in
+      rw (seq, minor, len, p) (sym (simp (eq-eqb (af_fault s) 0 given.0)))

@@ -8,14 +8,16 @@ use borrow.Author.Tests.{lt-ltb, le-ltb}
 use lib.Dec.{lit<}
 use lib.ListN.{length, take, length-append}
 use lib.Seq.{take_all}
+use Rattle.std.specs.Prelude.{Result, Ok, Err}
+use Rattle.base_rules.specs.Refusal.{number, told}
+use Rattle.base_rules.specs.declared.Refusal.{Refusal}
+use Rattle.base_rules.specs.declared.Refusal.TheVariants as refusal
 use Rattle.base_rules.specs.Answer.{granted, outcome}
 use Rattle.base_rules.specs.Bytes.{Bytes, splice}
 use Rattle.base_rules.proofs.Answers.{writes, leaves}
 use Rattle.base_rules.proofs.Firsts.{due, skip, none_due}
 use Rattle.text_rules.specs.Text.{laid}
 use Rattle.text_rules.proofs.Laws.{whether, Lays, behind_fits, behind_within, laid_fits, laid_length, laid_here}
-use Rattle.lister_rules.specs.declared.Listed.{Listed}
-use Rattle.lister_rules.specs.declared.Listed.TheVariants.{Length, Refused}
 use Rattle.lister_rules.specs.Listing.{listing_of, most_listing}
 use Rattle.lister_rules.specs.Calls.{number_of, list_fault, list_call}
 use Rattle.lister_rules.proofs.Proved.{listing_fits, one_listed}
@@ -31,19 +33,19 @@ front_within d t r e long is = rw (long, is) (simp length-append (omega arith))
 
 module _ (packet out : List ℕ) where
   -- where out is too short for the listing, 1 is the answer, and out stays as it was
-  pub list_refused : length out < length (listing_of packet) → outcome (number_of (Refused 1)) out ≡ list_call packet out
-  unfolding number_of list_call list_fault
+  pub list_refused : length out < length (listing_of packet) → outcome (number_of (Err refusal.Room)) out ≡ list_call packet out
+  unfolding number_of told number list_call list_fault
   list_refused h = leaves 1 _ _ _ _ (lit< tt) (due 1 _ (lt-ltb (length out) (length (listing_of packet)) h))
 
   -- else its length is, and it stands at the front of out
   pub list_done : (y : List ℕ) → length (listing_of packet) ≤ length out → y ≡ splice out 0 (listing_of packet)
-      → outcome (number_of (Length (length (listing_of packet)))) y ≡ list_call packet out
-  unfolding number_of list_call list_fault
+      → outcome (number_of (Ok (length (listing_of packet)))) y ≡ list_call packet out
+  unfolding number_of told number list_call list_fault
   list_done y h e = writes _ _ _ _ _ (skip 1 _ (le-ltb (length out) (length (listing_of packet)) h) none_due) e
 
   -- a length that was answered is no greater than that of the buffer
-  pub listed_within : (a : Listed) (y : List ℕ) (n : ℕ) → outcome (number_of a) y ≡ list_call packet out → a ≡ Length n → n ≤ length y
-  unfolding number_of
+  pub listed_within : (a : Result ℕ Refusal) (y : List ℕ) (n : ℕ) → outcome (number_of a) y ≡ list_call packet out → a ≡ Ok n → n ≤ length y
+  unfolding number_of told number
   listed_within a y n e is =
       let text : List ℕ = listing_of packet in
       let told : outcome (granted (n ∷ [])) y ≡ list_call packet out = rw is at e in
@@ -58,13 +60,13 @@ module _ (packet out : List ℕ) where
 
   module _ (bytes : Bytes packet) where
     -- where out holds every listing, the listing stands at its front, and its length was answered
-    pub listed_whole : (a : Listed) (y : List ℕ) → most_listing ≤ length out → outcome (number_of a) y ≡ list_call packet out
-        → (a ≡ Length (length (listing_of packet))) × (y ≡ splice out 0 (listing_of packet))
+    pub listed_whole : (a : Result ℕ Refusal) (y : List ℕ) → most_listing ≤ length out → outcome (number_of a) y ≡ list_call packet out
+        → (a ≡ Ok (length (listing_of packet))) × (y ≡ splice out 0 (listing_of packet))
     listed_whole a y roomy e =
         let fits : length (listing_of packet) ≤ length out = omega (arith, listing_fits packet bytes) in
         let done = list_done (splice out 0 (listing_of packet)) fits refl in
-        let same : number_of a ≡ number_of (Length (length (listing_of packet))) = cc in
-        (one_listed a (Length (length (listing_of packet))) same, cc)
+        let same : number_of a ≡ number_of (Ok (length (listing_of packet))) = cc in
+        (one_listed a (Ok (length (listing_of packet))) same, cc)
 
     -- the listing laid into a buffer that holds every one
     module _ (room after : List ℕ) (n : ℕ) (roomy : length room ≡ most_listing) (w : Lays room 0 (listing_of packet) n after) where
@@ -80,12 +82,12 @@ module _ (packet out : List ℕ) where
           ∙ take_all (length room - 0) (listing_of packet) whole
 
       -- out is too short for it
-      pub list_short : length out < n → outcome (number_of (Refused 1)) out ≡ list_call packet out
+      pub list_short : length out < n → outcome (number_of (Err refusal.Room)) out ≡ list_call packet out
       list_short h = list_refused (omega (arith, long))
 
       -- and copied from there to the front of out
-      pub list_copied : (y : List ℕ) → n ≤ length out → y ≡ laid out 0 (take n after) → outcome (number_of (Length n)) y ≡ list_call packet out
+      pub list_copied : (y : List ℕ) → n ≤ length out → y ≡ laid out 0 (take n after) → outcome (number_of (Ok n)) y ≡ list_call packet out
       list_copied y h e =
           let fits : length (listing_of packet) ≤ length out - 0 = omega (arith, long) in
-          ap (λ (m : ℕ). outcome (number_of (Length m)) y) long
+          ap (λ (m : ℕ). outcome (number_of (Ok m)) y) long
           ∙ list_done y (omega (arith, long)) (e ∙ ap (laid out 0) text ∙ laid_fits out 0 (listing_of packet) fits)

@@ -1,16 +1,16 @@
 -- What listing a packet into a lent buffer answers; document 01, "Numbers given back", has the number.
+use Rattle.std.specs.Prelude.{Result}
+use Rattle.base_rules.specs.Refusal.{told}
+use Rattle.base_rules.specs.declared.Refusal.{Refusal}
 use Rattle.std.specs.Prelude.{List, [], ◌∷◌, ℕ, ltb, length}
-use Rattle.base_rules.specs.Answer.{Answer, granted, refused, Outcome, settled}
+use Rattle.base_rules.specs.Answer.{Answer, Outcome, settled}
 use Rattle.base_rules.specs.Bytes.{splice}
 use Rattle.base_rules.specs.Tests.{first}
-use Rattle.lister_rules.specs.declared.Listed.{Listed}
-use Rattle.lister_rules.specs.declared.Listed.TheVariants.{Length, Refused}
 use Rattle.lister_rules.specs.Listing.{listing_of}
 
 -- document 01's number and the value, for each case: the bytes of the listing
-unfoldable pub number_of : Listed → Answer
-number_of (Length n) = granted (n ∷ [])
-number_of (Refused n) = refused n
+unfoldable pub number_of : Result ℕ Refusal → Answer
+number_of r = told (λ n. n ∷ []) r
 
 -- document 01: what a listing of `len` bytes is refused for, with `room` bytes lent: 1 ROOM
 unfoldable pub list_fault : ℕ → ℕ → ℕ

@@ -1,7 +1,8 @@
 -- What holds of every listing and of the call's answer, as claims: the proofs are in proofs/Proved.antt.
+use Rattle.std.specs.Prelude.{Result}
+use Rattle.base_rules.specs.declared.Refusal.{Refusal}
 use Rattle.std.specs.Prelude.{List, ◌≡◌, ℕ, ◌≤◌, length, take}
 use Rattle.base_rules.specs.Bytes.{Bytes}
-use Rattle.lister_rules.specs.declared.Listed.{Listed}
 use Rattle.lister_rules.specs.Listing.{listing_of, most_listing, most_input}
 use Rattle.lister_rules.specs.Calls.{number_of}
 
@@ -15,4 +16,4 @@ FirstBytes = (s : List ℕ) → listing_of (take most_input s) ≡ listing_of s
 
 -- no second answer fits: document 01's number and the length tell which answer was given
 abbrev pub OneListed : Type 0
-OneListed = (a b : Listed) → number_of a ≡ number_of b → a ≡ b
+OneListed = (a b : Result ℕ Refusal) → number_of a ≡ number_of b → a ≡ b

@@ -6,7 +6,6 @@ ghost use Rattle.std.specs.Io.KnownBytes.{Appends};
 ghost use Rattle.base_rules.specs.Bytes.{splice};
 ghost use Rattle.lister_rules.specs.Listing.{listing_of, most_input, most_listing};
 
-use lister::Listed;
 use std::io;
 use std::io::{Read, Write};
 
@@ -16,6 +15,7 @@ fn read_input<R: Read>(reader: &mut R, input: &mut [u8]) -> io::Result<usize>
     ensures { IfOk result (λ n. n ≤ length input.new) }
 {
     let mut n = 0;
+    // A `while` and no range: each turn goes on by as many bytes as its read brought.
     while n < input.len() {
         let more = reader.read(&mut input[n..])?;
         if more == 0 {
@@ -33,8 +33,8 @@ fn list_whole(packet: &[u8], out: &mut [u8]) -> usize
         × (out.new ≡ splice out.old 0 (listing_of packet.now)) }
 {
     match lister::list(packet, out) {
-        Listed::Length(n) => n,
-        Listed::Refused(_) => 0,
+        Ok(n) => n,
+        Err(_) => 0,
     }
 }
 

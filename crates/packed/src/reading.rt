@@ -1,14 +1,14 @@
 // Unpacking.
-ghost use Rattle.std.specs.Prelude.{◌≡◌, cond, [], map, ◌+◌, ◌*◌, ◌≤◌, eqb, length, get_or};
+ghost use Rattle.std.specs.Prelude.{◌≡◌, true, cond, map, ◌+◌, ◌*◌, ◌≤◌, length, get_or};
 ghost use Rattle.base_rules.specs.Bounds.{most_f};
 ghost use Rattle.packed_rules.specs.Packed.{is_set, flag_bytes, place_from, place-bytes, table-bytes, table_from, bad_flags, bad_place_at, bad_record};
 ghost use Rattle.packed_rules.specs.Packed.{unpack_fault, unpack_call};
-ghost use Rattle.base_rules.specs.Answer.{answered};
+ghost use Rattle.base_rules.specs.Refusal.{fault_in};
 ghost use Rattle.base_rules.specs.Written.{number_of};
 ghost use Rattle.places_rules.specs.Places.{four, free_place, fresh_table};
 
 use crate::{FIGURES, ONE, RECORD, Unpacked};
-use base::{MOST_F, Written};
+use base::{MOST_F, Refusal};
 use places::{FOUR, Place, Table};
 
 // The flags that begin at i.
@@ -17,8 +17,8 @@ fn flags_from(s: &[u8], i: usize) -> [bool; MOST_F]
     ensures { result ≡ map is_set (flag_bytes s.now i) }
 {
     let mut kept = [false; MOST_F];
-    for j in 0..MOST_F {
-        kept[j] = s[i + j] != 0;
+    for (j, b) in s[i..i + MOST_F].iter().enumerate() {
+        kept[j] = *b != 0;
     }
     kept
 }
@@ -47,8 +47,8 @@ fn bad_flags(s: &[u8], i: usize) -> bool
     ensures { result ≡ bad_flags (flag_bytes s.now i) }
 {
     let mut bits = 0;
-    for j in 0..MOST_F {
-        bits = bits | s[i + j];
+    for b in &s[i..i + MOST_F] {
+        bits |= *b;
     }
     1 < bits
 }
@@ -58,10 +58,7 @@ fn bad_place_at(s: &[u8], i: usize) -> bool
     requires { i + place-bytes ≤ length s.now }
     ensures { result ≡ bad_place_at s.now i }
 {
-    if 1 < s[i + 7] {
-        return true;
-    }
-    bad_flags(s, i + FIGURES)
+    1 < s[i + 7] || bad_flags(s, i + FIGURES)
 }
 
 // Whether a flag of one of the four places is none.
@@ -69,72 +66,59 @@ fn bad_record(s: &[u8]) -> bool
     requires { length s.now ≡ table-bytes }
     ensures { result ≡ bad_record s.now }
 {
-    if bad_place_at(s, 0) {
-        return true;
-    }
-    if bad_place_at(s, ONE) {
-        return true;
-    }
-    if bad_place_at(s, 2 * ONE) {
-        return true;
-    }
-    bad_place_at(s, 3 * ONE)
+    bad_place_at(s, 0)
+        || bad_place_at(s, ONE)
+        || bad_place_at(s, 2 * ONE)
+        || bad_place_at(s, 3 * ONE)
 }
 
-// 1 or 14, the first that is due, or 0.
-fn fault_of(s: &[u8]) -> u8
-    ensures { result ≡ unpack_fault s.now }
+// 1 or 14, the first that is due.
+fn fault_of(s: &[u8]) -> Result<(), Refusal>
+    ensures { fault_in result ≡ unpack_fault s.now }
 {
     if s.len() != RECORD {
-        return 1;
+        return Err(Refusal::Room);
     }
-    if bad_record(s) { 14 } else { 0 }
+    if bad_record(s) {
+        return Err(Refusal::State);
+    }
+    Ok(())
 }
 
-// The record of the place whose bytes begin at i, where n refuses nothing, else a free one.
-fn place_by(n: u8, s: &[u8], i: usize) -> Place
-    requires { n ≡ 0 → i + place-bytes ≤ length s.now }
-    ensures { result ≡ cond (eqb n 0) (place_from s.now i) free_place }
+// The record of the place whose bytes begin at i, where they are taken, else a free one.
+fn place_by(taken: bool, s: &[u8], i: usize) -> Place
+    requires { taken ≡ true → i + place-bytes ≤ length s.now }
+    ensures { result ≡ cond taken (place_from s.now i) free_place }
 {
-    if n != 0 {
+    if !taken {
         return places::place_at(places::fresh(), 0);
     }
     place_from(s, i)
 }
 
 // Which place is displaced next, the same way.
-fn oldest_by(n: u8, s: &[u8]) -> u8
-    ensures { result ≡ cond (eqb n 0) (get_or s.now (four * place-bytes) 0) 0 }
+fn oldest_by(taken: bool, s: &[u8]) -> u8
+    ensures { result ≡ cond taken (get_or s.now (four * place-bytes) 0) 0 }
 {
-    if n != 0 {
+    if !taken {
         return 0;
     }
     base::byte_at(s, FOUR * ONE)
 }
 
-// The record in the bytes, where n refuses nothing, else a fresh one. One way for both: a choice between two records would copy each.
-fn table_by(n: u8, s: &[u8]) -> Table
-    requires { n ≡ 0 → length s.now ≡ table-bytes }
-    ensures { result ≡ cond (eqb n 0) (table_from s.now) fresh_table }
+// The record in the bytes, where they are taken, else a fresh one. One way for both: a choice between two records would copy each.
+fn table_by(taken: bool, s: &[u8]) -> Table
+    requires { taken ≡ true → length s.now ≡ table-bytes }
+    ensures { result ≡ cond taken (table_from s.now) fresh_table }
 {
-    let a = place_by(n, s, 0);
-    let b = place_by(n, s, ONE);
-    let c = place_by(n, s, 2 * ONE);
-    let d = place_by(n, s, 3 * ONE);
+    let a = place_by(taken, s, 0);
+    let b = place_by(taken, s, ONE);
+    let c = place_by(taken, s, 2 * ONE);
+    let d = place_by(taken, s, 3 * ONE);
     Table {
         places: [a, b, c, d],
-        oldest: oldest_by(n, s),
+        oldest: oldest_by(taken, s),
     }
-}
-
-// The answer with that number.
-fn written_by(n: u8) -> Written
-    ensures { number_of result ≡ answered n [] }
-{
-    if n == 0 {
-        return Written::Done;
-    }
-    Written::Refused(n)
 }
 
 // Reads the record from its bytes; 1 ROOM where they are not as many, 14 STATE where a flag is none. Whether its fields are in their
@@ -142,9 +126,9 @@ fn written_by(n: u8) -> Written
 pub fn unpack(s: &[u8]) -> Unpacked
     ensures { (number_of result.answer, result.table) ≡ unpack_call s.now }
 {
-    let n = fault_of(s);
+    let answer = fault_of(s);
     Unpacked {
-        table: table_by(n, s),
-        answer: written_by(n),
+        table: table_by(answer.is_ok(), s),
+        answer,
     }
 }

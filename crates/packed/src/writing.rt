@@ -8,23 +8,16 @@ ghost use Rattle.places_rules.specs.Places.{place_at};
 ghost use Rattle.packed_rules.specs.Packed.{figures_of, packed_place, place-bytes, pack_call};
 
 use crate::{FIGURES, ONE, RECORD};
-use base::{MOST_F, Written};
+use base::{MOST_F, Refusal};
 use places::{FOUR, Place, Table};
-
-// A flag as a byte.
-fn flag(b: bool) -> u8
-    ensures { result ≡ bit b }
-{
-    if b { 1 } else { 0 }
-}
 
 // The flags as bytes.
 fn flags(kept: [bool; MOST_F]) -> [u8; MOST_F]
     ensures { result ≡ map bit kept }
 {
     let mut bytes = [0u8; MOST_F];
-    for i in 0..MOST_F {
-        bytes[i] = flag(kept[i]);
+    for (i, k) in kept.iter().enumerate() {
+        bytes[i] = u8::from(*k);
     }
     bytes
 }
@@ -37,7 +30,7 @@ fn figures(p: Place) -> [u8; FIGURES]
     let f = base::bytes4(p.count);
     let s = base::bytes2(p.size);
     let l = base::bytes2(p.last);
-    let fec = flag(p.fec);
+    let fec = u8::from(p.fec);
     [
         p.condition,
         n[0],
@@ -63,17 +56,17 @@ fn put_place(out: &mut [u8], at: usize, t: Table, i: usize)
         × (out.new ≡ splice out.old at (packed_place (place_at t i))) }
 {
     let p = places::place_at(t, i);
-    base::put(out, at, &figures(p));
+    let _ = base::put(out, at, &figures(p));
     let kept = p.kept;
-    base::put(out, at + FIGURES, &flags(kept));
+    let _ = base::put(out, at + FIGURES, &flags(kept));
 }
 
 // Writes the record at the front of out; 1 ROOM where it does not fit, and then out stays as it is.
-pub fn pack(t: Table, out: &mut [u8]) -> Written
+pub fn pack(t: Table, out: &mut [u8]) -> Result<(), Refusal>
     ensures { outcome (number_of result) out.new ≡ pack_call t out.old }
 {
     if out.len() < RECORD {
-        return Written::Refused(1);
+        return Err(Refusal::Room);
     }
     put_place(out, 0, t, 0);
     put_place(out, ONE, t, 1);

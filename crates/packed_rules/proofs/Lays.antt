@@ -11,8 +11,10 @@ use Rattle.base_rules.specs.Bounds.{most_f}
 use Rattle.base_rules.specs.Bytes.{splice, bytes_of}
 use Rattle.base_rules.specs.Tests.{bit}
 use Rattle.base_rules.specs.Written.{number_of, put_of}
-use Rattle.base_rules.specs.declared.Written.{Written}
-use Rattle.base_rules.specs.declared.Written.TheVariants.{Refused}
+use Rattle.std.specs.Prelude.{Result, Err}
+use Rattle.base_rules.specs.Refusal.{told, number}
+use Rattle.base_rules.specs.declared.Refusal.{Refusal}
+use Rattle.base_rules.specs.declared.Refusal.TheVariants as refusal
 use Rattle.base_rules.proofs.Answers.{writes, leaves, put_is, put_done}
 use Rattle.base_rules.proofs.Firsts.{due, skip, none_due}
 use Rattle.base_rules.proofs.Splice.{splice-length, splice_next, splice-then}
@@ -72,15 +74,15 @@ next_laid out x y a b n long is_x is_y = is_y ∙ ap (λ (l : List ℕ). splice 
 
 module _ (t : Table) (out : List ℕ) where
   -- packing into fewer bytes than a record takes is refused as 1 ROOM, and the bytes stay
-  pub no_room : length out < table-bytes → outcome (number_of (Refused 1)) out ≡ pack_call t out
-  unfolding number_of pack_call
+  pub no_room : length out < table-bytes → outcome (number_of (Err refusal.Room)) out ≡ pack_call t out
+  unfolding number_of told number pack_call
   no_room h = leaves 1 _ _ _ _ (lit< tt) (due 1 _ (lt-ltb (length out) table-bytes h))
 
   -- with room, the four places one behind another and then the oldest are what packing writes
-  pub table_laid : (x₁ x₂ x₃ x₄ y : List ℕ) (w : Written) → table-bytes ≤ length out → Laid t 0 0 out x₁ → Laid t 1 place-bytes x₁ x₂
+  pub table_laid : (x₁ x₂ x₃ x₄ y : List ℕ) (w : Result (Unit {0}) Refusal) → table-bytes ≤ length out → Laid t 0 0 out x₁ → Laid t 1 place-bytes x₁ x₂
       → Laid t 2 (2 * place-bytes) x₂ x₃ → Laid t 3 (3 * place-bytes) x₃ x₄
       → outcome (number_of w) y ≡ put_of x₄ (four * place-bytes) (t.oldest ∷ []) → outcome (number_of w) y ≡ pack_call t out
-  unfolding number_of pack_call packed_of
+  unfolding number_of told pack_call packed_of
   table_laid x₁ x₂ x₃ x₄ y w room e₁ e₂ e₃ e₄ e =
       let p₀ : List ℕ = packed_place (place_at t 0) in
       let p₁ : List ℕ = packed_place (place_at t 1) in

@@ -1,5 +1,6 @@
 -- The claims of specs/Claims.antt, each by citation. Assumes nothing.
 use mathlib.Core.Path.{refl, sym}
+use Rattle.base_rules.specs.Refusal.{told}
 use Rattle.base_rules.specs.Written.{number_of}
 use Rattle.base_rules.specs.Bytes.{bytes_of}
 use Rattle.places_rules.specs.Places.{fresh_table, place_at}
@@ -11,7 +12,7 @@ use Rattle.packed_rules.proofs.Again.{table_again}
 
 -- a record whose fields fit their bytes is packed and unpacked as itself
 pub unpacks : Unpacks
-unfolding number_of
+unfolding number_of told
 unpacks t h = sym (unpack_done (packed_of t) t (no_fault (packed_of t) (table-length t h) (table_good t h)) (sym (table_back t h)))
 
 -- bytes that unpacking takes are those that packing their record gives

@@ -5,7 +5,7 @@ mod faults;
 mod record;
 
 pub use faults::{bad_place, bad_table, place_fault};
-pub use places_rules::{ALL_PLACES, DELIVERED, Displaced, FOUR, FREE, OPEN, Place, SPOILED, Table};
+pub use places_rules::{ALL_PLACES, DELIVERED, FOUR, FREE, OPEN, Place, SPOILED, Table};
 pub use record::{
     displaced_at, fresh, held_at, in_condition, kept_in, offset_of, open_at, opened_by, place_at,
     turned, with_place,

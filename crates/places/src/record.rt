@@ -3,7 +3,7 @@ ghost use Rattle.std.specs.Prelude.{◌≡◌, true, cond, eqb, set};
 ghost use Rattle.places_rules.specs.Places.{free, free_place, fresh_table, place_at, with_place, key_of, holds, held_at, open_at, displaced_at};
 ghost use Rattle.places_rules.specs.Places.{turned as turned_of, opened_by, is_last, offset_of, kept_in, in_condition};
 
-use crate::{Displaced, FOUR, FREE, OPEN, Place, Table};
+use crate::{FOUR, FREE, OPEN, Place, Table};
 use base::{MOST_F, PLACE};
 use header::Header;
 
@@ -39,11 +39,7 @@ pub fn fresh() -> Table
 pub fn place_at(t: Table, i: usize) -> Place
     ensures { result ≡ place_at t i }
 {
-    let places = t.places;
-    if i < FOUR {
-        return places[i];
-    }
-    free_place()
+    if i < FOUR { t.places[i] } else { free_place() }
 }
 
 // The table with place i as p; past the fourth nothing changes. Never made part of its caller, on whose stack its copies would lie all along.
@@ -63,31 +59,20 @@ pub fn with_place(t: Table, i: usize, p: Place) -> Table
 }
 
 // Whether a place holds that number.
-fn is_held(t: Table, i: usize, number: u16) -> bool
-    ensures { result ≡ holds (place_at t i) number }
+fn holds(p: &Place, number: u16) -> bool
+    ensures { result ≡ holds p.now number }
 {
-    let p = place_at(t, i);
-    if p.condition == FREE {
-        return false;
-    }
-    p.number == number
+    p.condition != FREE && p.number == number
 }
 
 // The place that holds a fragment's number, or 4.
 pub fn held_at(t: Table, h: Header) -> usize
     ensures { result ≡ held_at t (key_of h) }
 {
-    let number = h.number;
-    if is_held(t, 0, number) {
-        return 0;
-    }
-    if is_held(t, 1, number) {
-        return 1;
-    }
-    if is_held(t, 2, number) {
-        return 2;
-    }
-    if is_held(t, 3, number) { 3 } else { FOUR }
+    t.places
+        .iter()
+        .position(|p| holds(p, h.number))
+        .unwrap_or(FOUR)
 }
 
 // Whether place i is free.
@@ -102,40 +87,33 @@ fn is_free(t: Table, i: usize) -> bool
 pub fn open_at(t: Table) -> usize
     ensures { result ≡ open_at t }
 {
-    if is_free(t, 0) {
-        return 0;
-    }
-    if is_free(t, 1) {
-        return 1;
-    }
-    if is_free(t, 2) {
-        return 2;
-    }
-    if is_free(t, 3) { 3 } else { t.oldest as usize }
+    t.places
+        .iter()
+        .position(|p| p.condition == FREE)
+        .unwrap_or(t.oldest as usize)
 }
 
 // The number that opening place i displaces: that of an open place.
-pub fn displaced_at(t: Table, i: usize) -> Displaced
+pub fn displaced_at(t: Table, i: usize) -> Option<u16>
     ensures { result ≡ displaced_at t i }
 {
     let p = place_at(t, i);
     if p.condition == OPEN {
-        return Displaced::Number(p.number);
+        return Some(p.number);
     }
-    Displaced::None
+    None
 }
 
 // The table when place i is opened: where it was not free, the next one is displaced next.
 pub fn turned(t: Table, i: usize) -> Table
     ensures { result ≡ turned_of t i }
 {
-    let places = t.places;
     if is_free(t, i) {
         return t;
     }
     Table {
-        places,
         oldest: ((t.oldest as usize + 1) % FOUR) as u8,
+        ..t
     }
 }
 
@@ -160,10 +138,7 @@ pub fn opened_by(h: Header) -> Place
 pub fn is_last(h: Header) -> bool
     ensures { result ≡ is_last h }
 {
-    if h.fec {
-        return false;
-    }
-    h.count as usize <= h.index as usize + 1
+    !h.fec && h.count as usize <= h.index as usize + 1
 }
 
 // Where a fragment's payload stands in its place.
@@ -172,26 +147,10 @@ pub fn offset_of(h: Header) -> usize
 {
     let plen = h.plen as usize;
     if is_last(h) {
-        if plen < PLACE {
-            return PLACE - plen;
-        }
-        return 0;
+        PLACE.saturating_sub(plen)
+    } else {
+        h.index as usize * plen
     }
-    h.index as usize * plen
-}
-
-// The size of a place's fragments with one fragment more: the last one does not tell it.
-fn size_with(p: Place, h: Header) -> u16
-    ensures { result ≡ cond (is_last h) p.size h.plen }
-{
-    if is_last(h) { p.size } else { h.plen }
-}
-
-// The size of its last fragment with one fragment more.
-fn last_with(p: Place, h: Header) -> u16
-    ensures { result ≡ cond (is_last h) h.plen p.last }
-{
-    if is_last(h) { h.plen } else { p.last }
 }
 
 // Which fragments are kept, with fragment i; past the bound nothing changes.
@@ -201,25 +160,27 @@ fn with_fragment(p: Place, i: usize) -> [bool; MOST_F]
     let mut kept = p.kept;
     if i < MOST_F {
         kept[i] = true;
-        return kept;
     }
     kept
 }
 
-// The place with one fragment more.
+// The place with one fragment more: the last one tells its own size alone.
 pub fn kept_in(p: Place, h: Header) -> Place
     ensures { result ≡ kept_in p h }
 {
-    Place {
-        condition: p.condition,
-        number: p.number,
-        count: p.count,
-        fec: p.fec,
-        rsk: p.rsk,
-        rsz: p.rsz,
-        size: size_with(p, h),
-        last: last_with(p, h),
-        kept: with_fragment(p, h.index as usize),
+    let kept = with_fragment(p, h.index as usize);
+    if is_last(h) {
+        Place {
+            last: h.plen,
+            kept,
+            ..p
+        }
+    } else {
+        Place {
+            size: h.plen,
+            kept,
+            ..p
+        }
     }
 }
 
@@ -227,16 +188,5 @@ pub fn kept_in(p: Place, h: Header) -> Place
 pub fn in_condition(p: Place, condition: u8) -> Place
     ensures { result ≡ in_condition p condition }
 {
-    let kept = p.kept;
-    Place {
-        condition,
-        number: p.number,
-        count: p.count,
-        fec: p.fec,
-        rsk: p.rsk,
-        rsz: p.rsz,
-        size: p.size,
-        last: p.last,
-        kept,
-    }
+    Place { condition, ..p }
 }

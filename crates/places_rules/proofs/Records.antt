@@ -13,7 +13,7 @@ use Rattle.base_rules.specs.Bounds.{place}
 use Rattle.header_rules.specs.declared.Header.{Header}
 use Rattle.places_rules.specs.declared.Place.{Place}
 use Rattle.places_rules.specs.declared.Table.{Table}
-use Rattle.places_rules.specs.declared.Displaced.TheVariants.{None, Number}
+use Rattle.std.specs.Prelude.{Some, None}
 use Rattle.places_rules.specs.Places.{four, free, open_now, free_place, place_at, with_place, holds, key_in, first_place, displaced_at, turned}
 use Rattle.places_rules.specs.Places.{is_last, offset_of, kept_in}
 
@@ -97,7 +97,7 @@ module _ (t : Table) (i : ℕ) {p : Place} (is-p : p ≡ place_at t i) where
   free_by = ap (λ (q : Place). eqb q.condition free) is-p
 
   -- displacing an open place names its number
-  pub displaces : p.condition ≡ open_now → Number p.number ≡ displaced_at t i
+  pub displaces : p.condition ≡ open_now → Some p.number ≡ displaced_at t i
   unfolding displaced_at key_in
   displaces e = rw (← is-p, eq-eqb _ _ e)
 

@@ -1,11 +1,9 @@
 -- The four places and the record of what they hold (document 01, "The four places").
-use Rattle.std.specs.Prelude.{Bool, true, false, not, cond, ◌&&◌, ℕ, ◌+◌, ◌-◌, ◌*◌, ◌%◌, leb, eqb, get_or, set, replicate}
+use Rattle.std.specs.Prelude.{Bool, true, false, not, cond, ◌&&◌, ℕ, ◌+◌, ◌-◌, ◌*◌, ◌%◌, leb, eqb, get_or, set, replicate, Option, Some, None}
 use Rattle.base_rules.specs.Bounds.{most_f, place}
 use Rattle.header_rules.specs.declared.Header.{Header}
 use Rattle.places_rules.specs.declared.Place.{Place}
 use Rattle.places_rules.specs.declared.Table.{Table}
-use Rattle.places_rules.specs.declared.Displaced.{Displaced}
-use Rattle.places_rules.specs.declared.Displaced.TheVariants as displaced
 
 -- document 01, "Bounds": four places
 abbrev pub four : ℕ
@@ -82,8 +80,8 @@ unfoldable pub open_at : Table → ℕ
 open_at t = first_place (λ i. eqb (place_at t i).condition free) t.oldest
 
 -- document 01: the displaced number is named whenever its place was open
-unfoldable pub displaced_at : Table → ℕ → Displaced
-displaced_at t i = cond (eqb (place_at t i).condition open_now) (displaced.Number (key_in (place_at t i))) displaced.None
+unfoldable pub displaced_at : Table → ℕ → Option ℕ
+displaced_at t i = cond (eqb (place_at t i).condition open_now) (Some (key_in (place_at t i))) None
 
 -- the place opened longest ago, after place i was opened: where none was free it is the next one
 unfoldable pub turned : Table → ℕ → Table

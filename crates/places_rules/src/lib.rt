@@ -39,10 +39,3 @@ pub struct Table {
     pub places: [Place; FOUR],
     pub oldest: u8,
 }
-
-// The number of an open place that was displaced.
-#[derive(Clone, Copy)]
-pub enum Displaced {
-    None,
-    Number(u16),
-}

@@ -1,5 +1,5 @@
 -- What document 01 says of a reader, of the struct: each is proved in proofs/Proved.antt.
-use Rattle.std.specs.Prelude.{◌≡◌, List, ◌++◌, ℕ, take, replicate}
+use Rattle.std.specs.Prelude.{◌≡◌, List, ◌++◌, ℕ, take, replicate, Ok}
 use Rattle.std.specs.Borrow.{Bor}
 use Rattle.item_rules.specs.declared.Bytes.{Bytes}
 use Rattle.item_rules.specs.declared.Repeats.{Repeats}
@@ -16,7 +16,7 @@ InOrder = (w : Repeats) (p : Bor (List ℕ)) (n : ℕ)
 
 -- "and the reader stays there": no field of it changes
 abbrev pub StaysAtEnd : Type 0
-StaysAtEnd = (r : Reader) (b : Bytes) → step_of r ≡ step.End b → (n : ℕ) → moved_by n r ≡ r
+StaysAtEnd = (r : Reader) (b : Bytes) → step_of r ≡ Ok (step.End b) → (n : ℕ) → moved_by n r ≡ r
 
 -- so it does where its packet is refused
 abbrev pub StaysRefused : Type 0

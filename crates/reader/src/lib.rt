@@ -3,15 +3,14 @@
 #![tactic(auto)]
 
 ghost use Rattle.std.specs.Prelude.{◌≡◌};
-ghost use Rattle.item_rules.specs.Item.{number_of};
 ghost use Rattle.tag_rules.specs.Find.{check_of};
-ghost use Rattle.tag_rules.specs.Calls.{read_of, read_call, first_call, after_of};
+ghost use Rattle.tag_rules.specs.Calls.{read_of, read_number, read_call, first_call, after_of};
 ghost use Rattle.reader.specs.Steps.{opened_on, step_of, told_by, moved_of};
 
 use item::{Repeats, Step};
-use tag::Opened;
 
-// The packet, where the reader stands in it, and the number with which opening refused it, 0 for none.
+// The packet, where the reader stands in it, and the number with which opening refused it, 0 for none: any number, since a caller may make a reader, and
+// a step shows it as it is.
 #[derive(Clone, Copy)]
 pub struct Reader<'a> {
     pub packet: &'a [u8],
@@ -23,10 +22,9 @@ pub struct Reader<'a> {
 fn refusal_of(packet: &[u8], repeats: Repeats) -> u8
     ensures { result ≡ check_of repeats packet.now }
 {
-    let opened = tag::open_reader(packet, repeats);
-    match opened {
-        Opened::At(_) => 0,
-        Opened::Refused(n) => n,
+    match tag::open_reader(packet, repeats) {
+        Ok(_) => 0,
+        Err(e) => u8::from(e),
     }
 }
 
@@ -42,8 +40,8 @@ pub fn open<'a>(packet: &'a [u8], repeats: Repeats) -> Reader<'a>
 }
 
 // What the reader hands out where it stands: an item, the end with the count of padding bytes, or the refusal.
-pub fn step<'a>(r: Reader<'a>) -> Step
-    ensures { (result ≡ step_of r.entry) × (number_of result ≡ told_by r.entry) }
+pub fn step<'a>(r: Reader<'a>) -> Result<Step, u8>
+    ensures { (result ≡ step_of r.entry) × (read_number result ≡ told_by r.entry) }
 {
     tag::read_at(r.packet, r.at, r.refusal)
 }
@@ -60,16 +58,16 @@ pub fn moved<'a>(r: Reader<'a>) -> Reader<'a>
 }
 
 // What a reader just opened on the packet hands out.
-pub fn first(packet: &[u8], repeats: Repeats) -> Step
+pub fn first(packet: &[u8], repeats: Repeats) -> Result<Step, u8>
     ensures { (result ≡ read_of packet.now 0 (check_of repeats packet.now))
-        × (number_of result ≡ first_call repeats packet.now) }
+        × (read_number result ≡ first_call repeats packet.now) }
 {
     step(open(packet, repeats))
 }
 
 // What a reader that stands at `at` hands out, for callers that hold no reader.
-pub fn step_at(packet: &[u8], at: usize, refusal: u8) -> Step
-    ensures { (result ≡ read_of packet.now at refusal) × (number_of result ≡ read_call packet.now at refusal) }
+pub fn step_at(packet: &[u8], at: usize, refusal: u8) -> Result<Step, u8>
+    ensures { (result ≡ read_of packet.now at refusal) × (read_number result ≡ read_call packet.now at refusal) }
 {
     step(Reader {
         packet,

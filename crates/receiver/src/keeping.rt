@@ -1,68 +1,68 @@
 // A fragment's way: checked, kept in its place, and formed into a packet where the place's fragments suffice. What it changes of the record
 // is one place and which is displaced next: the parts hand on these, and the record is made anew once, since each copy of it costs.
-ghost use Rattle.std.specs.Prelude.{◌≡◌, false, ◌<◌, length};
+ghost use Rattle.std.specs.Prelude.{◌≡◌, false, ◌<◌, length, Err};
 ghost use Rattle.places_rules.specs.declared.Table.{Table};
 ghost use Rattle.places_rules.specs.Places.{four, with_place, kept_in};
 ghost use Rattle.places_rules.specs.Faults.{bad_place, bad_table};
-ghost use Rattle.receiver_rules.specs.declared.Received.TheVariants.{Refused};
 ghost use Rattle.receiver_rules.specs.Promise.{reception, keep_at, Settled, SettledAfter, Step};
 ghost use Rattle.receiver_rules.specs.inner.Arrivals.{Lent, Heard, changed, Arrives};
 
 use crate::table::room_fault;
 use crate::{Change, Received, Reply};
-use base::PLACE;
+use base::{PLACE, Refusal};
 use cut::Address;
 use form::Formed;
-use header::{Header, Parsed};
-use places::{DELIVERED, Displaced, FOUR, Place, SPOILED, Table};
+use header::Header;
+use places::{DELIVERED, FOUR, Place, SPOILED, Table};
 
-// A refusal: the record stays as it is.
-fn refusal(t: Table, n: u8) -> Change
-    ensures { (changed t result ≡ t) × (result.answer ≡ Refused n) }
+// A refusal: the record stays as it is. Never made part of its callers, on whose stack its copy of a place would lie all along.
+#[inline(never)]
+fn refusal(t: Table, e: Refusal) -> Change
+    ensures { (changed t result ≡ t) × (result.answer ≡ Err e) }
 {
     Change {
         at: FOUR,
         place: places::place_at(t, FOUR),
         oldest: t.oldest,
-        answer: Received::Refused(n),
+        answer: Err(e),
     }
 }
 
 // After a fragment was kept in place i, which is p now: its packet is handed out if its fragments suffice and one agrees with them.
-fn settle(i: usize, p: Place, oldest: u8, d: Displaced, lent: &[u8], out: &mut [u8]) -> Change
+fn settle(i: usize, p: Place, oldest: u8, d: Option<u16>, lent: &[u8], out: &mut [u8]) -> Change
     requires { (i < four) × Lent lent.now out.old × (bad_place p ≡ false) }
     ensures { (t : Table) → length t.places ≡ four → t.oldest
         ≡ oldest → Settled (with_place t i p) i d lent.now out.old
         (reception result.answer (changed t result) lent.now out.new) }
 {
     match form::form(p, &lent[i * PLACE..], out) {
-        Formed::Waits => Change {
+        Ok(Formed::Waits) => Change {
             at: i,
             place: p,
             oldest,
-            answer: Received::Kept(d),
+            answer: Ok(Received::Kept(d)),
         },
-        Formed::Packet { length, missing } => Change {
+        Ok(Formed::Packet { length, missing }) => Change {
             at: i,
             place: places::in_condition(p, DELIVERED),
             oldest,
-            answer: Received::Delivered {
+            answer: Ok(Received::Delivered {
                 length,
                 missing,
                 displaced: d,
-            },
+            }),
         },
-        Formed::Nothing => Change {
+        Ok(Formed::Nothing) => Change {
             at: i,
             place: places::in_condition(p, SPOILED),
             oldest,
-            answer: Received::Damaged(d),
+            answer: Ok(Received::Damaged(d)),
         },
-        Formed::Refused(n) => Change {
+        Err(e) => Change {
             at: i,
             place: p,
             oldest,
-            answer: Received::Refused(n),
+            answer: Err(e),
         },
     }
 }
@@ -72,7 +72,7 @@ fn keep(
     i: usize,
     p: Place,
     oldest: u8,
-    d: Displaced,
+    d: Option<u16>,
     h: Header,
     lent: &mut [u8],
     payload: &[u8],
@@ -83,7 +83,7 @@ fn keep(
         ≡ oldest → SettledAfter (keep_at t i p d h lent.old payload.now) out.old
         (reception result.answer (changed t result) lent.new out.new) }
 {
-    base::put(lent, i * PLACE + places::offset_of(h), payload);
+    let _ = base::put(lent, i * PLACE + places::offset_of(h), payload);
     settle(i, places::kept_in(p, h), oldest, d, &lent[..], out)
 }
 
@@ -96,11 +96,10 @@ fn accept(t: Table, h: Header, lent: &mut [u8], payload: &[u8], out: &mut [u8]) 
     let i = places::held_at(t, h);
     if i < FOUR {
         let p = places::place_at(t, i);
-        let n = places::place_fault(p, h);
-        if n != 0 {
-            return refusal(t, n);
+        if let Err(e) = places::place_fault(p, h) {
+            return refusal(t, e);
         }
-        return keep(i, p, t.oldest, Displaced::None, h, lent, payload, out);
+        return keep(i, p, t.oldest, None, h, lent, payload, out);
     }
     let j = places::open_at(t);
     let d = places::displaced_at(t, j);
@@ -109,17 +108,22 @@ fn accept(t: Table, h: Header, lent: &mut [u8], payload: &[u8], out: &mut [u8]) 
 }
 
 // What a datagram changes.
-fn change_by(own: Address, table: Table, lent: &mut [u8], datagram: &[u8], out: &mut [u8]) -> Change
+fn change_by(
+    own: Option<Address>,
+    table: Table,
+    lent: &mut [u8],
+    datagram: &[u8],
+    out: &mut [u8],
+) -> Change
     ensures { Step own (record { table = table; bytes = lent.old }) datagram.now out.old
         (reception result.answer (changed table result) lent.new out.new) }
 {
-    let n = room_fault(table, lent.len(), out.len());
-    if n != 0 {
-        return refusal(table, n);
+    if let Err(e) = room_fault(table, lent.len(), out.len()) {
+        return refusal(table, e);
     }
     match header::parse(own, datagram) {
-        Parsed::Refused(m) => refusal(table, m),
-        Parsed::Fragment(h) => {
+        Err(e) => refusal(table, e),
+        Ok(h) => {
             let at = datagram.len() - h.plen as usize;
             accept(table, h, lent, &datagram[at..], out)
         }
@@ -129,7 +133,7 @@ fn change_by(own: Address, table: Table, lent: &mut [u8], datagram: &[u8], out: 
 // Receives a datagram at the address `own`, with the record and the bytes of the four places as the last call left them, and a buffer for
 // the packet that it may complete.
 pub fn receive(
-    own: Address,
+    own: Option<Address>,
     table: Table,
     lent: &mut [u8],
     datagram: &[u8],

@@ -6,7 +6,7 @@ mod keeping;
 mod table;
 
 pub use keeping::receive;
-pub use places::{Displaced, Place, Table, fresh};
+pub use places::{Place, Table, fresh};
 use receiver_rules::Change;
-pub use receiver_rules::{Cleared, Queried, Received, Reply, Seen, Shown};
+pub use receiver_rules::{Cleared, Received, Reply, Seen, Shown};
 pub use table::{clear, query};

@@ -6,19 +6,19 @@ use Prim.Native.Nat.{ℕ, ◌≤◌, ◌<◌}
 use borrow.Author.Tests.{eq-eqb, ne_eqb, lt-ltb, le-ltb}
 use lib.Dec.{eqb}
 use lib.ListN.{length}
+use Rattle.std.specs.Prelude.{Option, None, Result, Err}
+use Rattle.base_rules.specs.Refusal as refusals
+use Rattle.base_rules.specs.declared.Refusal.{Refusal}
 use Rattle.header_rules.specs.declared.Header.{Header}
 use Rattle.header_rules.specs.Claims.{Sound}
 use Rattle.places_rules.specs.declared.Place.{Place}
 use Rattle.places_rules.specs.declared.Table.{Table}
-use Rattle.places_rules.specs.declared.Displaced.{Displaced}
-use Rattle.places_rules.specs.declared.Displaced.TheVariants.{None}
 use Rattle.places_rules.specs.Places.{four, place_at, key_of, held_at, open_at, displaced_at, turned, opened_by, kept_in}
 use Rattle.places_rules.specs.Faults.{bad_place, bad_table, place_fault}
 use Rattle.places_rules.proofs.Proved.{kept_in_range, opened_in_range}
 use Rattle.receiver_rules.specs.declared.Change.{Change}
 use Rattle.receiver_rules.specs.declared.Received.{Received}
-use Rattle.receiver_rules.specs.declared.Received.TheVariants.{Refused}
-use Rattle.receiver_rules.specs.Promise.{Reception, reception, held_fault, keep_at, keep_of, SettledAfter}
+use Rattle.receiver_rules.specs.Promise.{number_of, Reception, reception, refused_as, held_fault, keep_at, keep_of, SettledAfter}
 use Rattle.receiver_rules.specs.inner.Arrivals.{changed, Arrives}
 use Rattle.receiver_rules.proofs.Ranges.{place_fine, opens_below}
 
@@ -32,7 +32,9 @@ pub left_out : (A : Type 0) {B : Type 0} {b : Bool} → b ≡ false → B → co
 left_out A {B} e x = subst (λ (v : Bool). cond v A B) (sym e) x
 
 -- what a refusal leaves
-pub refusal_is : {a : Received} {u t : Table} {n : ℕ} (b out : List ℕ) → (u ≡ t) × (a ≡ Refused n) → reception a u b out ≡ reception (Refused n) t b out
+pub refusal_is : {a : Result Received Refusal} {u t : Table} {e : Refusal} (b out : List ℕ) → (u ≡ t) × (a ≡ Err e)
+    → reception a u b out ≡ refused_as (refusals.number e) t b out
+unfolding reception refused_as number_of
 refusal_is b out e = rw (e.0, e.1)
 
 -- the turn changes no place
@@ -47,10 +49,10 @@ turned_change t j c is-u = ap (λ (x : Table). changed x c) is-u
 -- ---- what the place that holds it says
 
 module _ (t : Table) (h : Header) (b payload out : List ℕ) where
-  refused : {n : ℕ} {y : Reception} → n ≡ held_fault t h → (n ≡ 0 → ⊥) → y ≡ reception (Refused n) t b out → Arrives t h b payload out y
+  refused : {n : ℕ} {y : Reception} → n ≡ held_fault t h → (n ≡ 0 → ⊥) → y ≡ refused_as n t b out → Arrives t h b payload out y
   unfolding Arrives
   refused {n} is_n some e =
-      left_out _ (ap (λ (x : ℕ). eqb x 0) (sym is_n) ∙ ne_eqb n 0 some) (e ∙ ap (λ (x : ℕ). reception (Refused x) t b out) is_n)
+      left_out _ (ap (λ (x : ℕ). eqb x 0) (sym is_n) ∙ ne_eqb n 0 some) (e ∙ ap (λ (x : ℕ). refused_as x t b out) is_n)
 
   kept : {y : Reception} → 0 ≡ held_fault t h → SettledAfter (keep_of t h b payload) out y → Arrives t h b payload out y
   unfolding Arrives
@@ -68,7 +70,7 @@ module _ (t : Table) (h : Header) (b payload out : List ℕ) where
       keeps_there = rw (← is-i, lt-ltb i four below, is-p)
 
       -- a refusal by the place that holds its number, with nothing changed, is what a fragment is promised
-      pub arrives_refused : {y : Reception} → (n ≡ 0 → ⊥) → y ≡ reception (Refused n) t b out → Arrives t h b payload out y
+      pub arrives_refused : {y : Reception} → (n ≡ 0 → ⊥) → y ≡ refused_as n t b out → Arrives t h b payload out y
       arrives_refused some e = refused fault_there some e
 
       -- not refused by the place that holds its number, a fragment is kept there, displaces none, and settles
@@ -81,13 +83,13 @@ module _ (t : Table) (h : Header) (b payload out : List ℕ) where
       unfolding held_fault
       no_fault = rw (← is-i, le-ltb i four none)
 
-      keeps-new : {j : ℕ} {d : Displaced} {u : Table} {p : Place} → j ≡ open_at t → d ≡ displaced_at t j → u ≡ turned t j → p ≡ opened_by h
+      keeps-new : {j : ℕ} {d : Option ℕ} {u : Table} {p : Place} → j ≡ open_at t → d ≡ displaced_at t j → u ≡ turned t j → p ≡ opened_by h
           → keep_at u j p d h b payload ≡ keep_of t h b payload
       unfolding keep_of
       keeps-new is-j is-d is-u is-p = rw (is-d, is-u, is-p, is-j, ← is-i, le-ltb i four none)
 
       -- a fragment whose number no place holds is kept in the place that it opens, and settles
-      pub arrives_new : {j : ℕ} {d : Displaced} {u : Table} {p : Place} (c : Change) (b' out' : List ℕ) → j ≡ open_at t → d ≡ displaced_at t j
+      pub arrives_new : {j : ℕ} {d : Option ℕ} {u : Table} {p : Place} (c : Change) (b' out' : List ℕ) → j ≡ open_at t → d ≡ displaced_at t j
           → u ≡ turned t j
           → p ≡ opened_by h → SettledAfter (keep_at u j p d h b payload) out (reception c.answer (changed u c) b' out')
           → Arrives t h b payload out (reception c.answer (changed t c) b' out')

@@ -9,17 +9,19 @@ use lib.ListN.{length, take, drop, length-drop}
 use lib.Seq.{take_all, set-set}
 use Rattle.base_rules.specs.Bounds.{most_l, place}
 use Rattle.base_rules.specs.Answer.{granted, refused}
+use Rattle.std.specs.Prelude.{Option, Result, Ok, Err}
+use Rattle.base_rules.specs.Refusal as refusals
+use Rattle.base_rules.specs.declared.Refusal.{Refusal}
 use Rattle.base_rules.proofs.Answers.{grants}
 use Rattle.base_rules.proofs.Firsts.{skip, none_due}
 use Rattle.places_rules.specs.declared.Place.{Place}
 use Rattle.places_rules.specs.declared.Table.{Table}
-use Rattle.places_rules.specs.declared.Displaced.{Displaced}
 use Rattle.places_rules.specs.Places.{four, delivered, spoiled, place_at, with_place, in_condition}
 use Rattle.places_rules.specs.Faults.{bad_place}
 use Rattle.places_rules.proofs.Records.{with_past}
 use Rattle.form_rules.specs.Calls.{form_fault, number_of, values_of, PlaceFormed}
 use Rattle.form_rules.specs.declared.Formed.{Formed}
-use Rattle.form_rules.specs.declared.Formed.TheVariants.{Waits, Packet, Nothing, Refused}
+use Rattle.form_rules.specs.declared.Formed.TheVariants.{Waits, Packet, Nothing}
 use Rattle.receiver_rules.specs.declared.Change.{Change}
 use Rattle.receiver_rules.specs.declared.Received.TheVariants as received
 use Rattle.receiver_rules.specs.Promise.{reception, closed_at, bytes_at, Settled, waits, delivers, damaged}
@@ -52,31 +54,31 @@ pub rest_part : (a : ℕ) (l : List ℕ) → take (length l - a) (drop a l) ≡ 
 rest_part a l = take_all (length l - a) (drop a l) (omega (arith, length-drop a l))
 
 -- what was formed of a place's bytes, by the table
-pub formed_at : (t : Table) (i : ℕ) (b out : List ℕ) {p : Place} {after : List ℕ} {r q : Formed} → p ≡ place_at t i → r ≡ q
+pub formed_at : (t : Table) (i : ℕ) (b out : List ℕ) {p : Place} {after : List ℕ} {r q : Result Formed Refusal} → p ≡ place_at t i → r ≡ q
     → PlaceFormed p (take (length b - i * place) (drop (i * place) b)) out after r → PlaceFormed (place_at t i) (bytes_at b i) out after q
 unfolding bytes_at
 formed_at t i b out {p} {after} {r} {q} is-p is-r f =
     subst (λ (x : Place). PlaceFormed x (drop (i * place) b) out after q) is-p
     (subst (λ (x : List ℕ). PlaceFormed p x out after q) (rest_part (i * place) b)
-    (subst (λ (x : Formed). PlaceFormed p (take (length b - i * place) (drop (i * place) b)) out after x) is-r f))
+    (subst (λ (x : Result Formed Refusal). PlaceFormed p (take (length b - i * place) (drop (i * place) b)) out after x) is-r f))
 
 -- ---- how it settles
 
-module _ (t : Table) (i : ℕ) (d : Displaced) (b out : List ℕ) {after : List ℕ} where
+module _ (t : Table) (i : ℕ) (d : Option ℕ) (b out : List ℕ) {after : List ℕ} where
   module _ {u : Table} where
     -- where forming still waits, the fragment is answered as kept and the record stays
-    pub settles_waiting : PlaceFormed (place_at t i) (bytes_at b i) out after Waits → u ≡ t → Settled t i d b out (reception (received.Kept d) u b after)
+    pub settles_waiting : PlaceFormed (place_at t i) (bytes_at b i) out after (Ok Waits) → u ≡ t → Settled t i d b out (reception (Ok (received.Kept d)) u b after)
     settles_waiting f is-u = rw (is-u, f.left.1) (waits f.left.0)
 
     -- where forming gave a packet, it is delivered and the place becomes delivered
-    pub settles_delivered : {n m : ℕ} → PlaceFormed (place_at t i) (bytes_at b i) out after (Packet n m) → u ≡ closed_at t i delivered
-        → Settled t i d b out (reception (received.Delivered n m d) u b after)
+    pub settles_delivered : {n m : ℕ} → PlaceFormed (place_at t i) (bytes_at b i) out after (Ok (Packet n m)) → u ≡ closed_at t i delivered
+        → Settled t i d b out (reception (Ok (received.Delivered n m d)) u b after)
     settles_delivered f is-u =
         let h = f.left.1 in rw (h.told, h.missing, is-u, h.written) (delivers h.packet f.left.0 h.agrees)
 
     -- where forming found no packet that agrees, the answer is 13 and the place becomes spoiled
-    pub settles_damaged : PlaceFormed (place_at t i) (bytes_at b i) out after Nothing → u ≡ closed_at t i spoiled
-        → Settled t i d b out (reception (received.Damaged d) u b after)
+    pub settles_damaged : PlaceFormed (place_at t i) (bytes_at b i) out after (Ok Nothing) → u ≡ closed_at t i spoiled
+        → Settled t i d b out (reception (Ok (received.Damaged d)) u b after)
     settles_damaged f is-u = rw (is-u, f.left.2) (damaged f.left.0 f.left.1)
 
 -- ---- forming is not refused
@@ -91,9 +93,9 @@ module _ (t : Table) (i : ℕ) (b out : List ℕ) (below : i < four) (lent : Len
       none_due)
 
   -- forming one of the four places, in range and with the right room lent, is never refused
-  pub never-refused : {after : List ℕ} {n : ℕ} → PlaceFormed (place_at t i) (bytes_at b i) out after (Refused n) → ⊥
-  unfolding number_of values_of
-  never-refused {after} {n} f =
-      let told : refused n ≡ granted [] = f.number ∙ sym (grants _ [] no_fault) in
+  pub never-refused : {after : List ℕ} {e : Refusal} → PlaceFormed (place_at t i) (bytes_at b i) out after (Err e) → ⊥
+  unfolding number_of values_of refusals.told
+  never-refused {after} {e} f =
+      let told : refused (refusals.number e) ≡ granted [] = f.number ∙ sym (grants _ [] no_fault) in
       let z : ◌≡◌ {A = ℕ} 0 1 = cc in
       omega arith

@@ -12,20 +12,21 @@ use Rattle.base_rules.specs.Bounds.{most_l}
 use Rattle.base_rules.specs.Bytes.{splice}
 use Rattle.base_rules.proofs.Logic.{either}
 use Rattle.base_rules.proofs.Splice.{splice-length, splice_behind}
+use Rattle.std.specs.Prelude.{Option, Some, None, Result, Ok, Err}
+use Rattle.base_rules.specs.declared.Refusal.{Refusal}
 use Rattle.cut_rules.specs.declared.Address.{Address}
 use Rattle.af_rules.proofs.Proved.{a3}
 use Rattle.header_rules.specs.declared.Header.{Header}
 use Rattle.header_rules.specs.Read.{fields_of}
 use Rattle.places_rules.specs.declared.Place.{Place}
 use Rattle.places_rules.specs.declared.Table.{Table}
-use Rattle.places_rules.specs.declared.Displaced.{Displaced}
 use Rattle.places_rules.specs.Places.{four, delivered, spoiled, place_at, with_place, key_of, held_at, turned, in_condition}
 use Rattle.places_rules.specs.Faults.{bad_table}
 use Rattle.places_rules.proofs.Records.{place_past}
 use Rattle.form_rules.specs.Agree.{missing_in}
 use Rattle.receiver_rules.specs.declared.Received.{Received}
-use Rattle.receiver_rules.specs.declared.Received.TheVariants.{Kept, Delivered, Damaged, Refused}
-use Rattle.receiver_rules.specs.Promise.{number_of, Reception, reception, State, keep_at, keep_of, closed_at, Settled, waits, delivers, damaged, Step}
+use Rattle.receiver_rules.specs.declared.Received.TheVariants.{Kept, Delivered, Damaged}
+use Rattle.receiver_rules.specs.Promise.{number_of, displaced_values, Reception, reception, refused_as, State, keep_at, keep_of, closed_at, Settled, waits, delivers, damaged, Step}
 use Rattle.receiver_rules.specs.Promise.{payload_of}
 use Rattle.receiver_rules.specs.Claims.{due_for, kept_by, Writes}
 use Rattle.receiver_rules.proofs.Ranges.{fine_table, fine_room, opens_below, written_place}
@@ -49,13 +50,13 @@ module _ (t : Table) (h : Header) (b payload : List ℕ) where
 -- ---- by the answer
 
 -- what is left where a fragment was kept in place i of t
-abbrev Left : Table → ℕ → List ℕ → List ℕ → Reception → Received → Type 0
-Left t i b out y (Kept d) = y.out ≡ out
-Left t i b out y (Delivered l m d) = Writes out y.out l × (m ≡ missing_in (place_at t i)) × (m ≡ missing_in (place_at y.table i))
-Left t i b out y (Damaged d) =
+abbrev Left : Table → ℕ → List ℕ → List ℕ → Reception → Result Received Refusal → Type 0
+Left t i b out y (Ok (Kept d)) = y.out ≡ out
+Left t i b out y (Ok (Delivered l m d)) = Writes out y.out l × (m ≡ missing_in (place_at t i)) × (m ≡ missing_in (place_at y.table i))
+Left t i b out y (Ok (Damaged d)) =
     (y.out ≡ out) × (y.bytes ≡ b) × (y.table ≡ closed_at t i spoiled)
     × (length t.places ≡ four → (place_at y.table i).condition ≡ spoiled)
-Left t i b out y (Refused n) = Unit {0}
+Left t i b out y (Err e) = Unit {0}
 
 -- a packet within the bounds, in a buffer that has room for any
 writes : (out P : List ℕ) → most_l ≤ length out → length P ≤ most_l → Writes out (splice out 0 P) (length P)
@@ -81,22 +82,32 @@ module _ (t : Table) (i : ℕ) where
   unfolding closed_at in_condition
   closed_condition below size condition = ap (λ (p : Place). p.condition) (written_place t i (in_condition (place_at t i) condition) size below)
 
-module _ {t : Table} {i : ℕ} {d : Displaced} {b out : List ℕ} (below : i < four) (room : most_l ≤ length out) where
-  settled_left : {y : Reception} → Settled t i d b out y → (a : Received) → y.answer ≡ number_of a → Left t i b out y a
+module _ {t : Table} {i : ℕ} {d : Option ℕ} {b out : List ℕ} (below : i < four) (room : most_l ≤ length out) where
+  settled_left : {y : Reception} → Settled t i d b out y → (a : Result Received Refusal) → y.answer ≡ number_of a → Left t i b out y a
   unfolding reception
-  settled_left (waits e) a q = subst (Left t i b out (reception (Kept d) t b out)) (received_one (Kept d) a q) refl
+  settled_left (waits e) a q = subst (Left t i b out (reception (Ok (Kept d)) t b out)) (received_one (Ok (Kept d)) a q) refl
   settled_left (delivers P e agrees) a q =
-      subst (Left t i b out (reception (Delivered (length P) (missing_in (place_at t i)) d) (closed_at t i delivered) b (splice out 0 P)))
-      (received_one (Delivered (length P) (missing_in (place_at t i)) d) a q)
+      subst (Left t i b out (reception (Ok (Delivered (length P) (missing_in (place_at t i)) d)) (closed_at t i delivered) b (splice out 0 P)))
+      (received_one (Ok (Delivered (length P) (missing_in (place_at t i)) d)) a q)
       (writes out P room (a3 P agrees.accepted).1, refl, closed-missing t i delivered)
   settled_left (damaged e none) a q =
-      subst (Left t i b out (reception (Damaged d) (closed_at t i spoiled) b out)) (received_one (Damaged d) a q) (refl, refl, refl, λ size. closed_condition t i below size spoiled)
+      subst (Left t i b out (reception (Ok (Damaged d)) (closed_at t i spoiled) b out)) (received_one (Ok (Damaged d)) a q) (refl, refl, refl, λ size. closed_condition t i below size spoiled)
 
-module _ (own : Address) (s : State) (datagram out : List ℕ) (y : Reception) (step : Step own s datagram out y) where
+-- an answer that is no refusal has values, so what a refusal leaves is all that is to show
+refused_left : (t : Table) (i : ℕ) (b out : List ℕ) (y : Reception) (n : ℕ) (a : Result Received Refusal) → (n, []) ≡ number_of a → Left t i b out y a
+unfolding number_of displaced_values
+refused_left t i b out y n (Ok (Kept None)) q = absurd (omega (arith, ap (λ (x : ℕ × List ℕ). length x.1) q))
+refused_left t i b out y n (Ok (Kept (Some k))) q = absurd (omega (arith, ap (λ (x : ℕ × List ℕ). length x.1) q))
+refused_left t i b out y n (Ok (Delivered l m d)) q = absurd (omega (arith, ap (λ (x : ℕ × List ℕ). length x.1) q))
+refused_left t i b out y n (Ok (Damaged None)) q = absurd (omega (arith, ap (λ (x : ℕ × List ℕ). length x.1) q))
+refused_left t i b out y n (Ok (Damaged (Some k))) q = absurd (omega (arith, ap (λ (x : ℕ × List ℕ). length x.1) q))
+refused_left t i b out y n (Err e) q = tt
+
+module _ (own : Option Address) (s : State) (datagram out : List ℕ) (y : Reception) (step : Step own s datagram out y) where
   -- where a number is due it is the answer, alone, and record, lent bytes and packet buffer stay
   pub refusing : (n : ℕ) → due_for own s datagram out ≡ n → (n ≡ 0 → ⊥)
       → (y.answer ≡ (n, [])) × (y.table ≡ s.table) × (y.bytes ≡ s.bytes) × (y.out ≡ out)
-  unfolding reception number_of
+  unfolding refused_as
   refusing n e some =
       let q = step-refused own s datagram out (λ z. some (sym e ∙ z)) step in (
         ap (λ (o : Reception). o.answer) q ∙ ap (λ (x : ℕ). (x, [])) e,
@@ -106,8 +117,8 @@ module _ (own : Address) (s : State) (datagram out : List ℕ) (y : Reception) (
       )
 
   -- by the answer: kept leaves the packet buffer, delivered writes a packet there, 13 spoils the place
-  pub left_by : (a : Received) → y.answer ≡ number_of a → Left (kept_by s datagram).table (kept_by s datagram).at (kept_by s datagram).bytes out y a
-  unfolding reception
+  pub left_by : (a : Result Received Refusal) → y.answer ≡ number_of a → Left (kept_by s datagram).table (kept_by s datagram).at (kept_by s datagram).bytes out y a
+  unfolding refused_as
   left_by a q =
       let due : ℕ = due_for own s datagram out in
       either (eqb due 0)
@@ -120,4 +131,4 @@ module _ (own : Address) (s : State) (datagram out : List ℕ) (y : Reception) (
       (step-settled own s datagram out none step) a q)
       (λ e.
       let is = ap (λ (o : Reception). o.answer) (step-refused own s datagram out (eqb-false due 0 e) step) in
-      subst (Left (kept_by s datagram).table (kept_by s datagram).at (kept_by s datagram).bytes out y) (received_one (Refused due) a (sym is ∙ q)) tt)
+      refused_left (kept_by s datagram).table (kept_by s datagram).at (kept_by s datagram).bytes out y due a (sym is ∙ q))

@@ -16,7 +16,7 @@ use Rattle.header_rules.specs.declared.Header.{Header}
 use Rattle.header_rules.specs.Claims.{Sound}
 use Rattle.places_rules.specs.declared.Place.{Place}
 use Rattle.places_rules.specs.declared.Table.{Table}
-use Rattle.places_rules.specs.declared.Displaced.{Displaced}
+use Rattle.std.specs.Prelude.{Option}
 use Rattle.places_rules.specs.Places.{four, is_last, offset_of, with_place, kept_in, all_places}
 use Rattle.places_rules.proofs.Records.{offset_last, offset_other}
 use Rattle.receiver_rules.specs.Promise.{Reception, keep_at, Settled, SettledAfter}
@@ -50,7 +50,7 @@ module _ (i : ℕ) (h : Header) (b payload : List ℕ) where
       kept_long = ap length kept-bytes ∙ splice-length b (i * place + offset_of h) payload fits ∙ long
 
       -- and what settles then settles after keeping it
-      pub keeps_at : (t : Table) (p : Place) (d : Displaced) {out : List ℕ} {q : Place} {y : Reception} → q ≡ kept_in p h
+      pub keeps_at : (t : Table) (p : Place) (d : Option ℕ) {out : List ℕ} {q : Place} {y : Reception} → q ≡ kept_in p h
           → Settled (with_place t i q) i d after out y → SettledAfter (keep_at t i p d h b payload) out y
       unfolding keep_at
       keeps_at t p d {out} {q} {y} is-q settled =

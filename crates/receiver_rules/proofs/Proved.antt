@@ -1,5 +1,6 @@
 -- The claims of specs/Claims.antt, each by citation. Assumes nothing.
 use mathlib.Core.Path.{◌∙◌}
+use Rattle.std.specs.Prelude.{Ok}
 use Rattle.header_rules.specs.Read.{fields_of}
 use Rattle.receiver_rules.specs.declared.Received.TheVariants.{Kept, Delivered, Damaged}
 use Rattle.receiver_rules.specs.Promise.{payload_of}
@@ -28,16 +29,16 @@ refuses own s datagram out y step n e some = refusing own s datagram out y step 
 
 pub untouched : Untouched
 untouched own s datagram out y step d = (
-  left_by own s datagram out y step (Kept d),
+  left_by own s datagram out y step (Ok (Kept d)),
   λ q.
-      let l = left_by own s datagram out y step (Damaged d) q in
+      let l = left_by own s datagram out y step (Ok (Damaged d)) q in
       (l.0, l.1, l.2, λ size. l.3 (keeps-length s.table (fields_of datagram) s.bytes (payload_of datagram) ∙ size)),
 )
 
 -- a delivery writes as many bytes of the packet buffer as it tells, from its front, and no others
 pub delivery_writes : DeliveryWrites
-delivery_writes own s datagram out y step l m d q = (left_by own s datagram out y step (Delivered l m d) q).0
+delivery_writes own s datagram out y step l m d q = (left_by own s datagram out y step (Ok (Delivered l m d)) q).0
 
 -- the count of missing fragments that a delivery tells is that of its place
 pub count_told : CountTold
-count_told own s datagram out y step l m d q = let r = left_by own s datagram out y step (Delivered l m d) q in (r.1, r.2)
+count_told own s datagram out y step l m d q = let r = left_by own s datagram out y step (Ok (Delivered l m d)) q in (r.1, r.2)

@@ -3,14 +3,15 @@ use mathlib.Core.Path.{◌≡◌, refl, sym, ap, ◌∙◌}
 use mathlib.Core.Bool.{false}
 use mathlib.Core.List.{[], ◌∷◌}
 use Prim.Native.Nat.{ℕ, ◌≤◌}
-use native.Mathlib.Nat.{pos_of_ne-zero}
 use native.Mathlib.Omega.{arith}
 use borrow.Author.Tests.{eq-eqb, ne_eqb}
-use Rattle.base_rules.specs.Answer.{Answer, answered}
+use Rattle.base_rules.specs.Answer.{Answer}
 use Rattle.base_rules.specs.Bounds.{most_l}
 use Rattle.base_rules.specs.Written.{number_of}
-use Rattle.base_rules.specs.declared.Written.TheVariants as written
-use Rattle.base_rules.proofs.Answers.{grants, refuses}
+use Rattle.std.specs.Prelude.{Result, Ok, Err}
+use Rattle.base_rules.specs.Refusal as refusals
+use Rattle.base_rules.specs.declared.Refusal.{Refusal}
+use Rattle.base_rules.proofs.Answers.{grants, refuses, number-positive, written_by}
 use Rattle.places_rules.specs.declared.Place.{Place}
 use Rattle.places_rules.specs.declared.Table.{Table}
 use Rattle.places_rules.specs.Places.{free, open_now, delivered, spoiled, fresh_table, place_at, key_in}
@@ -20,7 +21,6 @@ use Rattle.receiver_rules.specs.Promise.{room_fault}
 use Rattle.receiver_rules.specs.Calls.{shown_of, seen_values, query_call, queried_number, clear_call}
 use Rattle.receiver_rules.specs.declared.Seen.TheVariants as seen
 use Rattle.receiver_rules.specs.declared.Shown.{Shown}
-use Rattle.receiver_rules.specs.declared.Queried.TheVariants as queried
 
 -- ---- one place
 
@@ -56,25 +56,29 @@ module _ (p : Place) where
 
 -- ---- all four, and clearing
 
-module _ (t : Table) (lent : ℕ) (n : ℕ) (is_n : n ≡ room_fault t lent most_l) where
+module _ (t : Table) (lent : ℕ) {r : Result (Unit {0}) Refusal} (is_r : refusals.fault_in r ≡ room_fault t lent most_l) where
   -- a query is refused with 14 or 1 where one is due
-  pub query_refused : (n ≡ 0 → ⊥) → queried_number (queried.Refused n) ≡ query_call t lent
-  unfolding queried_number query_call
-  query_refused some = refuses n _ _ (pos_of_ne-zero some) is_n
+  pub query_refused : {e : Refusal} → r ≡ Err e → queried_number (Err e) ≡ query_call t lent
+  unfolding queried_number query_call refusals.told refusals.fault_in
+  query_refused {e} is = refuses (refusals.number e) _ _ (number-positive e) (sym (ap refusals.fault_in is) ∙ is_r)
 
   -- where neither is due, a query shows each of the four places
-  pub query_shown : n ≡ 0 → (s : Shown) → seen_values s.first ≡ shown_of (place_at t 0) → seen_values s.second ≡ shown_of (place_at t 1)
+  pub query_shown : r ≡ Ok tt → (s : Shown) → seen_values s.first ≡ shown_of (place_at t 0) → seen_values s.second ≡ shown_of (place_at t 1)
       → seen_values s.third ≡ shown_of (place_at t 2) → seen_values s.fourth ≡ shown_of (place_at t 3)
-      → queried_number (queried.Places s) ≡ query_call t lent
-  unfolding queried_number query_call
-  query_shown none s e₀ e₁ e₂ e₃ = rw (e₀, e₁, e₂, e₃) (grants _ _ (sym none ∙ is_n))
+      → queried_number (Ok s) ≡ query_call t lent
+  unfolding queried_number query_call refusals.told refusals.fault_in
+  query_shown is s e₀ e₁ e₂ e₃ = rw (e₀, e₁, e₂, e₃) (grants _ _ (sym (ap refusals.fault_in is) ∙ is_r))
 
   -- a clearing is refused with 14 or 1 where one is due, and leaves the record
-  pub clear_refused : (n ≡ 0 → ⊥) → (number_of (written.Refused n), t) ≡ clear_call t lent
-  unfolding number_of clear_call
-  clear_refused some = rw (← is_n, ne_eqb n 0 some) (ap (λ (a : Answer). (a, t)) (refuses n n _ (pos_of_ne-zero some) refl))
+  pub clear_refused : {e : Refusal} → r ≡ Err e → (number_of r, t) ≡ clear_call t lent
+  unfolding clear_call refusals.fault_in
+  clear_refused {e} is =
+      let some = ne_eqb (refusals.fault_in r) 0 (λ z. omega (arith, number-positive e, sym (ap refusals.fault_in is) ∙ z)) in
+      rw (← is_r, some) (ap (λ (a : Answer). (a, t)) (written_by r (refusals.fault_in r) refl))
 
   -- where neither is due, a clearing leaves a fresh table
-  pub clear_done : n ≡ 0 → {u : Table} → u ≡ fresh_table → (number_of written.Done, u) ≡ clear_call t lent
-  unfolding number_of clear_call answered
-  clear_done none e = rw (← is_n, none, e)
+  pub clear_done : r ≡ Ok tt → {u : Table} → u ≡ fresh_table → (number_of r, u) ≡ clear_call t lent
+  unfolding clear_call refusals.fault_in
+  clear_done is e =
+      let none = eq-eqb (refusals.fault_in r) 0 (ap refusals.fault_in is) in
+      rw (← is_r, none, e) (ap (λ (a : Answer). (a, fresh_table)) (written_by r (refusals.fault_in r) refl))

@@ -9,54 +9,54 @@ use lib.ListN.{length, get_or, drop, set, get_or-eq_default}
 use lib.Seq.{get_or-set_same, set_out}
 use Rattle.base_rules.specs.Bounds.{most_k}
 use Rattle.base_rules.proofs.Logic.{either, clash}
+use Rattle.base_rules.proofs.Answers.{refusal_of-number, one_told}
+use Rattle.std.specs.Prelude.{Option, Some, None, Result, Ok, Err}
+use Rattle.base_rules.specs.Refusal as refusals
+use Rattle.base_rules.specs.declared.Refusal.{Refusal}
 use Rattle.cut_rules.specs.declared.Address.{Address}
 use Rattle.header_rules.specs.declared.Header.{Header}
 use Rattle.header_rules.specs.Read.{fields_of, fault_of}
 use Rattle.header_rules.proofs.Checks.{passing, size_from}
 use Rattle.places_rules.specs.declared.Place.{Place}
 use Rattle.places_rules.specs.declared.Table.{Table}
-use Rattle.places_rules.specs.declared.Displaced.{Displaced}
-use Rattle.places_rules.specs.declared.Displaced.TheVariants as displaced
 use Rattle.places_rules.specs.Places.{four, free, open_now, delivered, free_place, place_at, with_place, key_of, held_at, open_at, turned, opened_by, kept_in}
 use Rattle.places_rules.proofs.Ranges.{range_from}
 use Rattle.form_rules.proofs.Unique.{one_packet}
 use Rattle.receiver_rules.specs.declared.Received.{Received}
-use Rattle.receiver_rules.specs.declared.Received.TheVariants.{Kept, Delivered, Damaged, Refused}
+use Rattle.receiver_rules.specs.declared.Received.TheVariants.{Kept, Delivered, Damaged}
 use Rattle.receiver_rules.specs.declared.Seen.{Seen}
 use Rattle.receiver_rules.specs.declared.Seen.TheVariants as seen
 use Rattle.receiver_rules.specs.declared.Shown.{Shown}
-use Rattle.receiver_rules.specs.declared.Queried.{Queried}
-use Rattle.receiver_rules.specs.declared.Queried.TheVariants as queried
-use Rattle.receiver_rules.specs.Promise.{displaced_values, number_of, Reception, reception, State, room_fault, receive_fault, payload_of, keep_at}
+use Rattle.receiver_rules.specs.Promise.{displaced_values, number_of, Reception, refused_as, State, room_fault, receive_fault, payload_of, keep_at}
 use Rattle.receiver_rules.specs.Promise.{keep_of, bytes_at, Settled, waits, delivers, damaged, SettledAfter, Step}
-use Rattle.receiver_rules.specs.Calls.{seen_values, queried_number}
+use Rattle.receiver_rules.specs.Calls.{seen_values, shown_values, queried_number}
 use Rattle.receiver_rules.specs.Claims.{due_for, kept_by}
 use Rattle.receiver_rules.proofs.Ranges.{fine_table, place_fine}
 use Rattle.receiver_rules.proofs.Steps.{room_due, header_due}
 
 -- ---- answers, each read back off its number and values
 
-displaced_from : List ℕ → Displaced
-displaced_from v = cond (eqb (get_or v 0 0) 0) displaced.None (displaced.Number (get_or v 1 0))
+displaced_from : List ℕ → Option ℕ
+displaced_from v = cond (eqb (get_or v 0 0) 0) None (Some (get_or v 1 0))
 
-received_from : ℕ × List ℕ → Received
+received_from : ℕ × List ℕ → Result Received Refusal
 received_from (n, v) =
-    cond (eqb (length v) 0) (Refused n)
-    (cond (ltb 2 (length v)) (Delivered (get_or v 0 0) (get_or v 1 0) (displaced_from (drop 2 v)))
-    (cond (eqb n 0) (Kept (displaced_from v)) (Damaged (displaced_from v))))
+    cond (eqb (length v) 0) (Err (refusals.refusal_of n))
+    (cond (ltb 2 (length v)) (Ok (Delivered (get_or v 0 0) (get_or v 1 0) (displaced_from (drop 2 v))))
+    (cond (eqb n 0) (Ok (Kept (displaced_from v))) (Ok (Damaged (displaced_from v)))))
 
-received_back : (a : Received) → received_from (number_of a) ≡ a
+received_back : (a : Result Received Refusal) → received_from (number_of a) ≡ a
 unfolding received_from displaced_from number_of displaced_values
-received_back (Kept displaced.None) = refl
-received_back (Kept (displaced.Number n)) = refl
-received_back (Delivered length missing displaced.None) = refl
-received_back (Delivered length missing (displaced.Number n)) = refl
-received_back (Damaged displaced.None) = refl
-received_back (Damaged (displaced.Number n)) = refl
-received_back (Refused n) = refl
+received_back (Ok (Kept None)) = refl
+received_back (Ok (Kept (Some n))) = refl
+received_back (Ok (Delivered length missing None)) = refl
+received_back (Ok (Delivered length missing (Some n))) = refl
+received_back (Ok (Damaged None)) = refl
+received_back (Ok (Damaged (Some n))) = refl
+received_back (Err e) = ap Err (refusal_of-number e)
 
 -- no two answers of `receive` have the same number and values
-pub received_one : (a b : Received) → number_of a ≡ number_of b → a ≡ b
+pub received_one : (a b : Result Received Refusal) → number_of a ≡ number_of b → a ≡ b
 received_one a b e = sym (received_back a) ∙ ap received_from e ∙ received_back b
 
 -- what is shown of the first place, and the values of the others
@@ -91,9 +91,6 @@ shown_from v = record {
   fourth = seen_from (others_from (others_from (others_from v)));
 }
 
-abbrev shown_values : Shown → List ℕ
-shown_values p = seen_values p.first ++ seen_values p.second ++ seen_values p.third ++ seen_values p.fourth
-
 shown_back : (p : Shown) → shown_from (shown_values p) ≡ p
 unfolding shown_from
 shown_back p =
@@ -104,18 +101,13 @@ shown_back p =
     ap shown_from v ∙ simp (seen_back, others_back)
 
 -- no two answers of `query` have the same number and values
-pub queried_one : (a b : Queried) → queried_number a ≡ queried_number b → a ≡ b
+pub queried_one : (a b : Result Shown Refusal) → queried_number a ≡ queried_number b → a ≡ b
 unfolding queried_number
-queried_one (queried.Places p) (queried.Places q) e =
-    let same : shown_values p ≡ shown_values q = cc in
-    ap queried.Places (sym (shown_back p) ∙ ap shown_from same ∙ shown_back q)
-queried_one (queried.Places p) (queried.Refused n) e = cc
-queried_one (queried.Refused m) (queried.Places q) e = cc
-queried_one (queried.Refused m) (queried.Refused n) e = cc
+queried_one a b e = one_told shown_values (λ p q same. sym (shown_back p) ∙ ap shown_from same ∙ shown_back q) a b e
 
 -- ---- what is due where nothing is
 
-module _ (own : Address) (t : Table) (lent : ℕ) (datagram : List ℕ) (room : ℕ) (passed : receive_fault own t lent datagram room ≡ 0) where
+module _ (own : Option Address) (t : Table) (lent : ℕ) (datagram : List ℕ) (room : ℕ) (passed : receive_fault own t lent datagram room ≡ 0) where
   -- a datagram that nothing is due for is not refused with 14 or 1
   pub room_passed : room_fault t lent room ≡ 0
   room_passed =
@@ -149,7 +141,7 @@ kept_low : (t : Table) (i : ℕ) (p : Place) (h : Header) → Low p → Low (pla
 unfolding kept_in
 kept_low t i p h low = written_or_free t i (kept_in p h) Low low (λ past (f : false ≡ true). clash f refl)
 
-module _ (own : Address) (t : Table) (lent : ℕ) (datagram b payload : List ℕ) (room : ℕ)
+module _ (own : Option Address) (t : Table) (lent : ℕ) (datagram b payload : List ℕ) (room : ℕ)
     (passed : receive_fault own t lent datagram room ≡ 0) where
   low_held : (i : ℕ) → i < four → Low (place_at t i)
   low_held i l f =
@@ -171,7 +163,7 @@ module _ (own : Address) (t : Table) (lent : ℕ) (datagram b payload : List ℕ
 
 -- ---- receptions
 
-module _ {t : Table} {i : ℕ} {d : Displaced} {b out : List ℕ} (low : Low (place_at t i)) where
+module _ {t : Table} {i : ℕ} {d : Option ℕ} {b out : List ℕ} (low : Low (place_at t i)) where
   settled_one : {y z : Reception} → Settled t i d b out y → Settled t i d b out z → y ≡ z
   settled_one (waits e) (waits f) = refl
   settled_one (waits e) (delivers Q f c) = clash f e
@@ -183,7 +175,7 @@ module _ {t : Table} {i : ℕ} {d : Displaced} {b out : List ℕ} (low : Low (pl
   settled_one (damaged e a) (delivers Q f c) = absurd (a Q c)
   settled_one (damaged e a) (damaged f c) = refl
 
-module _ (own : Address) (s : State) (datagram out : List ℕ) where
+module _ (own : Option Address) (s : State) (datagram out : List ℕ) where
   -- the two cases of the promise
   pub step-settled : {y : Reception} → due_for own s datagram out ≡ 0 → Step own s datagram out y → SettledAfter (kept_by s datagram) out y
   unfolding Step
@@ -191,7 +183,7 @@ module _ (own : Address) (s : State) (datagram out : List ℕ) where
 
   -- where a number is due, the reception is that refusal with nothing changed
   pub step-refused : {y : Reception} → (due_for own s datagram out ≡ 0 → ⊥) → Step own s datagram out y
-      → y ≡ reception (Refused (due_for own s datagram out)) s.table s.bytes out
+      → y ≡ refused_as (due_for own s datagram out) s.table s.bytes out
   unfolding Step
   step-refused e step = rw (ne_eqb (due_for own s datagram out) 0 e) at step
 

@@ -1,6 +1,8 @@
 -- What `query` and `clear` answer (document 01, "The four places": "One query tells number and condition of all four").
-use Rattle.std.specs.Prelude.{cond, List, [], ◌∷◌, ◌++◌, ℕ, eqb}
-use Rattle.base_rules.specs.Answer.{Answer, granted, refused, answered}
+use Rattle.std.specs.Prelude.{cond, List, [], ◌∷◌, ◌++◌, ℕ, eqb, Result}
+use Rattle.base_rules.specs.Answer.{Answer, answered}
+use Rattle.base_rules.specs.Refusal.{told}
+use Rattle.base_rules.specs.declared.Refusal.{Refusal}
 use Rattle.base_rules.specs.Bounds.{most_l}
 use Rattle.places_rules.specs.declared.Place.{Place}
 use Rattle.places_rules.specs.declared.Table.{Table}
@@ -8,8 +10,7 @@ use Rattle.places_rules.specs.Places.{free, open_now, delivered, spoiled, fresh_
 use Rattle.receiver_rules.specs.Promise.{room_fault}
 use Rattle.receiver_rules.specs.declared.Seen.{Seen}
 use Rattle.receiver_rules.specs.declared.Seen.TheVariants as seen
-use Rattle.receiver_rules.specs.declared.Queried.{Queried}
-use Rattle.receiver_rules.specs.declared.Queried.TheVariants as queried
+use Rattle.receiver_rules.specs.declared.Shown.{Shown}
 
 -- what is shown of a place: a free one has no number
 unfoldable pub shown_of : Place → List ℕ
@@ -27,10 +28,13 @@ seen_values (seen.Open n) = open_now ∷ n ∷ []
 seen_values (seen.Delivered n) = delivered ∷ n ∷ []
 seen_values (seen.Spoiled n) = spoiled ∷ n ∷ []
 
+-- those of all four places
+abbrev pub shown_values : Shown → List ℕ
+shown_values p = seen_values p.first ++ seen_values p.second ++ seen_values p.third ++ seen_values p.fourth
+
 -- document 01's number and values for each case
-unfoldable pub queried_number : Queried → Answer
-queried_number (queried.Places p) = granted (seen_values p.first ++ seen_values p.second ++ seen_values p.third ++ seen_values p.fourth)
-queried_number (queried.Refused n) = refused n
+unfoldable pub queried_number : Result Shown Refusal → Answer
+queried_number r = told shown_values r
 
 -- "clearing empties all four places and leaves the lent bytes": the answer, and the record after it
 unfoldable pub clear_call : Table → ℕ → Answer × Table

@@ -1,38 +1,38 @@
 -- What is claimed of the receiver (document 01, "The four places"): the proofs are in proofs/Proved.antt.
-use Rattle.std.specs.Prelude.{◌≡◌, List, [], ℕ, ◌≤◌, length, drop}
+use Rattle.std.specs.Prelude.{◌≡◌, List, [], ℕ, ◌≤◌, length, drop, Option, Result, Ok}
 use Rattle.base_rules.specs.Bounds.{most_l}
 use Rattle.base_rules.specs.Bytes.{splice}
+use Rattle.base_rules.specs.declared.Refusal.{Refusal}
 use Rattle.cut_rules.specs.declared.Address.{Address}
 use Rattle.header_rules.specs.Read.{fields_of}
-use Rattle.places_rules.specs.declared.Displaced.{Displaced}
 use Rattle.places_rules.specs.Places.{four, spoiled, place_at}
 use Rattle.form_rules.specs.Agree.{missing_in}
 use Rattle.receiver_rules.specs.Promise.{number_of, Reception, State, Step, receive_fault, payload_of, Keeping, keep_of, closed_at}
 use Rattle.receiver_rules.specs.Calls.{queried_number}
 use Rattle.receiver_rules.specs.declared.Received.{Received}
 use Rattle.receiver_rules.specs.declared.Received.TheVariants.{Kept, Delivered, Damaged}
-use Rattle.receiver_rules.specs.declared.Queried.{Queried}
+use Rattle.receiver_rules.specs.declared.Shown.{Shown}
 
 -- the promise asks nothing impossible: some reception fits it, whatever the record and the inputs
 abbrev pub SomeReception : Type 0
-SomeReception = (own : Address) (s : State) (datagram out : List ℕ) → (y : Reception) × Step own s datagram out y
+SomeReception = (own : Option Address) (s : State) (datagram out : List ℕ) → (y : Reception) × Step own s datagram out y
 
 -- document 01, "What a promise has to say here": no second reception fits the promise, whatever the record and the inputs
 abbrev pub OneReception : Type 0
-OneReception = (own : Address) (s : State) (datagram out : List ℕ) (y z : Reception) → Step own s datagram out y → Step own s datagram out z → y ≡ z
+OneReception = (own : Option Address) (s : State) (datagram out : List ℕ) (y z : Reception) → Step own s datagram out y → Step own s datagram out z → y ≡ z
 
 -- and no second answer of `receive` has the same number and values,
 abbrev pub OneReceived : Type 0
-OneReceived = (a b : Received) → number_of a ≡ number_of b → a ≡ b
+OneReceived = (a b : Result Received Refusal) → number_of a ≡ number_of b → a ≡ b
 
 -- nor one of `query`
 abbrev pub OneQueried : Type 0
-OneQueried = (a b : Queried) → queried_number a ≡ queried_number b → a ≡ b
+OneQueried = (a b : Result Shown Refusal) → queried_number a ≡ queried_number b → a ≡ b
 
 -- ---- what any reception that fits the promise has left
 
 -- document 01, "A fragment is checked in the order 14, then 1 to 12": the number that is due, 0 where the fragment is kept
-abbrev pub due_for : Address → State → List ℕ → List ℕ → ℕ
+abbrev pub due_for : Option Address → State → List ℕ → List ℕ → ℕ
 due_for own s datagram out = receive_fault own s.table (length s.bytes) datagram (length out)
 
 -- document 01, "A fragment whose number is held": what keeping the fragment leaves, and in which place
@@ -42,17 +42,17 @@ kept_by s datagram = keep_of s.table (fields_of datagram) s.bytes (payload_of da
 -- "Every refusal but 13 leaves state and lent bytes untouched"
 abbrev pub Refusing : Type 0
 Refusing =
-    (own : Address) (s : State) (datagram out : List ℕ) (y : Reception) → Step own s datagram out y
+    (own : Option Address) (s : State) (datagram out : List ℕ) (y : Reception) → Step own s datagram out y
     → (n : ℕ) → due_for own s datagram out ≡ n → (n ≡ 0 → ⊥)
     → (y.answer ≡ (n, [])) × (y.table ≡ s.table) × (y.bytes ≡ s.bytes) × (y.out ≡ out)
 
 -- "a fragment that is only kept writes none of it"; "13 keeps the fragment, spoils its place, leaves the packet buffer untouched"
 abbrev pub Untouched : Type 0
 Untouched =
-    (own : Address) (s : State) (datagram out : List ℕ) (y : Reception) → Step own s datagram out y
-    → (d : Displaced)
-    → (y.answer ≡ number_of (Kept d) → y.out ≡ out)
-    × (y.answer ≡ number_of (Damaged d)
+    (own : Option Address) (s : State) (datagram out : List ℕ) (y : Reception) → Step own s datagram out y
+    → (d : Option ℕ)
+    → (y.answer ≡ number_of (Ok (Kept d)) → y.out ≡ out)
+    × (y.answer ≡ number_of (Ok (Damaged d))
     → (y.out ≡ out)
     × (y.bytes ≡ (kept_by s datagram).bytes)
     × (y.table ≡ closed_at (kept_by s datagram).table (kept_by s datagram).at spoiled)
@@ -70,13 +70,13 @@ pub record Writes (out after : List ℕ) (l : ℕ) : Type 0 where
 -- document 01: the length that a delivery tells is that of what it writes
 abbrev pub DeliveryWrites : Type 0
 DeliveryWrites =
-    (own : Address) (s : State) (datagram out : List ℕ) (y : Reception) → Step own s datagram out y
-    → (l m : ℕ) (d : Displaced) → y.answer ≡ number_of (Delivered l m d) → Writes out y.out l
+    (own : Option Address) (s : State) (datagram out : List ℕ) (y : Reception) → Step own s datagram out y
+    → (l m : ℕ) (d : Option ℕ) → y.answer ≡ number_of (Ok (Delivered l m d)) → Writes out y.out l
 
 -- "A false count of missing fragments contradicts the kept set": that of the place when it kept the fragment, and as the record is left
 abbrev pub CountTold : Type 0
 CountTold =
-    (own : Address) (s : State) (datagram out : List ℕ) (y : Reception) → Step own s datagram out y
-    → (l m : ℕ) (d : Displaced) → y.answer ≡ number_of (Delivered l m d)
+    (own : Option Address) (s : State) (datagram out : List ℕ) (y : Reception) → Step own s datagram out y
+    → (l m : ℕ) (d : Option ℕ) → y.answer ≡ number_of (Ok (Delivered l m d))
     → (m ≡ missing_in (place_at (kept_by s datagram).table (kept_by s datagram).at))
     × (m ≡ missing_in (place_at y.table (kept_by s datagram).at))

@@ -2,27 +2,26 @@
 // `receiver` has them.
 #![tactic(auto)]
 
-use base_rules::Written;
-use places_rules::{Displaced, Place, Table};
+use base_rules::Refusal;
+use places_rules::{Place, Table};
 
-// What a fragment is answered. Each answer but a refusal tells the number of an open place that the fragment displaced.
-#[derive(Clone, Copy)]
+// What became of a fragment. Each answer but a refusal tells the number of an open place that the fragment displaced.
+#[derive(Clone, Copy, Debug, PartialEq, Eq)]
 pub enum Received {
-    Kept(Displaced),
+    Kept(Option<u16>),
     Delivered {
         length: usize,
         missing: usize,
-        displaced: Displaced,
+        displaced: Option<u16>,
     },
-    Damaged(Displaced),
-    Refused(u8),
+    Damaged(Option<u16>),
 }
 
 // The record after a call, and the answer.
 #[derive(Clone, Copy)]
 pub struct Reply {
     pub table: Table,
-    pub answer: Received,
+    pub answer: Result<Received, Refusal>,
 }
 
 // What a datagram changes: place `at` is `place` now, past the fourth none is another; which is displaced next; and the answer.
@@ -31,11 +30,11 @@ pub struct Change {
     pub at: usize,
     pub place: Place,
     pub oldest: u8,
-    pub answer: Received,
+    pub answer: Result<Received, Refusal>,
 }
 
 // What a query shows of a place.
-#[derive(Clone, Copy)]
+#[derive(Clone, Copy, Debug, PartialEq, Eq)]
 pub enum Seen {
     Free,
     Open(u16),
@@ -44,7 +43,7 @@ pub enum Seen {
 }
 
 // The four places as a query shows them.
-#[derive(Clone, Copy)]
+#[derive(Clone, Copy, Debug, PartialEq, Eq)]
 pub struct Shown {
     pub first: Seen,
     pub second: Seen,
@@ -52,16 +51,9 @@ pub struct Shown {
     pub fourth: Seen,
 }
 
-// What a query answers.
-#[derive(Clone, Copy)]
-pub enum Queried {
-    Places(Shown),
-    Refused(u8),
-}
-
 // The record after clearing, and whether it was cleared.
 #[derive(Clone, Copy)]
 pub struct Cleared {
     pub table: Table,
-    pub answer: Written,
+    pub answer: Result<(), Refusal>,
 }

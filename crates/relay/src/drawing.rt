@@ -31,6 +31,7 @@ fn missing_of(kept: [bool; MOST_F], f: usize, n: usize, j: usize) -> usize
 {
     let from = j * n;
     let mut gone = 0;
+    // An index, since it begins anew at f, where a slice of `kept` ends.
     for t in 0..n {
         if !kept[(from + t) % f] {
             gone += 1;
@@ -44,12 +45,10 @@ fn most_missing(kept: [bool; MOST_F], f: usize, n: usize, c: usize) -> usize
     requires { (0 < f) × (f ≤ most_f) × (c * n ≤ place) }
     ensures { (result ≡ most_missing (not_kept kept) f n c) × (result ≤ n) }
 {
-    let mut most = 0;
+    let mut most: usize = 0;
+    // A range, since the call takes the number of the chunk: there is no element.
     for j in 0..c {
-        let gone = missing_of(kept, f, n, j);
-        if most < gone {
-            most = gone;
-        }
+        most = most.max(missing_of(kept, f, n, j));
     }
     most
 }
@@ -93,8 +92,8 @@ fn put_kept(line: &mut [u8], at: usize, kept: [bool; MOST_F], f: usize) -> usize
     requires { f ≤ most_f }
 {
     let mut to = at;
-    for i in 0..f {
-        to = put_run(line, to, mark_of(kept[i]), 1);
+    for k in &kept[..f] {
+        to = put_run(line, to, mark_of(*k), 1);
     }
     to
 }
@@ -111,7 +110,7 @@ fn letters_of(missed: usize) -> usize
 fn before_mark(n: usize) -> usize
     ensures { (result ≤ n) × (result * 8 ≤ parity) }
 {
-    if n < MARK { n } else { MARK }
+    n.min(MARK)
 }
 
 // A bar: dots up to the mark where it does not reach it.

@@ -9,11 +9,10 @@ mod telling;
 
 ghost use Rattle.std.specs.Prelude.{◌≤◌, length, IfOk};
 
-use base::{MOST_L, MOST_MTU};
-use cut::{Address, Figures, Planned};
+use base::{MOST_L, MOST_MTU, Refusal};
+use cut::Figures;
 use places::{ALL_PLACES, Place, Table};
 use receiver::Received;
-use sender::Sent;
 use std::io;
 use std::io::Read;
 
@@ -23,24 +22,18 @@ const INPUT: usize = MOST_L + 1;
 // The number that the packet has on the line.
 const NUMBER: u16 = 1;
 
-// The far end: the receiver's record, and the length of the packet that was handed out, 0 before one was.
+// The far end: the receiver's record, and the length of the packet that was handed out, None before one was.
 #[derive(Clone, Copy)]
 struct End {
     table: Table,
-    length: usize,
+    length: Option<usize>,
 }
 
 // The length of the packet that was handed out, which was `before` until this answer.
-fn length_after(before: usize, answer: Received) -> usize {
+fn length_after(before: Option<usize>, answer: Result<Received, Refusal>) -> Option<usize> {
     match answer {
-        Received::Kept(_) => before,
-        Received::Delivered {
-            length,
-            missing: _,
-            displaced: _,
-        } => length,
-        Received::Damaged(_) => before,
-        Received::Refused(_) => before,
+        Ok(Received::Delivered { length, .. }) => Some(length),
+        _ => before,
     }
 }
 
@@ -58,7 +51,7 @@ fn arrive(
     lent: &mut [u8],
     out: &mut [u8],
 ) -> io::Result<End> {
-    let reply = receiver::receive(Address::None, end.table, lent, datagram, out);
+    let reply = receiver::receive(None, end.table, lent, datagram, out);
     let table = reply.table;
     let answer = reply.answer;
     telling::arrived(rt, i, answer, place_of(table))?;
@@ -78,8 +71,7 @@ fn send(
     out: &mut [u8],
 ) -> io::Result<End> {
     let mut datagram = [0u8; MOST_MTU];
-    let Sent::Fragment(n) = sender::fragment(cut::two_losses(), NUMBER, packet, i, &mut datagram)
-    else {
+    let Ok(n) = sender::fragment(cut::two_losses(), NUMBER, packet, i, &mut datagram) else {
         return Ok(end);
     };
     if n <= MOST_MTU {
@@ -125,22 +117,20 @@ fn at_turn(i: usize, f: usize) -> usize {
     if other < f { other } else { i }
 }
 
-// All fragments over the line; the length of the packet that was handed out, 0 if none was.
+// All fragments over the line; the length of the packet that was handed out, None if none was.
 fn carry_all(
     rt: &impl Print,
     packet: &[u8],
     p: Figures,
     lent: &mut [u8],
     out: &mut [u8],
-) -> io::Result<usize> {
+) -> io::Result<Option<usize>> {
     let mut end = End {
         table: receiver::fresh(),
-        length: 0,
+        length: None,
     };
-    let mut i = 0;
-    while i < p.f {
+    for i in 0..p.f {
         end = carry(rt, packet, p, at_turn(i, p.f), end, lent, out)?;
-        i += 1;
     }
     Ok(end.length)
 }
@@ -157,8 +147,8 @@ fn relay(rt: &impl Print, packet: &[u8], p: Figures, size: usize) -> io::Result<
 // A packet that the sender takes.
 fn plan(rt: &impl Print, packet: &[u8], size: usize) -> io::Result<()> {
     match cut::plan(cut::two_losses(), packet.len()) {
-        Planned::Refused(n) => telling::refused(rt, n),
-        Planned::Cut(p) => relay(rt, packet, p, size),
+        Ok(p) => relay(rt, packet, p, size),
+        Err(e) => telling::refused(rt, e),
     }
 }
 
@@ -166,16 +156,18 @@ fn plan(rt: &impl Print, packet: &[u8], size: usize) -> io::Result<()> {
 fn begin(rt: &impl Print, packet: &[u8]) -> io::Result<()> {
     let mut datagram = [0u8; MOST_MTU];
     match sender::fragment(cut::two_losses(), NUMBER, packet, 0, &mut datagram) {
-        Sent::Refused(n) => telling::refused(rt, n),
-        Sent::Fragment(size) => plan(rt, packet, size),
+        Ok(size) => plan(rt, packet, size),
+        Err(e) => telling::refused(rt, e),
     }
 }
 
-// Reads until the buffer is full or the input ends, and answers how many bytes were read.
+// Reads until the buffer is full or the input ends, and answers how many bytes were read. The program `listing` has one of its own, which
+// asks for a buffer that holds all on which a listing depends.
 fn read_input<R: Read>(reader: &mut R, input: &mut [u8]) -> io::Result<usize>
     ensures { IfOk result (λ n. n ≤ length input.new) }
 {
     let mut n = 0;
+    // A `while` and no range: each turn goes on by as many bytes as its read brought.
     while n < input.len() {
         let more = reader.read(&mut input[n..])?;
         if more == 0 {

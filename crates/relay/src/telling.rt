@@ -1,5 +1,6 @@
 // The lines of output.
 use crate::drawing;
+use base::Refusal;
 use cut::Figures;
 use places::Place;
 use receiver::Received;
@@ -17,10 +18,10 @@ fn show(rt: &impl Print, line: &[u8], n: usize) -> io::Result<()> {
 }
 
 // The only line on an input that the sender refuses.
-pub(crate) fn refused(rt: &impl Print, n: u8) -> io::Result<()> {
+pub(crate) fn refused(rt: &impl Print, e: Refusal) -> io::Result<()> {
     let mut line = [0u8; 80];
     let mut at = text::plain(&mut line, 0, b"refused ");
-    at = text::decimal(&mut line, at, n as usize);
+    at = text::decimal(&mut line, at, number(e));
     at = text::plain(&mut line, at, b"\n");
     show(rt, &line, at)
 }
@@ -66,7 +67,12 @@ pub(crate) fn lost(rt: &impl Print, i: usize, p: Place) -> io::Result<()> {
 }
 
 // Fragment i comes, and is answered; the far end's place is then p.
-pub(crate) fn arrived(rt: &impl Print, i: usize, answer: Received, p: Place) -> io::Result<()> {
+pub(crate) fn arrived(
+    rt: &impl Print,
+    i: usize,
+    answer: Result<Received, Refusal>,
+    p: Place,
+) -> io::Result<()> {
     let mut line = [0u8; LINE];
     let mut at = put_fragment(&mut line, i);
     at = put_answer(&mut line, at, answer);
@@ -82,30 +88,26 @@ fn put_fragment(line: &mut [u8], i: usize) -> usize {
 }
 
 // An answer in words. One packet is on the line, so no number is displaced.
-fn put_answer(line: &mut [u8], at: usize, answer: Received) -> usize {
+fn put_answer(line: &mut [u8], at: usize, answer: Result<Received, Refusal>) -> usize {
     match answer {
-        Received::Kept(_) => text::plain(line, at, b" kept"),
-        Received::Delivered {
-            length: _,
-            missing: _,
-            displaced: _,
-        } => text::plain(line, at, b" delivered"),
-        Received::Damaged(_) => text::plain(line, at, b" refused 13"),
-        Received::Refused(n) => put_refused(line, at, n),
+        Ok(Received::Kept(_)) => text::plain(line, at, b" kept"),
+        Ok(Received::Delivered { .. }) => text::plain(line, at, b" delivered"),
+        Ok(Received::Damaged(_)) => put_refused(line, at, Refusal::Damaged),
+        Err(e) => put_refused(line, at, e),
     }
 }
 
 // What a delivery carries.
-fn put_outcome(line: &mut [u8], at: usize, answer: Received) -> usize {
+fn put_outcome(line: &mut [u8], at: usize, answer: Result<Received, Refusal>) -> usize {
     match answer {
-        Received::Kept(_) => at,
-        Received::Delivered {
-            length,
-            missing,
-            displaced: _,
-        } => put_delivered(line, at, length, missing),
-        Received::Damaged(_) => at,
-        Received::Refused(_) => at,
+        Ok(
+            Received::Delivered {
+                length,
+                missing,
+                ..
+            },
+        ) => put_delivered(line, at, length, missing),
+        _ => at,
     }
 }
 
@@ -117,17 +119,26 @@ fn put_delivered(line: &mut [u8], at: usize, length: usize, missing: usize) -> u
     text::plain(line, to, b" fragments not held")
 }
 
-fn put_refused(line: &mut [u8], at: usize, n: u8) -> usize {
+fn put_refused(line: &mut [u8], at: usize, e: Refusal) -> usize {
     let to = text::plain(line, at, b" refused ");
-    text::decimal(line, to, n as usize)
+    text::decimal(line, to, number(e))
+}
+
+fn number(e: Refusal) -> usize {
+    usize::from(u8::from(e))
 }
 
 // The last line: whether the packet handed out, the first bytes of out, is the one that went in.
-pub(crate) fn end(rt: &impl Print, packet: &[u8], out: &[u8], length: usize) -> io::Result<()> {
-    if length == 0 {
+pub(crate) fn end(
+    rt: &impl Print,
+    packet: &[u8],
+    out: &[u8],
+    length: Option<usize>,
+) -> io::Result<()> {
+    let Some(n) = length else {
         return rt.write_all(b"the packet was not handed out\n");
-    }
-    if is_front(packet, out, length) {
+    };
+    if is_front(packet, out, n) {
         rt.write_all(b"the packet is the one that went in\n")
     } else {
         rt.write_all(b"the packet is not the one that went in\n")

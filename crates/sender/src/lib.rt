@@ -6,4 +6,4 @@ mod parts;
 mod ready;
 
 pub use calls::{fragment, fragments};
-pub use sender_rules::{Sent, SentAll, Split};
+pub use sender_rules::Split;

@@ -1,46 +1,29 @@
 // What is checked before anything is sent.
-ghost use Rattle.std.specs.Prelude.{◌≡◌, true, false, length};
+ghost use Rattle.std.specs.Prelude.{◌≡◌, true, false, length, Err};
 ghost use Rattle.base_rules.specs.Answer.{answered};
-ghost use Rattle.af_rules.specs.Calls.{af_fault};
+ghost use Rattle.base_rules.specs.declared.Refusal.TheVariants as refusal;
 ghost use Rattle.cut_rules.specs.Plan.{figures_of, number_of};
 ghost use Rattle.sender_rules.specs.Calls.{packet_fault};
 
-use af::Checked;
-use cut::{Planned, Settings};
-
-// The first of the AF checks 20 to 25 that is due, 0 for none.
-fn af_fault(packet: &[u8]) -> u8
-    ensures { result ≡ af_fault packet.now }
-{
-    let checked = af::check(packet);
-    match checked {
-        Checked::Refused(n) => n,
-        Checked::Packet(_) => 0,
-    }
-}
+use base::Refusal;
+use cut::{Figures, Settings};
 
 // Whether a plan is refused for its settings.
-fn unfit(planned: Planned) -> bool
-    ensures { (result ≡ true → planned ≡ Planned.Refused 40) × (result ≡ false → planned ≡ Planned.Refused 40 → ⊥) }
+fn unfit(planned: Result<Figures, Refusal>) -> bool
+    ensures { (result ≡ true → planned ≡ Err refusal.Settings) × (result ≡ false → planned ≡ Err refusal.Settings → ⊥) }
 {
-    match planned {
-        Planned::Refused(n) => n == 40,
-        Planned::Cut(_) => false,
-    }
+    matches!(planned, Err(Refusal::Settings))
 }
 
 // The cut of a packet, or 40, the AF checks, 41, the first that is due. A plan knows the length alone: of its refusals only 40 comes before
 // the AF checks, and behind them only 41 is left.
-pub(crate) fn ready(g: Settings, packet: &[u8]) -> Planned
+pub(crate) fn ready(g: Settings, packet: &[u8]) -> Result<Figures, Refusal>
     ensures { number_of result ≡ answered (packet_fault g packet.now) (figures_of g (length packet.now)) }
 {
     let planned = cut::plan(g, packet.len());
     if unfit(planned) {
         return planned;
     }
-    let fault = af_fault(packet);
-    if fault != 0 {
-        return Planned::Refused(fault);
-    }
+    af::check(packet)?;
     planned
 }

@@ -8,23 +8,25 @@ use native.Mathlib.Omega.{arith}
 use borrow.Author.Tests.{ltb-false, le-ltb, eqb-true, eqb-false, not-false}
 use lib.Dec.{ltb, eqb, lit<}
 use lib.ListN.{length}
+use Rattle.std.specs.Prelude.{Result, Ok, Err}
 use Rattle.base_rules.specs.Answer.{refused, answered}
 use Rattle.base_rules.specs.Bounds.{least_l, most_l, most_f}
+use Rattle.base_rules.specs.Refusal.{number, told}
+use Rattle.base_rules.specs.declared.Refusal.{Refusal}
+use Rattle.base_rules.specs.declared.Refusal.TheVariants as refusal
 use Rattle.base_rules.specs.Tests.{first}
-use Rattle.base_rules.proofs.Answers.{refuses}
+use Rattle.base_rules.proofs.Answers.{refuses, number-positive}
+use Rattle.base_rules.proofs.ByFault.{told_err}
 use Rattle.base_rules.proofs.Firsts.{due, skip, clear, clear_rest}
 use Rattle.base_rules.proofs.Logic.{either, same, other}
-use Rattle.cut_rules.specs.Plan.{fit, plan_fault, plan_of, figures_of, number_of}
+use Rattle.cut_rules.specs.Plan.{fit, plan_fault, plan_of, figures_of, values_of, number_of}
 use Rattle.cut_rules.specs.Sizes.{f}
 use Rattle.cut_rules.specs.declared.Settings.{Settings}
 use Rattle.cut_rules.specs.declared.Figures.{Figures}
-use Rattle.cut_rules.specs.declared.Planned.{Planned}
-use Rattle.cut_rules.specs.declared.Planned.TheVariants.{Cut, Refused}
 use Rattle.cut_rules.proofs.PlanCases.{Within, within, plan_40, one_planned}
 use Rattle.af_rules.specs.Calls.{af_fault, check_call}
 use Rattle.af_rules.specs.Calls as calls
 use Rattle.af_rules.specs.declared.Figures as declared
-use Rattle.af_rules.specs.declared.Checked.TheVariants as checked
 use Rattle.af_rules.proofs.Proved.{a3}
 use Rattle.code_rules.proofs.CallCases.{granted_by, refused_by}
 use Rattle.sender_rules.specs.Calls.{checks, packet_fault}
@@ -34,36 +36,16 @@ use Rattle.sender_rules.specs.inner.Parts.{Figured}
 
 module _ (packet : List ℕ) where
   -- the number with which the AF check refused is the one that is due
-  pub af-refused : (n : ℕ) → calls.number_of (checked.Refused n) ≡ check_call packet → n ≡ af_fault packet
-  unfolding check_call calls.number_of
-  af-refused n e = (refused_by n (af_fault packet) _ e).0
+  pub af-refused : (e : Refusal) → calls.number_of (Err e) ≡ check_call packet → number e ≡ af_fault packet
+  unfolding check_call calls.number_of told
+  af-refused e due = (refused_by (number e) (af_fault packet) _ due).0
 
   -- where the AF check took the packet, no AF number is due
-  pub af-granted : (a : declared.Figures) → calls.number_of (checked.Packet a) ≡ check_call packet → 0 ≡ af_fault packet
-  unfolding check_call calls.number_of
+  pub af-granted : (a : declared.Figures) → calls.number_of (Ok a) ≡ check_call packet → 0 ≡ af_fault packet
+  unfolding check_call calls.number_of told
   af-granted a e = (granted_by (af_fault packet) _ _ e).0
 
 -- ---- the settings, by what a plan was answered
-
--- a refused plan is refused for its settings just where its number is 40
-pub refused_40 : (planned : Planned) (n : ℕ) → planned ≡ Refused n
-    → (eqb n 40 ≡ true → planned ≡ Refused 40) × (eqb n 40 ≡ false → planned ≡ Refused 40 → ⊥)
-refused_40 planned n is = (
-  (λ (e : eqb n 40 ≡ true). is ∙ ap Refused (eqb-true n 40 e)),
-  (λ (e : eqb n 40 ≡ false) (q : planned ≡ Refused 40).
-      let same : n ≡ 40 = cc (is, q) in
-      eqb-false n 40 e same),
-)
-
--- a plan that gave figures is not refused for its settings
-pub cut_no_40 : (planned : Planned) (p : Figures) → planned ≡ Cut p
-    → (false ≡ true → planned ≡ Refused 40) × (false ≡ false → planned ≡ Refused 40 → ⊥)
-cut_no_40 planned p is = (
-  (λ (e : false ≡ true). cc),
-  (λ (e : false ≡ false) (q : planned ≡ Refused 40).
-      let z : ◌≡◌ {A = ℕ} 0 1 = cc (is, q) in
-      omega arith),
-)
 
 -- none of the other numbers of a plan is 40
 not_40 : (a b c : Bool) → 40 ≡ first ((a, 20) ∷ (b, 22) ∷ (c, 41) ∷ []) → ⊥
@@ -73,18 +55,18 @@ not_40 false true c e = omega arith
 not_40 false false true e = omega arith
 not_40 false false false e = omega arith
 
-module _ (g : Settings) (l : ℕ) (planned : Planned) (e : number_of planned ≡ plan_of g l) where
-  unfit_40 : planned ≡ Refused 40 → fit g ≡ false
-  unfolding plan_of plan_fault number_of
+module _ (g : Settings) (l : ℕ) (planned : Result Figures Refusal) (e : number_of planned ≡ plan_of g l) where
+  unfit_40 : planned ≡ Err refusal.Settings → fit g ≡ false
+  unfolding plan_of plan_fault number_of told number
   unfit_40 is =
       let told : refused 40 ≡ plan_of g l = sym (ap number_of is) ∙ e in
       let fault : 40 ≡ plan_fault g l = (refused_by 40 (plan_fault g l) _ told).0 in
       either (fit g) (λ (ok : fit g ≡ true). absurd (not_40 _ _ _ (fault ∙ sym (skip 40 _ (rw ok) refl)))) (λ bad. bad)
 
   -- settings whose plan is answered with anything but 40 fit
-  pub fit_else : (planned ≡ Refused 40 → ⊥) → fit g ≡ true
-  unfolding number_of
-  fit_else is-not = either (fit g) (λ ok. ok) (λ bad. absurd (is-not (one_planned planned (Refused 40) (e ∙ sym (plan_40 g l bad)))))
+  pub fit_else : (planned ≡ Err refusal.Settings → ⊥) → fit g ≡ true
+  unfolding number_of told number
+  fit_else is-not = either (fit g) (λ ok. ok) (λ bad. absurd (is-not (one_planned planned (Err refusal.Settings) (e ∙ sym (plan_40 g l bad)))))
 
 -- ---- the number that is due
 
@@ -111,20 +93,20 @@ module _ (g : Settings) (packet : List ℕ) where
       (λ e. due_more (packet_fault g packet) rest (pos_of_ne-zero (eqb-false (packet_fault g packet) 0 e)) refl ∙ none)
 
   -- the answer so far: 40, the AF checks, and else what the plan says
-  pub ready_40 : (planned : Planned) → number_of planned ≡ plan_of g (length packet) → planned ≡ Refused 40
+  pub ready_40 : (planned : Result Figures Refusal) → number_of planned ≡ plan_of g (length packet) → planned ≡ Err refusal.Settings
       → number_of planned ≡ answered (packet_fault g packet) (figures_of g (length packet))
-  unfolding packet_fault number_of
+  unfolding packet_fault number_of told number
   ready_40 planned e is =
       let bad : fit g ≡ false = unfit_40 g (length packet) planned e is in
       ap number_of is ∙ refuses 40 _ _ (lit< tt) (due 40 _ (rw bad))
 
   module _ (ok : fit g ≡ true) where
     -- at settings that fit, a packet that fails the AF checks is refused with their number
-    pub ready_af : (n : ℕ) → n ≡ af_fault packet → (n ≡ 0 → ⊥) → refused n ≡ answered (packet_fault g packet) (figures_of g (length packet))
-    unfolding packet_fault
-    ready_af n e some =
-        let faulty : af_fault packet ≡ 0 → ⊥ = λ (z : af_fault packet ≡ 0). some (e ∙ z) in
-        refuses n _ _ (pos_of_ne-zero some) (e ∙ skip 40 _ (rw ok) (due (af_fault packet) _ (other faulty)))
+    pub ready_af : (e : Refusal) → number e ≡ af_fault packet → number_of (Err e) ≡ answered (packet_fault g packet) (figures_of g (length packet))
+    unfolding packet_fault number_of
+    ready_af e is =
+        let faulty : af_fault packet ≡ 0 → ⊥ = λ (z : af_fault packet ≡ 0). omega (arith, is, number-positive e) in
+        told_err _ values_of _ e (is ∙ skip 40 _ (rw ok) (due (af_fault packet) _ (other faulty)))
 
     -- behind the AF checks a plan of the length alone has the same number
     same_fault : af_fault packet ≡ 0 → plan_fault g (length packet) ≡ packet_fault g packet
@@ -135,22 +117,23 @@ module _ (g : Settings) (packet : List ℕ) where
         ∙ skip 40 _ (rw ok) (skip (af_fault packet) _ (same sound) refl)
 
     -- at settings that fit, a packet that passes the AF checks is answered as the plan of its length
-    pub ready_plan : (planned : Planned) → number_of planned ≡ plan_of g (length packet) → af_fault packet ≡ 0
+    pub ready_plan : (planned : Result Figures Refusal) → number_of planned ≡ plan_of g (length packet) → af_fault packet ≡ 0
         → number_of planned ≡ answered (packet_fault g packet) (figures_of g (length packet))
     unfolding plan_of
     ready_plan planned e sound = e ∙ ap (λ (n : ℕ). answered n (figures_of g (length packet))) (same_fault sound)
 
   -- what that answer tells
-  pub figured : (p : Figures) → number_of (Cut p) ≡ answered (packet_fault g packet) (figures_of g (length packet)) → Figured g packet p
-  unfolding number_of
+  pub figured : (p : Figures) → number_of (Ok p) ≡ answered (packet_fault g packet) (figures_of g (length packet)) → Figured g packet p
+  unfolding number_of told
   figured p e =
       let both = granted_by (packet_fault g packet) _ _ e in
       record { values = both.1; passed = sym both.0 }
 
   -- a refusal in place of the figures has the packet's number, which is not 0
-  pub unready : (n : ℕ) → number_of (Refused n) ≡ answered (packet_fault g packet) (figures_of g (length packet)) → (n ≡ packet_fault g packet) × (0 < n)
-  unfolding number_of
-  unready n e = refused_by n (packet_fault g packet) _ e
+  pub unready : (e : Refusal) → number_of (Err e) ≡ answered (packet_fault g packet) (figures_of g (length packet))
+      → (number e ≡ packet_fault g packet) × (0 < number e)
+  unfolding number_of told
+  unready e due = refused_by (number e) (packet_fault g packet) _ due
 
   -- ---- a packet that is not refused
 

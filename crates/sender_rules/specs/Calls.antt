@@ -1,18 +1,17 @@
 -- What the senders answer (document 01, "Numbers given back": "Senders: 40, AF checks, 41, 42, ROOM").
-use Rattle.std.specs.Prelude.{Bool, cond, not, List, [], ◌∷◌, ℕ, ◌+◌, ◌-◌, ◌*◌, leb, ltb, eqb, length, take, drop}
+use Rattle.std.specs.Prelude.{Bool, cond, not, List, [], ◌∷◌, ℕ, ◌+◌, ◌-◌, ◌*◌, leb, ltb, eqb, length, take, drop, Result}
 use Rattle.base_rules.specs.Bounds.{most_f, place}
 use Rattle.base_rules.specs.Tests.{first}
 use Rattle.base_rules.specs.Bytes.{splice}
-use Rattle.base_rules.specs.Answer.{Answer, granted, refused, Outcome, settled}
+use Rattle.base_rules.specs.Answer.{Answer, Outcome, settled}
+use Rattle.base_rules.specs.Refusal.{told}
+use Rattle.base_rules.specs.declared.Refusal.{Refusal}
 use Rattle.cut_rules.specs.declared.Settings.{Settings}
 use Rattle.cut_rules.specs.Sizes.{most_h, h, f, s}
 use Rattle.cut_rules.specs.Plan.{fit}
 use Rattle.af_rules.specs.Calls.{af_fault}
 use Rattle.sender_rules.specs.Fragments.{payload_for, fragment_for, fragments_for}
-use Rattle.sender_rules.specs.declared.Sent.{Sent}
-use Rattle.sender_rules.specs.declared.Sent.TheVariants as sent
-use Rattle.sender_rules.specs.declared.SentAll.{SentAll}
-use Rattle.sender_rules.specs.declared.SentAll.TheVariants as all
+use Rattle.sender_rules.specs.declared.Split.{Split}
 
 -- 40 SETTINGS, the AF checks, 41 TOOMANY, in front of what else is checked
 abbrev pub checks : Settings → List ℕ → List (Bool × ℕ) → List (Bool × ℕ)
@@ -36,10 +35,9 @@ fragment_call g number packet i out =
     (splice out 0 (fragment_for g number packet i))
     out
 
--- document 01's number and values for each case
-unfoldable pub sent_number : Sent → Answer
-sent_number (sent.Fragment n) = granted (n ∷ [])
-sent_number (sent.Refused n) = refused n
+-- document 01's number and values for each case: the bytes written
+unfoldable pub sent_number : Result ℕ Refusal → Answer
+sent_number r = told (λ n. n ∷ []) r
 
 -- what all fragments are refused for, with `room` bytes lent: then 1 ROOM
 unfoldable pub fragments_fault : Settings → ℕ → List ℕ → ℕ → ℕ
@@ -53,10 +51,13 @@ fragments_call g number packet out =
     (splice out 0 (fragments_for g number packet))
     out
 
+-- the values that the answer carries, in the same order
+unfoldable pub split_values : Split → List ℕ
+split_values p = p.f ∷ p.h ∷ p.s ∷ p.last ∷ []
+
 -- document 01's number and values for each case
-unfoldable pub all_number : SentAll → Answer
-all_number (all.Fragments p) = granted (p.f ∷ p.h ∷ p.s ∷ p.last ∷ [])
-all_number (all.Refused n) = refused n
+unfoldable pub all_number : Result Split Refusal → Answer
+all_number r = told split_values r
 
 -- card.h, "f fragments of h + s bytes each, the last one of h + last": part i of `out`, by these figures
 unfoldable pub part_at : ℕ → ℕ → ℕ → ℕ → List ℕ → ℕ → List ℕ

@@ -1,5 +1,6 @@
 -- What is claimed of the fragments that are sent (clause 7.3): the proofs are in proofs/Proved.antt.
-use Rattle.std.specs.Prelude.{true, false, List, [], ◌++◌, ◌≡◌, ℕ, zero, suc, ◌+◌, ◌-◌, ◌*◌, ◌/◌, ◌%◌, ◌≤◌, ◌<◌, length, get_or}
+use Rattle.base_rules.specs.declared.Refusal.{Refusal}
+use Rattle.std.specs.Prelude.{true, false, List, [], ◌++◌, ◌≡◌, ℕ, zero, suc, ◌+◌, ◌-◌, ◌*◌, ◌/◌, ◌%◌, ◌≤◌, ◌<◌, length, get_or, Option, Result}
 use Rattle.base_rules.specs.Bytes.{splice}
 use Rattle.cut_rules.specs.declared.Address.{Address}
 use Rattle.cut_rules.specs.declared.Settings.{Settings}
@@ -8,8 +9,7 @@ use Rattle.header_rules.specs.Read.{fields_of, bad_address, fault_of}
 use Rattle.header_rules.specs.Claims.{Fitting}
 use Rattle.sender_rules.specs.Fragments.{block_for, payload_for, header_for, fragment_for, fragments_for}
 use Rattle.sender_rules.specs.Calls.{packet_fault, sent_number, fragments_fault, all_number, part_at, most_sent}
-use Rattle.sender_rules.specs.declared.Sent.{Sent}
-use Rattle.sender_rules.specs.declared.SentAll.{SentAll}
+use Rattle.sender_rules.specs.declared.Split.{Split}
 
 -- document 01: the bytes of a fragment: h, and with FEC s; without it s, and for the last one what is left
 pub record Sized (g : Settings) (packet : List ℕ) : Type 0 where
@@ -25,7 +25,7 @@ Sizes = (g : Settings) (packet : List ℕ) → packet_fault g packet ≡ 0 → S
 -- clause 7.4: every fragment that is sent passes the checks 2 to 8 for every configuration that accepts its address, and reads as it was meant
 abbrev pub Received : Type 0
 Received =
-    (g : Settings) (number : ℕ) (packet : List ℕ) (i : ℕ) (own : Address)
+    (g : Settings) (number : ℕ) (packet : List ℕ) (i : ℕ) (own : Option Address)
     → packet_fault g packet ≡ 0 → number < 65536 → Fitting g.address → i < f g (length packet) → bad_address own g.address ≡ false
     → (fault_of own (fragment_for g number packet i) ≡ 0) × (fields_of (fragment_for g number packet i) ≡ header_for g number packet i)
 
@@ -61,8 +61,8 @@ MostSent =
 
 -- no second answer of a sender has the same number and values
 abbrev pub OneSent : Type 0
-OneSent = (a b : Sent) → sent_number a ≡ sent_number b → a ≡ b
+OneSent = (a b : Result ℕ Refusal) → sent_number a ≡ sent_number b → a ≡ b
 
 -- nor of the sender of all
 abbrev pub OneSentAll : Type 0
-OneSentAll = (a b : SentAll) → all_number a ≡ all_number b → a ≡ b
+OneSentAll = (a b : Result Split Refusal) → all_number a ≡ all_number b → a ≡ b

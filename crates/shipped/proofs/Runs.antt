@@ -5,11 +5,13 @@ use Prim.Native.Nat.{ℕ, ◌≤◌}
 use native.Mathlib.Omega.{arith}
 use borrow.Author.Tests.{eq-eqb, le-ltb}
 use lib.ListN.{length, replicate}
+use Rattle.std.specs.Prelude.{Option, Result, Ok}
+use Rattle.base_rules.specs.Refusal.{told}
+use Rattle.base_rules.specs.declared.Refusal.{Refusal}
 use Rattle.base_rules.specs.Answer.{granted}
 use Rattle.base_rules.specs.Bounds.{most_l}
 use Rattle.base_rules.specs.Bytes.{Bytes}
 use Rattle.base_rules.specs.Written.{number_of}
-use Rattle.base_rules.specs.declared.Written.TheVariants.{Done}
 use Rattle.cut_rules.specs.declared.Address.{Address}
 use Rattle.packed_rules.specs.Claims.{TypedTable}
 use Rattle.packed_rules.specs.Packed.{table-bytes, packed_of, table_from, unpack_fault, unpack_call}
@@ -45,8 +47,8 @@ pub record Stands (s : Buffers) : Type 0 where
 
 -- bytes that are unpacked as a record have no fault, and are that record's
 taken : (bytes : List ℕ) (t : Table) → unpack_call bytes ≡ (granted [], t) → (unpack_fault bytes ≡ 0) × (t ≡ table_from bytes)
-unfolding number_of
-taken bytes t e = good_record bytes Done t (sym e) refl
+unfolding number_of told
+taken bytes t e = good_record bytes (Ok tt) t (sym e) refl
 
 fresh_stands : (lent : List ℕ) → length lent ≡ all_places → Stands (fresh_with lent)
 fresh_stands lent all =
@@ -66,7 +68,7 @@ room_told told room = omega arith
 
 -- the answer that it gave, which its number and the bytes told are, and which is read off them
 pub record Gave (e : Call) : Type 0 where
-  pub answer : Received
+  pub answer : Result Received Refusal
   pub whole : Fits answer
   pub number : e.given ≡ (promise.number_of answer).0
   pub told : e.left.told ≡ told_after answer e.told
@@ -160,7 +162,7 @@ made_gave c m = call_gave _ _ (reached_stands c) m
 
 -- ---- there are calls
 
-module _ (s : Buffers) (stands : Stands s) (own : Address) (datagram told out : List ℕ) (room : most_l ≤ length out)
+module _ (s : Buffers) (stands : Stands s) (own : Option Address) (datagram told out : List ℕ) (room : most_l ≤ length out)
     (told_room : receipt_bytes ≤ length told) (bytes : Bytes datagram) (y : Reception) (step : Step own (state_of s) datagram out y) where
   answers : Answers y
   answers = step_answers own (state_of s) datagram out y stands.good stands.typed room step

@@ -9,6 +9,7 @@ use borrow.Author.Tests.{eq-eqb, ne_eqb, le-ltb}
 use lib.Dec.{eqb}
 use lib.ListN.{length, take, drop}
 use lib.Seq.{take_at}
+use Rattle.std.specs.Prelude.{Option}
 use Rattle.base_rules.specs.Answer.{granted, settled, answer_in, bytes_in}
 use Rattle.base_rules.specs.Bytes.{splice, number_at, bytes_of}
 use Rattle.base_rules.proofs.Logic.{either}
@@ -79,7 +80,7 @@ unfolding Fitting address_of
 fitting addressed source dest p q = either (eqb addressed 0) (λ e. rw e tt) (λ e. rw e (p, q))
 
 -- no address is accepted whatever the call is handed,
-none_accepted : (own : Address) (addressed source dest : ℕ) → addressed ≡ 0 → bad_address own (address_of addressed source dest) ≡ false
+none_accepted : (own : Option Address) (addressed source dest : ℕ) → addressed ≡ 0 → bad_address own (address_of addressed source dest) ≡ false
 unfolding bad_address address_of
 none_accepted own addressed source dest e = rw e
 

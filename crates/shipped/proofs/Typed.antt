@@ -6,6 +6,7 @@ use Prim.Native.Nat.{ℕ, ◌≤◌, ◌<◌}
 use native.Mathlib.Omega.{arith}
 use lib.Dec.{eqb, lit<}
 use lib.ListN.{length, length-set, length-replicate}
+use Rattle.std.specs.Prelude.{Option}
 use Rattle.base_rules.specs.Bounds.{most_l, most_f}
 use Rattle.base_rules.specs.Bytes.{Bytes}
 use Rattle.base_rules.proofs.Logic.{either}
@@ -17,9 +18,8 @@ use Rattle.header_rules.proofs.Proved.{passed_sound}
 use Rattle.packed_rules.specs.Claims.{Typed, TypedTable}
 use Rattle.places_rules.specs.declared.Place.{Place}
 use Rattle.places_rules.specs.declared.Table.{Table}
-use Rattle.places_rules.specs.declared.Displaced.{Displaced}
 use Rattle.places_rules.specs.Places.{four, free, delivered, spoiled, place_at, with_place, key_in, open_at, turned, is_last, opened_by, kept_in, in_condition}
-use Rattle.receiver_rules.specs.Promise.{Reception, reception, State, keep_at, closed_at, Settled, waits, delivers, damaged, Step}
+use Rattle.receiver_rules.specs.Promise.{Reception, reception, refused_as, State, keep_at, closed_at, Settled, waits, delivers, damaged, Step}
 use Rattle.receiver_rules.proofs.Ranges.{opens_below, written_place}
 use Rattle.link.proofs.Basic.{same_or_not, other_place}
 use Rattle.link.proofs.View.{Good, View, unheard, refuses, keeps, opens, view}
@@ -93,7 +93,7 @@ module _ (t : Table) (typed : TypedTable t) where
     oldest = either (eqb (place_at t i).condition free) (λ e. rw e typed.oldest) (λ e. rw e (omega arith));
   }
 
-  settled_typed : {i : ℕ} {d : Displaced} {b out : List ℕ} {y : Reception} → i < four → Settled t i d b out y → TypedTable y.table
+  settled_typed : {i : ℕ} {d : Option ℕ} {b out : List ℕ} {y : Reception} → i < four → Settled t i d b out y → TypedTable y.table
   unfolding reception closed_at
   settled_typed low (waits e) = typed
   settled_typed {i = i} low (delivers P e a) = written_typed i _ low (closed_typed (place_at t i) delivered (lit< tt) (typed.each i low))
@@ -101,9 +101,9 @@ module _ (t : Table) (typed : TypedTable t) where
 
 -- ---- a call
 
-module _ (own : Address) (s : State) (d o : List ℕ) (y : Reception) (r : Good s) (typed : TypedTable s.table) (bytes : Bytes d) where
+module _ (own : Option Address) (s : State) (d o : List ℕ) (y : Reception) (r : Good s) (typed : TypedTable s.table) (bytes : Bytes d) where
   view_typed : View own s d o y → TypedTable y.table
-  unfolding reception keep_at
+  unfolding refused_as keep_at
   view_typed (unheard n q) = subst (λ (z : Reception). TypedTable z.table) (sym q) typed
   view_typed (refuses e l n q) = subst (λ (z : Reception). TypedTable z.table) (sym q) typed
   view_typed (keeps e l n z) =

@@ -4,10 +4,9 @@
 // fragment of the packet that they are of: the number of the answer, and how many bytes are handed out.
 #![tactic(auto)]
 
-use base::{MOST_L, Written};
-use cut::Address;
-use places::{ALL_PLACES, OPEN, Place, Table};
-use receiver::{Queried, Received};
+use base::{MOST_L, Refusal};
+use places::{ALL_PLACES, FOUR, OPEN, Place, Table};
+use receiver::Received;
 use std::io;
 
 // A place in range: with FEC, ten fragments of a hundred bytes, chunks of a hundred with five zeros.
@@ -23,66 +22,49 @@ fn sound() -> Place {
     p
 }
 
-fn received_number(a: Received) -> usize {
-    match a {
-        Received::Kept(_) => 0,
-        Received::Delivered {
-            length: _,
-            missing: _,
-            displaced: _,
-        } => 0,
-        Received::Damaged(_) => 13,
-        Received::Refused(n) => n as usize,
+// Why an answer is a refusal: a packet that is damaged counts as one.
+fn fault_of(answer: Result<Received, Refusal>) -> Option<Refusal> {
+    match answer {
+        Ok(Received::Damaged(_)) => Some(Refusal::Damaged),
+        Ok(_) => None,
+        Err(e) => Some(e),
     }
 }
 
-// How many bytes an answer hands out.
-fn handed_length(a: Received) -> usize {
-    match a {
-        Received::Kept(_) => 0,
-        Received::Delivered {
-            length,
-            missing: _,
-            displaced: _,
-        } => length,
-        Received::Damaged(_) => 0,
-        Received::Refused(_) => 0,
+// How many bytes an answer hands out: a count, so that 0 says that it hands out none.
+fn handed_length(answer: Result<Received, Refusal>) -> usize {
+    match answer {
+        Ok(Received::Delivered { length, .. }) => length,
+        _ => 0,
     }
 }
 
-fn queried_number(a: Queried) -> usize {
-    match a {
-        Queried::Places(_) => 0,
-        Queried::Refused(n) => n as usize,
-    }
-}
-
-fn written_number(a: Written) -> usize {
-    match a {
-        Written::Done => 0,
-        Written::Refused(n) => n as usize,
-    }
-}
-
-// The number with which receive refuses a record.
-fn by_receive(t: Table) -> usize {
+// Why receive refuses a record.
+fn by_receive(t: Table) -> Option<Refusal> {
     let mut lent = [0u8; ALL_PLACES];
     let mut out = [0u8; MOST_L];
-    let reply = receiver::receive(Address::None, t, &mut lent, b"", &mut out);
-    let answer = reply.answer;
-    received_number(answer)
+    let reply = receiver::receive(None, t, &mut lent, b"", &mut out);
+    fault_of(reply.answer)
 }
 
-fn by_query(t: Table) -> usize {
+fn by_query(t: Table) -> Option<Refusal> {
     let lent = [0u8; ALL_PLACES];
-    queried_number(receiver::query(t, &lent))
+    receiver::query(t, &lent).err()
 }
 
-fn by_clear(t: Table) -> usize {
+fn by_clear(t: Table) -> Option<Refusal> {
     let lent = [0u8; ALL_PLACES];
     let cleared = receiver::clear(t, &lent);
-    let answer = cleared.answer;
-    written_number(answer)
+    cleared.answer.err()
+}
+
+// The number of a refusal, 0 where there is none.
+fn put_fault(line: &mut [u8], at: usize, fault: Option<Refusal>) -> usize {
+    text::decimal(line, at, fault.map_or(0, number))
+}
+
+fn number(e: Refusal) -> usize {
+    usize::from(u8::from(e))
 }
 
 // The line of one record.
@@ -92,11 +74,11 @@ fn tell(rt: &impl Print, i: usize, field: &[u8], value: usize, t: Table) -> io::
     at = text::plain(&mut line, at, field);
     at = text::decimal(&mut line, at, value);
     at = text::plain(&mut line, at, b" ");
-    at = text::decimal(&mut line, at, by_receive(t));
+    at = put_fault(&mut line, at, by_receive(t));
     at = text::plain(&mut line, at, b" ");
-    at = text::decimal(&mut line, at, by_query(t));
+    at = put_fault(&mut line, at, by_query(t));
     at = text::plain(&mut line, at, b" ");
-    at = text::decimal(&mut line, at, by_clear(t));
+    at = put_fault(&mut line, at, by_clear(t));
     at = text::plain(&mut line, at, b"\n");
     show(rt, &line, at)
 }
@@ -126,10 +108,10 @@ fn condition(rt: &impl Print, i: usize, value: u8) -> io::Result<()> {
     with(rt, i, b" condition ", value as usize, p)
 }
 
-fn count(rt: &impl Print, i: usize, value: u32, size: u16) -> io::Result<()> {
+fn count(rt: &impl Print, i: usize, value: u32) -> io::Result<()> {
     let mut p = sound();
     p.count = value;
-    p.size = size;
+    p.size = 0;
     with(rt, i, b" count ", value as usize, p)
 }
 
@@ -166,29 +148,25 @@ fn rsz(rt: &impl Print, i: usize, value: u8, fec: bool) -> io::Result<()> {
 
 // The lines of place i.
 fn place(rt: &impl Print, i: usize) -> io::Result<()> {
-    condition(rt, i, 0)?;
-    condition(rt, i, 3)?;
-    condition(rt, i, 4)?;
-    condition(rt, i, 255)?;
-    count(rt, i, 0, 0)?;
-    count(rt, i, 256, 0)?;
-    count(rt, i, 257, 0)?;
-    count(rt, i, 4294967295, 0)?;
-    size(rt, i, 48)?;
-    size(rt, i, 49)?;
-    size(rt, i, 65535)?;
-    last(rt, i, 12288, 0)?;
-    last(rt, i, 12289, 0)?;
-    last(rt, i, 100, 100)?;
-    last(rt, i, 101, 100)?;
-    rsk(rt, i, 0, true)?;
-    rsk(rt, i, 1, true)?;
-    rsk(rt, i, 207, true)?;
-    rsk(rt, i, 208, true)?;
-    rsk(rt, i, 255, false)?;
-    rsz(rt, i, 99, true)?;
-    rsz(rt, i, 100, true)?;
-    rsz(rt, i, 255, false)
+    for value in [0, 3, 4, 255] {
+        condition(rt, i, value)?;
+    }
+    for value in [0, 256, 257, 4294967295] {
+        count(rt, i, value)?;
+    }
+    for value in [48, 49, 65535] {
+        size(rt, i, value)?;
+    }
+    for (value, size) in [(12288, 0), (12289, 0), (100, 100), (101, 100)] {
+        last(rt, i, value, size)?;
+    }
+    for (value, fec) in [(0, true), (1, true), (207, true), (208, true), (255, false)] {
+        rsk(rt, i, value, fec)?;
+    }
+    for (value, fec) in [(99, true), (100, true), (255, false)] {
+        rsz(rt, i, value, fec)?;
+    }
+    Ok(())
 }
 
 // The line of a record that says which place is displaced next.
@@ -225,13 +203,13 @@ fn stray(rt: &impl Print, name: &[u8], p: Place, datagram: &[u8]) -> io::Result<
     let mut lent = [0u8; ALL_PLACES];
     let mut out = [0u8; MOST_L];
     let t = places::with_place(places::fresh(), 0, p);
-    let reply = receiver::receive(Address::None, t, &mut lent, datagram, &mut out);
+    let reply = receiver::receive(None, t, &mut lent, datagram, &mut out);
     let answer = reply.answer;
     let mut line = [0u8; 80];
     let mut at = text::plain(&mut line, 0, b"stray ");
     at = text::plain(&mut line, at, name);
     at = text::plain(&mut line, at, b" ");
-    at = text::decimal(&mut line, at, received_number(answer));
+    at = put_fault(&mut line, at, fault_of(answer));
     at = text::plain(&mut line, at, b" ");
     at = text::decimal(&mut line, at, handed_length(answer));
     at = text::plain(&mut line, at, b"\n");
@@ -262,18 +240,17 @@ fn overdue(rt: &impl Print) -> io::Result<()> {
     p.kept[0] = true;
     p.kept[1] = true;
     let mut datagram = [0u8; 46];
-    base::put(&mut datagram, 0, &CODED);
+    let _ = base::put(&mut datagram, 0, &CODED);
     stray(rt, b"open", p, &datagram)
 }
 
 fn main(rt: HostRuntime) -> io::Result<()> {
-    place(&rt, 0)?;
-    place(&rt, 1)?;
-    place(&rt, 2)?;
-    place(&rt, 3)?;
-    oldest(&rt, 3)?;
-    oldest(&rt, 4)?;
-    oldest(&rt, 255)?;
+    for i in 0..FOUR {
+        place(&rt, i)?;
+    }
+    for value in [3, 4, 255] {
+        oldest(&rt, value)?;
+    }
     without_size(&rt)?;
     without_last(&rt)?;
     overdue(&rt)

@@ -1,102 +1,90 @@
 // A TAG packet: checked whole, read item by item, and searched by name beside a standing packet.
 #![tactic(auto)]
 
-ghost use Rattle.std.specs.Prelude.{◌≡◌};
-ghost use Rattle.item_rules.specs.Item.{number_of};
+ghost use Rattle.std.specs.Prelude.{◌≡◌, ◌∷◌};
+ghost use Rattle.base_rules.specs.Refusal.{fault_in};
+ghost use Rattle.base_rules.specs.Tests.{bit};
+ghost use Rattle.item_rules.specs.Item.{values_of};
 ghost use Rattle.tag_rules.specs.Find.{check_of, locate_of, value_of, value_place, PartShown};
-ghost use Rattle.tag_rules.specs.Calls.{opened_number, open_call, read_of, read_call, after_of, sought_number, located_number, locate_call};
+ghost use Rattle.tag_rules.specs.Calls.{opened_number, open_call, read_of, read_number, read_call, after_of, sought_number, values_at, located_number, locate_call, ToldAlike};
 
-use item::{Found, Item, Repeats, Step};
-pub use tag_rules::{Hit, Located, Opened, Sought};
+use base_rules::Refusal;
+use item::{Item, Repeats, Step};
+pub use tag_rules::{Hit, Located};
 
-// The number of the leftmost item at fault of a whole packet, or 0. A name whose slot has no mark has not stood before, so that few names are
+// Refuses the leftmost item at fault of a whole packet. A name whose slot has no mark has not stood before, so that few names are
 // searched for; where names may repeat none is.
-fn check(packet: &[u8], repeats: Repeats) -> u8
-    ensures { result ≡ check_of repeats packet.now }
+fn check(packet: &[u8], repeats: Repeats) -> Result<(), Refusal>
+    ensures { fault_in result ≡ check_of repeats packet.now }
 {
     let end = packet.len();
     let mut marks = item::no_marks();
     let mut at = 0;
+    // A loop and no iterator: each item says where the next begins.
     loop {
-        let step = item::step_in(packet, at, end);
+        let step = item::step_in(packet, at, end)?;
         match step {
             Step::Item(i) => {
                 let h = item::slot(i.name);
                 let mark = item::marked(repeats, marks[h]);
-                let n = item::fault_of(packet, 0, end, i, mark);
-                if n != 0 {
-                    return n;
-                }
+                item::fault_of(packet, 0, end, i, mark)?;
                 marks[h] = true;
                 at = i.from + i.len.0;
             }
             Step::End(_) => {
-                return 0;
-            }
-            Step::Refused(n) => {
-                return n;
+                return Ok(());
             }
         }
     }
 }
 
 // Opens a reader: the whole packet is checked before the first item is handed out.
-pub fn open_reader(packet: &[u8], repeats: Repeats) -> Opened
+pub fn open_reader(packet: &[u8], repeats: Repeats) -> Result<usize, Refusal>
     ensures { opened_number result ≡ open_call repeats packet.now }
 {
-    let fault = check(packet, repeats);
-    if fault != 0 {
-        return Opened::Refused(fault);
-    }
-    Opened::At(0)
+    check(packet, repeats).and(Ok(0))
 }
 
-// What a reader at `at` hands out; `refusal` is the number with which its packet was refused, or 0.
-pub fn read_at(packet: &[u8], at: usize, refusal: u8) -> Step
-    ensures { (result ≡ read_of packet.now at refusal) × (number_of result ≡ read_call packet.now at refusal) }
+// What a reader at `at` hands out; `refusal` is the number with which its packet was refused, or 0. The refusal of a step is a number, since a caller
+// may hand any in, and it is shown as it is.
+pub fn read_at(packet: &[u8], at: usize, refusal: u8) -> Result<Step, u8>
+    ensures { (result ≡ read_of packet.now at refusal) × (read_number result ≡ read_call packet.now at refusal) }
 {
     if refusal != 0 {
-        return Step::Refused(refusal);
+        return Err(refusal);
     }
-    item::step_in(packet, at, packet.len())
+    item::step_in(packet, at, packet.len()).map_err(u8::from)
 }
 
-// Where the reader stands then: behind the item; at the end, or refused, it stays.
+// Where the reader stands then: behind the item; at the end, or refused, it stays. `refusal` is the caller's number, which may be any.
 pub fn read_after(packet: &[u8], at: usize, refusal: u8) -> usize
     ensures { result ≡ after_of packet.now at refusal }
 {
-    let step = read_at(packet, at, refusal);
-    match step {
-        Step::Item(i) => i.from + i.len.0,
-        Step::End(_) => at,
-        Step::Refused(_) => at,
+    match read_at(packet, at, refusal) {
+        Ok(Step::Item(i)) => i.from + i.len.0,
+        Ok(Step::End(_)) => at,
+        Err(_) => at,
     }
 }
 
 // Where the name is: both packets are checked whole, the packet first, before either is searched.
-pub fn locate(packet: &[u8], standing: &[u8], repeats: Repeats, name: u32) -> Located
+pub fn locate(
+    packet: &[u8],
+    standing: &[u8],
+    repeats: Repeats,
+    name: u32,
+) -> Result<Located, Refusal>
     ensures { (result ≡ locate_of repeats packet.now standing.now name)
         × (located_number result ≡ locate_call repeats packet.now standing.now name) }
 {
-    let n = check(packet, repeats);
-    if n != 0 {
-        return Located::Refused(n);
+    check(packet, repeats)?;
+    check(standing, repeats)?;
+    if let Some(i) = item::first_in(packet, name, 0, packet.len()) {
+        return Ok(Located::Packet(i));
     }
-    let m = check(standing, repeats);
-    if m != 0 {
-        return Located::Refused(m);
-    }
-    let f = item::first_in(packet, name, 0, packet.len());
-    match f {
-        Found::At(i) => {
-            return Located::Packet(i);
-        }
-        Found::Nothing => {}
-    }
-    let g = item::first_in(standing, name, 0, standing.len());
-    match g {
-        Found::At(i) => Located::Standing(i),
-        Found::Nothing => Located::Refused(34),
+    match item::first_in(standing, name, 0, standing.len()) {
+        Some(i) => Ok(Located::Standing(i)),
+        None => Err(Refusal::Absent),
     }
 }
 
@@ -115,25 +103,32 @@ pub fn value(packet: &[u8], i: Item) -> &[u8]
     &packet[from..end]
 }
 
-// What a search answers, by where a name is: which packet has it and the item there, or the refusal.
-pub fn sought(l: Located) -> Sought
-    ensures { sought_number result ≡ located_number l }
+// Which packet has a name, and the item there. A function and no `From`, since both types are of another crate.
+fn hit(l: Located) -> Hit
+    ensures { bit result.standing ∷ values_of result.item ≡ values_at l }
 {
     match l {
-        Located::Packet(item) => Sought::Found(Hit {
+        Located::Packet(item) => Hit {
             standing: false,
             item,
-        }),
-        Located::Standing(item) => Sought::Found(Hit {
+        },
+        Located::Standing(item) => Hit {
             standing: true,
             item,
-        }),
-        Located::Refused(n) => Sought::Refused(n),
+        },
     }
 }
 
+// What a search answers, by where a name is: which packet has it and the item there, or the refusal. A caller's own kind of refusal, such
+// as a number, is handed on as it is. A function and no `From`, since none of the types is of this crate.
+pub fn sought<E>(l: Result<Located, E>) -> Result<Hit, E>
+    ensures { ToldAlike l result }
+{
+    l.map(hit)
+}
+
 // Searches for a name in the packet, then in the standing packet, and answers which has it and the item there, or the refusal.
-pub fn search(packet: &[u8], standing: &[u8], repeats: Repeats, name: u32) -> Sought
+pub fn search(packet: &[u8], standing: &[u8], repeats: Repeats, name: u32) -> Result<Hit, Refusal>
     ensures { sought_number result ≡ locate_call repeats packet.now standing.now name }
 {
     let l = locate(packet, standing, repeats, name);
@@ -144,11 +139,10 @@ pub fn search(packet: &[u8], standing: &[u8], repeats: Repeats, name: u32) -> So
 fn shown<'a>(packet: &'a [u8], standing: &'a [u8], repeats: Repeats, name: u32) -> &'a [u8]
     ensures { PartShown repeats packet.entry standing.entry name result }
 {
-    let l = locate(packet, standing, repeats, name);
-    match l {
-        Located::Packet(i) => value(packet, i),
-        Located::Standing(i) => value(standing, i),
-        Located::Refused(_) => &packet[..0],
+    match locate(packet, standing, repeats, name) {
+        Ok(Located::Packet(i)) => value(packet, i),
+        Ok(Located::Standing(i)) => value(standing, i),
+        Err(_) => &packet[..0],
     }
 }
 

@@ -10,6 +10,10 @@ use borrow.Author.Tests.{eqb-true, eqb-false}
 use Rattle.base_rules.specs.Answer.{answered}
 use Rattle.base_rules.specs.Tests.{bit}
 use Rattle.base_rules.proofs.Logic.{either, bit_one}
+use Rattle.std.specs.Prelude.{Result, Ok, Err}
+use Rattle.base_rules.specs.Refusal.{told, fault_in}
+use Rattle.base_rules.specs.declared.Refusal.{Refusal}
+use Rattle.base_rules.proofs.Answers.{one_told}
 use Rattle.item_rules.specs.declared.Item.{Item}
 use Rattle.item_rules.specs.declared.Step.{Step}
 use Rattle.item_rules.specs.declared.Step.TheVariants as step
@@ -17,13 +21,11 @@ use Rattle.item_rules.specs.Item.{values_of}
 use Rattle.item_rules.proofs.Proved.{one_item}
 use Rattle.item_rules.proofs.Starts.{item_starts}
 use Rattle.tag_rules.specs.declared.Hit.{Hit}
+use Rattle.tag_rules.specs.declared.Located.{Located}
 use Rattle.tag_rules.specs.declared.Located.TheVariants as located
-use Rattle.tag_rules.specs.declared.Opened.{Opened}
-use Rattle.tag_rules.specs.declared.Opened.TheVariants as opened
-use Rattle.tag_rules.specs.declared.Sought.TheVariants as sought
 use Rattle.tag_rules.specs.Find.{check_of}
-use Rattle.tag_rules.specs.Calls.{opened_number, open_call, sought_number, located_number, read_of}
-use Rattle.tag_rules.specs.Reading.{start_of, refusal_of, checked_run, items_of, last_of}
+use Rattle.tag_rules.specs.Calls.{opened_number, open_call, sought_number, values_at, located_number, read_of}
+use Rattle.tag_rules.specs.Reading.{start_of, checked_run, items_of, last_of}
 use Rattle.tag_rules.specs.Claims.{OneOpened, OneSought, OneLocated, Opens, InOrder, Ends, StaysAtEnd, StaysRefused, ReadShown, FoundShown}
 use Rattle.tag_rules.specs.Claims.{NoTwice, AcceptedStill, FoundStill, NthStill, StandingRefused, FoundNotTwice, NthNotTwice}
 use Rattle.tag_rules.specs.Claims.{NthBeyond, NthRefused, FindsFirst, FindsStanding, StandingAside, NthShown}
@@ -37,10 +39,7 @@ use Rattle.tag_rules.proofs.Repeated as repeated
 
 pub one_opened : OneOpened
 unfolding opened_number
-one_opened (opened.At a) (opened.At b) e = cc
-one_opened (opened.At a) (opened.Refused m) e = cc
-one_opened (opened.Refused n) (opened.At b) e = cc
-one_opened (opened.Refused n) (opened.Refused m) e = cc
+one_opened a b e = one_told (λ at. at ∷ []) (λ (n m : ℕ) q. cc) a b e
 
 -- a finding is which packet it names and what its item tells
 one_hit : (a b : Hit) → bit a.standing ≡ bit b.standing → values_of a.item ≡ values_of b.item → a ≡ b
@@ -51,30 +50,27 @@ one_hit a b p q = same (bit_one a.standing b.standing p) (one_item a.item b.item
 
 pub one_sought : OneSought
 unfolding sought_number
-one_sought (sought.Found a) (sought.Found b) e = ap sought.Found (one_hit a b (cc) (cc))
-one_sought (sought.Found a) (sought.Refused m) e = cc
-one_sought (sought.Refused n) (sought.Found b) e = cc
-one_sought (sought.Refused n) (sought.Refused m) e = cc
+one_sought a b e = one_told (λ (h : Hit). bit h.standing ∷ values_of h.item) (λ (h k : Hit) q. one_hit h k (cc) (cc)) a b e
+
+-- one place of an item
+one_place : (a b : Located) → values_at a ≡ values_at b → a ≡ b
+unfolding values_at
+one_place (located.Packet i) (located.Packet j) e = ap located.Packet (one_item i j (cc))
+one_place (located.Packet i) (located.Standing j) e = cc
+one_place (located.Standing i) (located.Packet j) e = cc
+one_place (located.Standing i) (located.Standing j) e = ap located.Standing (one_item i j (cc))
 
 pub one_located : OneLocated
 unfolding located_number
-one_located (located.Packet i) (located.Packet j) e = ap located.Packet (one_item i j (cc))
-one_located (located.Packet i) (located.Standing j) e = cc
-one_located (located.Packet i) (located.Refused m) e = cc
-one_located (located.Standing i) (located.Packet j) e = cc
-one_located (located.Standing i) (located.Standing j) e = ap located.Standing (one_item i j (cc))
-one_located (located.Standing i) (located.Refused m) e = cc
-one_located (located.Refused n) (located.Packet j) e = cc
-one_located (located.Refused n) (located.Standing j) e = cc
-one_located (located.Refused n) (located.Refused m) e = cc
+one_located a b e = one_told values_at one_place a b e
 
 -- what a check says, and what an opening then is
-opens_by : (n : ℕ) (o : Opened) → opened_number o ≡ answered n (0 ∷ []) → (start_of o ≡ 0) × (refusal_of o ≡ n)
-unfolding opened_number answered
-opens_by zero (opened.At at) e = (cc, refl)
-opens_by zero (opened.Refused m) e = (refl, cc)
-opens_by (suc n) (opened.At at) e = (cc, cc)
-opens_by (suc n) (opened.Refused m) e = (refl, cc)
+opens_by : (n : ℕ) (o : Result ℕ Refusal) → opened_number o ≡ answered n (0 ∷ []) → (start_of o ≡ 0) × (fault_in o ≡ n)
+unfolding opened_number told fault_in answered
+opens_by zero (Ok at) e = (cc, refl)
+opens_by zero (Err m) e = (refl, cc)
+opens_by (suc n) (Ok at) e = (cc, cc)
+opens_by (suc n) (Err m) e = (refl, cc)
 
 -- whatever answer fits, a reader begins at 0 and keeps the number that the check says
 pub opens : Opens
@@ -86,13 +82,13 @@ unfolding checked_run items_of last_of
 in_order w s n =
     either (eqb (check_of w s) 0) (λ q. rw (q, eqb-true (check_of w s) 0 q) (hands_run s n 0))
     (λ q. rw q (repeats s 0 (check_of w s) (refused_after s 0 (check_of w s) (eqb-false (check_of w s) 0 q)) n n (le_refl n)
-    ∙ ap (λ (u : Step). take n (replicate n u)) (refused_reads s 0 (check_of w s) (eqb-false (check_of w s) 0 q))))
+    ∙ ap (λ (u : Result Step ℕ). take n (replicate n u)) (refused_reads s 0 (check_of w s) (eqb-false (check_of w s) 0 q))))
 
 pub ends : Ends
 ends = endings.ends
 
 pub stays_at_end : StaysAtEnd
-stays_at_end s at refusal p e = stays s at refusal (sym (after_is s at refusal (step.End p) e))
+stays_at_end s at refusal p e = stays s at refusal (sym (after_is s at refusal (Ok (step.End p)) e))
 
 pub stays_refused : StaysRefused
 stays_refused s at refusal h n =

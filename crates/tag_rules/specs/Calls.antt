@@ -1,32 +1,35 @@
 -- What the calls on a packet answer; document 01, "Numbers given back", has the numbers.
-use Rattle.std.specs.Prelude.{cond, not, ◌||◌, List, [], ◌∷◌, ℕ, eqb, leb, length}
-use Rattle.base_rules.specs.Answer.{Answer, granted, refused, answered}
+use Rattle.std.specs.Prelude.{cond, not, ◌||◌, List, [], ◌∷◌, ℕ, eqb, leb, length, ◌≡◌, Ok}
+use Rattle.base_rules.specs.Answer.{Answer, answered}
+use Rattle.std.specs.Prelude.{Result, Err}
+use Rattle.base_rules.specs.Refusal.{told, numbered, told_number}
+use Rattle.base_rules.specs.declared.Refusal.{Refusal}
 use Rattle.base_rules.specs.Tests.{first, bit}
 use Rattle.item_rules.specs.declared.Repeats.{Repeats}
 use Rattle.item_rules.specs.declared.Step.{Step}
-use Rattle.item_rules.specs.declared.Step.TheVariants as step
-use Rattle.item_rules.specs.Item.{step_in, values_of, overrun_in, step_values}
+use Rattle.item_rules.specs.Item.{step_in, values_of, values_in, overrun_in, step_values}
 use Rattle.item_rules.specs.Run.{next_of, on_step, or_else, has_name, first_values, named_in, nth_values}
+use Rattle.tag_rules.specs.declared.Hit.{Hit}
 use Rattle.tag_rules.specs.declared.Located.{Located}
 use Rattle.tag_rules.specs.declared.Located.TheVariants as located
-use Rattle.tag_rules.specs.declared.Opened.{Opened}
-use Rattle.tag_rules.specs.declared.Opened.TheVariants as opened
-use Rattle.tag_rules.specs.declared.Sought.{Sought}
-use Rattle.tag_rules.specs.declared.Sought.TheVariants as sought
 use Rattle.tag_rules.specs.Find.{whole_run, check_of}
 
 -- document 01's number and values for each case: a reader opens at a position
-unfoldable pub opened_number : Opened → Answer
-opened_number (opened.At at) = granted (at ∷ [])
-opened_number (opened.Refused n) = refused n
+unfoldable pub opened_number : Result ℕ Refusal → Answer
+opened_number r = told (λ at. at ∷ []) r
 
 -- document 01: opening checks the whole packet before the first item is handed out; a reader begins at 0
 unfoldable pub open_call : Repeats → List ℕ → Answer
 open_call w s = answered (check_of w s) (0 ∷ [])
 
--- document 01: what a reader at a position hands out; `refusal` is the number with which its packet was refused, 0 for none
-unfoldable pub read_of : List ℕ → ℕ → ℕ → Step
-read_of s at refusal = cond (eqb refusal 0) (step_in s at (length s)) (step.Refused refusal)
+-- document 01: what a reader at a position hands out; `refusal` is the number with which its packet was refused, 0 for none. It is the caller's, so
+-- any number may stand there
+unfoldable pub read_of : List ℕ → ℕ → ℕ → Result Step ℕ
+read_of s at refusal = cond (eqb refusal 0) (numbered (step_in s at (length s))) (Err refusal)
+
+-- document 01's number and values for each case
+unfoldable pub read_number : Result Step ℕ → Answer
+read_number r = told_number values_in r
 
 -- the same as number and values: the refusal of its opening comes first, then 30 OVERRUN where it stands
 unfoldable pub read_call : List ℕ → ℕ → ℕ → Answer
@@ -42,15 +45,24 @@ after_of s at refusal = on_step (read_of s at refusal) next_of (λ p. at) (λ n.
 
 -- document 01's number and values for each case; document 02, Item 11, "finding also says which": 0 for the packet and 1 for the standing packet, and
 -- what the item there tells
-unfoldable pub sought_number : Sought → Answer
-sought_number (sought.Found h) = granted (bit h.standing ∷ values_of h.item)
-sought_number (sought.Refused n) = refused n
+unfoldable pub sought_number : Result Hit Refusal → Answer
+sought_number r = told (λ h. bit h.standing ∷ values_of h.item) r
 
--- document 01's number and values for each case: 0 for the packet and 1 for the standing packet, and what the item there tells
-unfoldable pub located_number : Located → Answer
-located_number (located.Packet i) = granted (0 ∷ values_of i)
-located_number (located.Standing i) = granted (1 ∷ values_of i)
-located_number (located.Refused n) = refused n
+-- document 01's values for each case: 0 for the packet and 1 for the standing packet, and what the item there tells,
+unfoldable pub values_at : Located → List ℕ
+values_at (located.Packet i) = 0 ∷ values_of i
+values_at (located.Standing i) = 1 ∷ values_of i
+
+-- and with the number of a refusal
+unfoldable pub located_number : Result Located Refusal → Answer
+located_number r = told values_at r
+
+-- a search tells what the place of a name tells, and is refused as that is: with a refusal of any kind, since a caller may hand in its own
+abbrev pub ToldAlike : {E : Type 0} → Result Located E → Result Hit E → Type 0
+ToldAlike (Ok l) (Ok h) = bit h.standing ∷ values_of h.item ≡ values_at l
+ToldAlike (Err e) (Err n) = n ≡ e
+ToldAlike (Ok l) (Err n) = ⊥
+ToldAlike (Err e) (Ok h) = ⊥
 
 -- document 01: the number with which a search is refused: the packet's fault, then the standing packet's; 34 ABSENT "comes after all of them"
 unfoldable pub locate_fault : Repeats → List ℕ → List ℕ → ℕ → ℕ

@@ -2,7 +2,7 @@
 // end, so a run of writers needs no test in between: what they write one behind the other is one text.
 #![tactic(auto)]
 
-ghost use Rattle.std.specs.Prelude.{◌≡◌, [], ◌∷◌, ◌<◌, ◌≤◌, min, length, drop};
+ghost use Rattle.std.specs.Prelude.{◌≡◌, [], ◌∷◌, ◌<◌, ◌≤◌, length, drop};
 ghost use Rattle.text_rules.specs.Text.{laid, behind, letter_of, decimal_of, hex_of};
 
 // Bytes as they are.
@@ -13,8 +13,8 @@ pub fn plain(out: &mut [u8], at: usize, letters: &[u8]) -> usize
     if out.len() < at {
         return at;
     }
-    let n = least(letters.len(), out.len() - at);
-    base::put(out, at, &letters[..n]);
+    let n = letters.len().min(out.len() - at);
+    let _ = base::put(out, at, &letters[..n]);
     at + n
 }
 
@@ -24,10 +24,8 @@ pub fn hex(out: &mut [u8], at: usize, raw: &[u8]) -> usize
         × (out.new ≡ laid out.old at (hex_of raw.now)) }
 {
     let mut to = at;
-    let mut i = 0;
-    while i < raw.len() {
-        to = byte(out, to, raw[i]);
-        i += 1;
+    for value in raw {
+        to = byte(out, to, *value);
     }
     to
 }
@@ -49,10 +47,10 @@ fn byte(out: &mut [u8], at: usize, value: u8) -> usize
 }
 
 // Puts the decimal digits of a number at the end of twenty places, and answers where they start.
-fn digits_of(value: usize, digits: &mut [u8]) -> usize
-    requires { length digits.old ≡ 20 }
+fn digits_of(value: usize, digits: &mut [u8; 20]) -> usize
     ensures { (result < 20) × (drop result digits.new ≡ decimal_of value) }
 {
+    // The place goes down by hand: how many digits there are shows only as they are cut off.
     let mut i = 19;
     let mut rest = value;
     while 10 <= rest {
@@ -74,11 +72,4 @@ fn letter(digit: u8) -> u8
     } else {
         b'a' - 10 + digit
     }
-}
-
-// The lesser of two numbers.
-fn least(a: usize, b: usize) -> usize
-    ensures { result ≡ min a b }
-{
-    if a < b { a } else { b }
 }

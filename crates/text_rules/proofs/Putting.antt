@@ -11,7 +11,8 @@ use lib.Seq.{take_all, drop-cons, drop-set-lt, get_or-set_same, lt-length-set}
 use Rattle.base_rules.specs.Answer.{outcome}
 use Rattle.base_rules.specs.Bytes.{splice}
 use Rattle.base_rules.specs.Written.{number_of, put_of}
-use Rattle.base_rules.specs.declared.Written.{Written}
+use Rattle.base_rules.specs.declared.Refusal.{Refusal}
+use Rattle.std.specs.Prelude.{Result}
 use Rattle.text_rules.specs.Text.{laid, behind, letter_of, decimal_of}
 use Rattle.base_rules.proofs.Answers.{put_is}
 use Rattle.text_rules.proofs.Laws.{Lays, whether}
@@ -26,7 +27,7 @@ module _ (d t : List ℕ) (at n : ℕ) (fit : n ≡ min (length t) (length d - a
       (λ h. ap (λ (x : ℕ). take x t) (fit ∙ min-eq_right (omega arith)))
 
   -- the copy of as much of a text as fits, from a place in the buffer, lays the text down
-  pub put_lays : (y : List ℕ) (r : Written) → at ≤ length d → outcome (number_of r) y ≡ put_of d at (take n t) → Lays d at t (at + n) y
+  pub put_lays : (y : List ℕ) (r : Result (Unit {0}) Refusal) → at ≤ length d → outcome (number_of r) y ≡ put_of d at (take n t) → Lays d at t (at + n) y
   unfolding laid behind
   put_lays y r inside e =
       let short : length (take n t) ≤ length d - at =

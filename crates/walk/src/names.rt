@@ -1,21 +1,24 @@
 // The list of container names: four bytes each, one behind the other.
 ghost use Rattle.std.specs.Prelude.{◌≡◌};
+ghost use Rattle.base_rules.specs.Refusal.{fault_in};
 ghost use Rattle.base_rules.specs.Tests.{among};
 ghost use Rattle.walk_rules.specs.Names.{names_of, names_fault};
+
+use base::Refusal;
 
 // Container names at most, and the bytes of one.
 const MOST_NAMES: usize = 8;
 
 const NAME_BYTES: usize = 4;
 
-// The number with which the list is refused, or 0.
-pub fn fault(names: &[u8]) -> u8
-    ensures { result ≡ names_fault names.now }
+// Refuses a list of too many names, and one that does not end with a whole name.
+pub fn fault(names: &[u8]) -> Result<(), Refusal>
+    ensures { fault_in result ≡ names_fault names.now }
 {
-    if NAME_BYTES * MOST_NAMES < names.len() {
-        return 43;
+    if NAME_BYTES * MOST_NAMES < names.len() || names.len() % NAME_BYTES != 0 {
+        return Err(Refusal::Bits);
     }
-    if names.len() % NAME_BYTES != 0 { 43 } else { 0 }
+    Ok(())
 }
 
 // Whether a name is a container's.

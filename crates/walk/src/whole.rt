@@ -1,5 +1,6 @@
 // The whole walk: walking a packet calls walking an item, which calls walking its value, which is a packet again. What is left of the bytes falls.
 ghost use Rattle.std.specs.Prelude.{◌≡◌, ◌&&◌, [], ◌+◌, ◌-◌, ◌^◌, ◌≤◌, ◌<◌};
+ghost use Rattle.base_rules.specs.Refusal.{fault_in};
 ghost use Rattle.item_rules.specs.Run.{run_of, first_of, is_before, next_of};
 ghost use Rattle.walk_rules.specs.Names.{deepest, names_of};
 ghost use Rattle.walk_rules.specs.Walk.{tour_at, refusal, walk_of};
@@ -7,9 +8,10 @@ ghost use Rattle.walk_rules.specs.inner.Whole.{item_refusal};
 
 use crate::DEEPEST;
 use crate::names::{fault, is_container};
+use base::Refusal;
 use item::{Item, Repeats, Step};
 
-// The number with which the walk of the packet from `from` to `end` is refused, or 0. The marks tell which names have not stood before.
+// Refused where the walk of the packet from `from` to `end` is. The marks tell which names have not stood before.
 #[cycle(walk_item_walk_packet_walk_value)]
 fn walk_packet(
     s: &[u8],
@@ -18,31 +20,26 @@ fn walk_packet(
     from: usize,
     end: usize,
     depth: usize,
-) -> u8
+) -> Result<(), Refusal>
     requires { depth ≤ deepest + 1 }
-    ensures { result ≡ refusal (tour_at repeats (deepest + 1 - depth) s.now (names_of names.now) depth []
+    ensures { fault_in result ≡ refusal (tour_at repeats (deepest + 1 - depth) s.now (names_of names.now) depth []
         (run_of s.now from end)) }
 {
     let mut marks = item::no_marks();
     let mut at = from;
+    // A loop and no iterator: each item says where the next begins.
     loop {
-        let step = item::step_in(s, at, end);
+        let step = item::step_in(s, at, end)?;
         match step {
             Step::Item(i) => {
                 let h = item::slot(i.name);
                 let mark = item::marked(repeats, marks[h]);
-                let n = walk_item(s, names, repeats, from, end, depth, i, mark);
-                if n != 0 {
-                    return n;
-                }
+                walk_item(s, names, repeats, from, end, depth, i, mark)?;
                 marks[h] = true;
                 at = i.from + i.len.0;
             }
             Step::End(_) => {
-                return 0;
-            }
-            Step::Refused(n) => {
-                return n;
+                return Ok(());
             }
         }
     }
@@ -59,48 +56,46 @@ fn walk_item(
     depth: usize,
     i: Item,
     mark: bool,
-) -> u8
+) -> Result<(), Refusal>
     requires { (depth ≤ deepest + 1) × (next_of i ≤ end) }
-    ensures { result ≡ item_refusal repeats (deepest + 1 - depth) s.now (names_of names.now) depth
+    ensures { fault_in result ≡ item_refusal repeats (deepest + 1 - depth) s.now (names_of names.now) depth
         (mark && is_before (first_of i.name (run_of s.now from end)) i.from) i }
 {
-    let n = item::fault_of(s, from, end, i, mark);
-    if n != 0 {
-        return n;
-    }
+    item::fault_of(s, from, end, i, mark)?;
     let inside = is_container(names, i.name);
-    if inside {
-        if i.bits.0 % 8 != 0 {
-            return 35;
-        }
+    if inside && i.bits.0 % 8 != 0 {
+        return Err(Refusal::Whole);
     }
     if DEEPEST < depth {
-        return 32;
+        return Err(Refusal::Depth);
     }
     if inside {
         walk_value(s, names, repeats, depth, i)
     } else {
-        0
+        Ok(())
     }
 }
 
 // The same for a container's value.
 #[cycle(walk_item_walk_packet_walk_value)]
-fn walk_value(s: &[u8], names: &[u8], repeats: Repeats, depth: usize, i: Item) -> u8
+fn walk_value(
+    s: &[u8],
+    names: &[u8],
+    repeats: Repeats,
+    depth: usize,
+    i: Item,
+) -> Result<(), Refusal>
     requires { (depth ≤ deepest) × (next_of i < 2 ^ 64) }
-    ensures { result ≡ refusal (tour_at repeats (deepest - depth) s.now (names_of names.now) (depth + 1) []
+    ensures { fault_in result ≡ refusal (tour_at repeats (deepest - depth) s.now (names_of names.now) (depth + 1) []
         (run_of s.now i.from (next_of i))) }
 {
     walk_packet(s, names, repeats, i.from, i.from + i.len.0, depth + 1)
 }
 
-// The number with which the walk of a whole packet is refused, or 0.
-pub fn check(packet: &[u8], names: &[u8], repeats: Repeats) -> u8
-    ensures { result ≡ refusal (walk_of repeats packet.now names.now) }
+// Refused where the walk of a whole packet is: the list of names is checked first.
+pub fn check(packet: &[u8], names: &[u8], repeats: Repeats) -> Result<(), Refusal>
+    ensures { fault_in result ≡ refusal (walk_of repeats packet.now names.now) }
 {
-    let n = fault(names);
-    if n != 0 {
-        return n;
-    }
+    fault(names)?;
     walk_packet(packet, names, repeats, 0, packet.len(), 0)
 }

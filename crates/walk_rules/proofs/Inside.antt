@@ -9,6 +9,9 @@ use lib.Dec.{eqb}
 use lib.ListN.{length}
 use borrow.Author.Tests.{eqb-true}
 use Rattle.base_rules.specs.Tests.{among}
+use Rattle.std.specs.Prelude.{Result, Ok, Err}
+use Rattle.base_rules.specs.Refusal.{number}
+use Rattle.base_rules.specs.declared.Refusal.{Refusal}
 use Rattle.item_rules.specs.declared.Item.{Item}
 use Rattle.item_rules.specs.declared.Repeats.{Repeats}
 use Rattle.item_rules.specs.declared.Step.{Step}
@@ -28,7 +31,7 @@ use Rattle.walk_rules.proofs.PlainWalks.{not_too_deep}
 
 module _ (s : List ℕ) where
   -- an item that stands before an end within s
-  stands : (at b d : ℕ) (i : Item) → b ≤ length s → d ≤ deepest → step_in s at b ≡ step.Item i → Within s d i
+  stands : (at b d : ℕ) (i : Item) → b ≤ length s → d ≤ deepest → step_in s at b ≡ Ok (step.Item i) → Within s d i
   stands at b d i h k e = record { starts = (starts_at s at b i h e).0; shallow = k }
 
   -- one that is within s ends within it
@@ -48,11 +51,11 @@ module _ (s : List ℕ) where
   items_in zero at b h = no_items
   items_in (suc n) at b h = go (λ j. items_in n j b h) (step_in s at b) refl
     where
-      go : ((j : ℕ) → Items (run_in n s j b)) → (t : Step) → step_in s at b ≡ t
-          → Items (on_step t (λ i. item i (run_in n s (next_of i) b)) padding refused)
-      go behind (step.Item i) e = more_items (stands at b 0 i h (omega arith) e) (behind (next_of i))
-      go behind (step.End p) e = no_items
-      go behind (step.Refused m) e = bad_item
+      go : ((j : ℕ) → Items (run_in n s j b)) → (t : Result Step Refusal) → step_in s at b ≡ t
+          → Items (on_step t (λ i. item i (run_in n s (next_of i) b)) padding (λ x. refused (number x)))
+      go behind (Ok (step.Item i)) e = more_items (stands at b 0 i h (omega arith) e) (behind (next_of i))
+      go behind (Ok (step.End p)) e = no_items
+      go behind (Err m) e = bad_item
 
   -- each item of a run that ends within s is one of s
   pub run_items : (at b : ℕ) → b ≤ length s → Items (run_of s at b)
@@ -104,10 +107,10 @@ walk_inside word s l =
 -- ---- a step
 
 -- what a step hands out, where it is an item, lies in the packet
-abbrev HandedIn : List ℕ → Handed → Type 0
-HandedIn s (handed.Item v) = Within s v.depth v.item
-HandedIn s (handed.End p) = Unit {0}
-HandedIn s (handed.Refused n) = Unit {0}
+abbrev HandedIn : List ℕ → Result Handed ℕ → Type 0
+HandedIn s (Ok (handed.Item v)) = Within s v.depth v.item
+HandedIn s (Ok (handed.End p)) = Unit {0}
+HandedIn s (Err n) = Unit {0}
 
 from_inside : (s cs es : List ℕ) (d at : ℕ) → d ≤ deepest → HandedIn s (step_from s cs at d es).handed
 from_inside s cs es =

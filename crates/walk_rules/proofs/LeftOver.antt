@@ -12,6 +12,9 @@ use lib.Dec.{eqb}
 use borrow.Author.Tests.{eqb-false}
 use Rattle.base_rules.specs.Tests.{among}
 use Rattle.item_rules.specs.declared.Bytes.{Bytes}
+use Rattle.std.specs.Prelude.{Ok, Err}
+use Rattle.base_rules.specs.Refusal.{number}
+use Rattle.base_rules.specs.declared.Refusal.{Refusal}
 use Rattle.item_rules.specs.declared.Item.{Item}
 use Rattle.item_rules.specs.declared.Step.TheVariants as step
 use Rattle.item_rules.specs.Item.{step_in}
@@ -79,7 +82,7 @@ module _ (s cs : List ℕ) where
       ∙ ap (and_then (plain_at (deepest - suc d) s cs (suc d) (run_of s at (end_of s es (suc d))))) (rest_set d (end_of s es (suc d)) es j x (lower d j h))
 
   -- an item, its contents, and what is left behind it
-  module _ (d at : ℕ) (es : List ℕ) (i : Item) (e : step_in s at (end_of s es d) ≡ step.Item i) where
+  module _ (d at : ℕ) (es : List ℕ) (i : Item) (e : step_in s at (end_of s es d) ≡ Ok (step.Item i)) where
     rest_visit : rest_of d at es ≡ visit d i (and_then (contents_of s cs (deepest - d) d i) (rest_of d (next_of i) es))
     rest_visit =
         rest_is d at es
@@ -131,12 +134,12 @@ module _ (s cs : List ℕ) where
   -- where the packet at d ends: the outer one's end is the walk's, behind an inner one the walk above goes on
   module _ (at : ℕ) (es : List ℕ) where
     -- at the outer packet's padding: only the end, with that padding
-    pub rest_end : (p : Bytes) → step_in s at (end_of s es 0) ≡ step.End p → rest_of 0 at es ≡ ends p.0
+    pub rest_end : (p : Bytes) → step_in s at (end_of s es 0) ≡ Ok (step.End p) → rest_of 0 at es ≡ ends p.0
     unfolding rest_of
     rest_end p e = ap (plain_at deepest s cs 0) (run_end s at (end_of s es 0) p e) ∙ plain_end s cs deepest 0 p.0
 
     -- at an inner packet's padding: what is left one level up, from the inner packet's end on
-    pub rest_up : (d : ℕ) (p : Bytes) → step_in s at (end_of s es (suc d)) ≡ step.End p → rest_of (suc d) at es ≡ rest_of d (end_of s es (suc d)) es
+    pub rest_up : (d : ℕ) (p : Bytes) → step_in s at (end_of s es (suc d)) ≡ Ok (step.End p) → rest_of (suc d) at es ≡ rest_of d (end_of s es (suc d)) es
     unfolding rest_of and_then
     rest_up d p e =
         ap (λ (t : Tour). and_then t (rest_of d (end_of s es (suc d)) es))
@@ -149,14 +152,15 @@ module _ (s cs : List ℕ) where
     above_stops (suc d) = refl
 
     -- where an item is refused, so is what is left of the walk
-    pub rest_refused : (d n : ℕ) → step_in s at (end_of s es d) ≡ step.Refused n → refusal (rest_of d at es) ≡ 0 → ⊥
+    pub rest_refused : (d : ℕ) (n : Refusal) → step_in s at (end_of s es d) ≡ Err n → refusal (rest_of d at es) ≡ 0 → ⊥
+    unfolding number
     rest_refused d n e q =
         eqb-false 30 0 refl
         (sym
         (ap refusal
         (rest_is d at es
         ∙ ap (above d es)
-        (ap (plain_at (deepest - d) s cs d) (run-refused s at (end_of s es d) n e) ∙ plain-refused s cs (deepest - d) d n
-        ∙ ap stops (refused_is s at (end_of s es d) n e)))
+        (ap (plain_at (deepest - d) s cs d) (run-refused s at (end_of s es d) n e) ∙ plain-refused s cs (deepest - d) d (number n)
+        ∙ ap (λ (x : Refusal). stops (number x)) (refused_is s at (end_of s es d) n e)))
         ∙ above_stops d)
         ∙ q)

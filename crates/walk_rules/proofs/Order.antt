@@ -11,6 +11,8 @@ use borrow.Author.Tests.{eqb-true, eqb-false, ltb-true, ltb-false}
 use Rattle.base_rules.specs.Tests.{among}
 use Rattle.base_rules.proofs.Logic.{either}
 use Rattle.item_rules.specs.declared.Bytes.{Bytes}
+use Rattle.std.specs.Prelude.{Result, Ok, Err}
+use Rattle.base_rules.specs.declared.Refusal.{Refusal}
 use Rattle.item_rules.specs.declared.Item.{Item}
 use Rattle.item_rules.specs.declared.Repeats.{Repeats}
 use Rattle.item_rules.specs.declared.Step.{Step}
@@ -50,21 +52,21 @@ module _ (s cs : List ℕ) where
 
   -- a step hands out the first of what is left, and comes to the rest of it
   record Shows (d at : ℕ) (es : List ℕ) : Type 0 where
-    out : Handed
+    out : Result Handed ℕ
     next : Walker
     is : step_from s cs at d es ≡ record { handed = out; next = next }
     stands : Stands next
     first : (n m : ℕ) → suc n ≤ m → take (suc n) (told m (rest_of s cs d at es)) ≡ out ∷ take n (told m (left_of next))
 
   module _ (d at : ℕ) (es : List ℕ) (l : length es ≡ deepest + 1) (h : d ≤ deepest) (z : refusal (rest_of s cs d at es) ≡ 0) where
-    module _ (i : Item) (e : step_in s at (end_of s es d) ≡ step.Item i) where
+    module _ (i : Item) (e : step_in s at (end_of s es d) ≡ Ok (step.Item i)) where
       put : (w : Walker) → w ≡ goes_on cs d es i → rest_of s cs d at es ≡ visit d i (left_of w) → length w.ends ≡ deepest + 1
           → w.depth ≤ deepest → w.refusal ≡ 0
           → Shows d at es
       unfolding refusal told
       put w q r sized deep open_still =
           record {
-            out = handed.Item (record { depth = d; item = i });
+            out = Ok (handed.Item (record { depth = d; item = i }));
             next = w;
             is = step-item s cs at es d (end_of s es d) i w refl e q;
             stands = record { sized = sized; deep = deep; open_still = open_still; sound = sym (ap refusal r) ∙ z };
@@ -86,23 +88,23 @@ module _ (s cs : List ℕ) where
               put (record { refusal = 0; at = next_of i; depth = d; ends = es }) (behind_deepest cs d es i (ltb-false d deepest q))
               (rest_deepest s cs d at es i e (ltb-false d deepest q)) l h refl
 
-    shows_refused : (n : ℕ) → step_in s at (end_of s es d) ≡ step.Refused n → Shows d at es
+    shows_refused : (n : Refusal) → step_in s at (end_of s es d) ≡ Err n → Shows d at es
     shows_refused n e = absurd (rest_refused s cs at es d n e z)
 
-  shows_end : (at : ℕ) (es : List ℕ) (p : Bytes) → length es ≡ deepest + 1 → step_in s at (end_of s es 0) ≡ step.End p → Shows 0 at es
+  shows_end : (at : ℕ) (es : List ℕ) (p : Bytes) → length es ≡ deepest + 1 → step_in s at (end_of s es 0) ≡ Ok (step.End p) → Shows 0 at es
   unfolding refusal told
   shows_end at es p l e =
       let r = rest_end s cs at es p e in
       record {
-        out = handed.End p;
+        out = Ok (handed.End p);
         next = record { refusal = 0; at = at; depth = 0; ends = es };
         is = step_end s cs at es 0 (end_of s es 0) p refl e refl;
         stands = record { sized = l; deep = omega arith; open_still = refl; sound = ap refusal r };
         first = λ n m h.
             ap (λ (t : Tour). take (suc n) (told m t)) r
-            ∙ take_same (suc n) m (handed.End p) h
-            ∙ sym (ap (λ (t : Tour). handed.End p ∷ take n (told m t)) r
-            ∙ ap (λ (x : List Handed). handed.End p ∷ x) (take_same n m (handed.End p) (less n m h)));
+            ∙ take_same (suc n) m (Ok (handed.End p)) h
+            ∙ sym (ap (λ (t : Tour). Ok (handed.End p) ∷ take n (told m t)) r
+            ∙ ap (λ (x : List (Result Handed ℕ)). Ok (handed.End p) ∷ x) (take_same n m (Ok (handed.End p)) (less n m h)));
       }
     where
       less : (n m : ℕ) → suc n ≤ m → n ≤ m
@@ -130,22 +132,22 @@ module _ (s cs : List ℕ) where
   one_up : (d : ℕ) → suc d - 1 ≡ d
   one_up d = omega arith
 
-  shows_top : (at : ℕ) (es : List ℕ) → length es ≡ deepest + 1 → refusal (rest_of s cs 0 at es) ≡ 0 → (t : Step) → step_in s at (end_of s es 0) ≡ t
+  shows_top : (at : ℕ) (es : List ℕ) → length es ≡ deepest + 1 → refusal (rest_of s cs 0 at es) ≡ 0 → (t : Result Step Refusal) → step_in s at (end_of s es 0) ≡ t
       → Shows 0 at es
-  shows_top at es l z (step.Item i) e = shows_item 0 at es l (omega arith) z i e
-  shows_top at es l z (step.End p) e = shows_end at es p l e
-  shows_top at es l z (step.Refused n) e = shows_refused 0 at es l (omega arith) z n e
+  shows_top at es l z (Ok (step.Item i)) e = shows_item 0 at es l (omega arith) z i e
+  shows_top at es l z (Ok (step.End p)) e = shows_end at es p l e
+  shows_top at es l z (Err n) e = shows_refused 0 at es l (omega arith) z n e
 
   shows_inner : (d at : ℕ) (es : List ℕ) → length es ≡ deepest + 1 → suc d ≤ deepest → refusal (rest_of s cs (suc d) at es) ≡ 0
       → (refusal (rest_of s cs d (end_of s es (suc d)) es) ≡ 0 → Shows d (end_of s es (suc d)) es)
-      → (t : Step) → step_in s at (end_of s es (suc d)) ≡ t → Shows (suc d) at es
-  shows_inner d at es l h z up (step.Item i) e = shows_item (suc d) at es l h z i e
-  shows_inner d at es l h z up (step.End p) e =
+      → (t : Result Step Refusal) → step_in s at (end_of s es (suc d)) ≡ t → Shows (suc d) at es
+  shows_inner d at es l h z up (Ok (step.Item i)) e = shows_item (suc d) at es l h z i e
+  shows_inner d at es l h z up (Ok (step.End p)) e =
       let b = end_of s es (suc d) in
       let r = rest_up s cs at es d p e in
       shows_up d at b es (step_up s cs at es (suc d) b p refl e (not_none d) ∙ ap (λ (n : ℕ). step_from s cs b n es) (one_up d)) r
       (up (sym (ap refusal r) ∙ z))
-  shows_inner d at es l h z up (step.Refused n) e = shows_refused (suc d) at es l h z n e
+  shows_inner d at es l h z up (Err n) e = shows_refused (suc d) at es l h z n e
 
   shows : (d at : ℕ) (es : List ℕ) → length es ≡ deepest + 1 → d ≤ deepest → refusal (rest_of s cs d at es) ≡ 0 → Shows d at es
   shows zero at es l h z = shows_top at es l z (step_in s at (end_of s es 0)) refl
@@ -162,16 +164,16 @@ hands_left s l f (suc n) m w h v =
     let k : min w.depth deepest ≡ w.depth = omega (arith, v.deep) in
     let is = steps_on s l w v.open_still f ∙ ap (λ (d : ℕ). step_from s (names_of l) w.at d w.ends) k ∙ x.is in
     ap (λ (y : Walked). y.handed ∷ hands_out n s l y.next) is
-    ∙ ap (λ (y : List Handed). x.out ∷ y) (hands_left s l f n m x.next (omega arith) x.stands)
+    ∙ ap (λ (y : List (Result Handed ℕ)). x.out ∷ y) (hands_left s l f n m x.next (omega arith) x.stands)
     ∙ sym (x.first n m h)
 
 -- a walk that was refused hands out its refusal
-hands_refusal : (s l : List ℕ) (n : ℕ) (w : Walker) → (w.refusal ≡ 0 → ⊥) → hands_out n s l w ≡ replicate n (handed.Refused w.refusal)
+hands_refusal : (s l : List ℕ) (n : ℕ) (w : Walker) → (w.refusal ≡ 0 → ⊥) → hands_out n s l w ≡ replicate n (Err w.refusal)
 unfolding hands_out
 hands_refusal s l zero w h = refl
 hands_refusal s l (suc n) w h =
     ap (λ (y : Walked). y.handed ∷ hands_out n s l y.next) (stays s l w h)
-    ∙ ap (λ (y : List Handed). handed.Refused w.refusal ∷ y) (hands_refusal s l n w h)
+    ∙ ap (λ (y : List (Result Handed ℕ)). Err w.refusal ∷ y) (hands_refusal s l n w h)
 
 -- where a whole walk is not refused, its list of names is not
 list_clear : (word : Repeats) (s l : List ℕ) → refusal (walk_of word s l) ≡ 0 → names_fault l ≡ 0

@@ -9,6 +9,9 @@ use lib.Dec.{eqb, ltb}
 use borrow.Author.Tests.{eq-eqb, ne_eqb, lt-ltb, le-ltb, eqb-true}
 use Rattle.base_rules.specs.Tests.{first, among}
 use Rattle.base_rules.proofs.Firsts.{due, skip, none_due}
+use Rattle.std.specs.Prelude.{Ok, Err}
+use Rattle.base_rules.specs.Refusal.{number}
+use Rattle.base_rules.specs.declared.Refusal.{Refusal}
 use Rattle.item_rules.specs.declared.Item.{Item}
 use Rattle.item_rules.specs.declared.Repeats.{Repeats}
 use Rattle.item_rules.specs.declared.Bytes.{Bytes}
@@ -185,17 +188,17 @@ WalkSeen word k s cs d from end marks at = Seen (λ seen r. refusal (tour_at wor
 
 module _ (word : Repeats) (k : ℕ) (s cs : List ℕ) (d from end : ℕ) (marks : List Bool) (at : ℕ) (w : WalkSeen word k s cs d from end marks at) where
   -- where the loop comes to padding, the packet has no number due
-  pub walk_ends : (p : Bytes) → step_in s at end ≡ step.End p → 0 ≡ refusal (tour_at word k s cs d [] (run_of s from end))
+  pub walk_ends : (p : Bytes) → step_in s at end ≡ Ok (step.End p) → 0 ≡ refusal (tour_at word k s cs d [] (run_of s from end))
   walk_ends p e = sym (w.rest ∙ ap (λ (r : Run). refusal (tour_at word k s cs d w.names r)) (run_end s at end p e)
       ∙ tour_end word k s cs d w.names p.0)
 
   -- where the loop comes to a refused item, that number is due for the packet
-  pub walk_refused : (n : ℕ) → step_in s at end ≡ step.Refused n → n ≡ refusal (tour_at word k s cs d [] (run_of s from end))
+  pub walk_refused : (n : Refusal) → step_in s at end ≡ Err n → number n ≡ refusal (tour_at word k s cs d [] (run_of s from end))
   walk_refused n e = sym (w.rest ∙ ap (λ (r : Run). refusal (tour_at word k s cs d w.names r)) (run-refused s at end n e)
-      ∙ tour_refused word k s cs d w.names n)
+      ∙ tour_refused word k s cs d w.names (number n))
 
   -- m is the mark of the item's slot h, as it counts by the caller's word
-  module _ (i : Item) (e : step_in s at end ≡ step.Item i) (h n : ℕ) (m : Bool) (p : h ≡ i.name % slots) (o : m ≡ (forbids word && get_or marks h false))
+  module _ (i : Item) (e : step_in s at end ≡ Ok (step.Item i)) (h n : ℕ) (m : Bool) (p : h ≡ i.name % slots) (o : m ≡ (forbids word && get_or marks h false))
       (q : n ≡ item_refusal word k s cs d (m && is_before (first_of i.name (run_of s from end)) i.from) i) where
     part : n ≡ refusal_by word k s cs d (again s from end marks h i) i
     part = q ∙ ap (λ (b : Bool). item_refusal word k s cs d b i) (counts word (get_or marks h false) _ m o)

@@ -9,6 +9,10 @@ use Rattle.base_rules.specs.Bytes.{number_at}
 use Rattle.base_rules.specs.Tests.{first}
 use Rattle.base_rules.proofs.Logic.{either, clash}
 use Rattle.item_rules.specs.declared.Bytes.{Bytes}
+use Rattle.std.specs.Prelude.{Ok, Err}
+use Rattle.base_rules.specs.Refusal.{number, told_number}
+use Rattle.base_rules.specs.declared.Refusal.{Refusal}
+use Rattle.base_rules.specs.declared.Refusal.TheVariants as refusal
 use Rattle.item_rules.specs.declared.Item.{Item}
 use Rattle.item_rules.specs.declared.Step.TheVariants as step
 use Rattle.item_rules.specs.Item.{head, bytes_for, item_at, step_in, values_of, overrun_in}
@@ -18,16 +22,16 @@ use Rattle.walk_rules.specs.declared.Handed.TheVariants as handed
 use Rattle.walk_rules.specs.declared.Walked.{Walked}
 use Rattle.walk_rules.specs.declared.Walker.{Walker}
 use Rattle.walk_rules.specs.Names.{deepest, names_of}
-use Rattle.walk_rules.specs.Step.{handed_number, goes_on, end_of, step_from, step_fault, walk_step}
+use Rattle.walk_rules.specs.Step.{values_out, handed_number, goes_on, end_of, step_from, step_fault, walk_step}
 use Rattle.walk_rules.specs.Step.{comes_to, overrun_at, handed_values, place_of, walk_call}
 
 -- by the two tests: whether padding stands there, of which `up` says what is handed out, and whether the item fits
-handed_by_lem : (d : ℕ) (pads fits : Bool) (p : Bytes) (i : Item) (on : Item → Walker) (up : ℕ → Walked) (stay : ℕ → Walker)
+handed_by_lem : (d : ℕ) (pads fits : Bool) (p : Bytes) (i : Item) (on : Item → Walker) (up : ℕ → Walked) (stay : Refusal → Walker)
     → (pads ≡ true → handed_number (up p.0).handed ≡ granted (p.0 ∷ []))
-    → handed_number (on_step (cond pads (step.End p) (cond fits (step.Item i) (step.Refused 30)))
-    (λ j. record { handed = handed.Item (record { depth = d; item = j }); next = on j }) up (λ n. record { handed = handed.Refused n; next = stay n })
+    → handed_number (on_step (cond pads (Ok (step.End p)) (cond fits (Ok (step.Item i)) (Err refusal.Overrun)))
+    (λ j. record { handed = Ok (handed.Item (record { depth = d; item = j })); next = on j }) up (λ x. record { handed = Err (number x); next = stay x })
     ).handed ≡ answered (first ((not pads && not fits, 30) ∷ [])) (cond pads (p.0 ∷ []) (d ∷ values_of i))
-unfolding handed_number answered first
+unfolding handed_number told_number values_out number answered first
 handed_by_lem d true fits p i on up stay h = h refl
 handed_by_lem d false true p i on up stay h = refl
 handed_by_lem d false false p i on up stay h = refl
@@ -55,22 +59,22 @@ module _ (s cs ends : List ℕ) where
       simp q (rw q at here)
 
   numbered : (d at : ℕ) → Numbered at d
-  unfolding step_from step_in comes_to overrun_at overrun_in handed_values handed_number
+  unfolding step_from step_in comes_to overrun_at overrun_in handed_values handed_number told_number values_out
   numbered zero at =
       handed_by_lem 0 (ltb (end_of s ends 0 - at) head) (leb (head + bytes_for (number_at 4 s (at + 4))) (end_of s ends 0 - at))
       (record { 0 = end_of s ends 0 - at }) (item_at s at) (goes_on cs 0 ends)
-      (λ p. record { handed = handed.End (record { 0 = p }); next = record { refusal = 0; at = at; depth = 0; ends = ends } })
+      (λ p. record { handed = Ok (handed.End (record { 0 = p })); next = record { refusal = 0; at = at; depth = 0; ends = ends } })
       (λ n. record { refusal = 0; at = at; depth = 0; ends = ends }) (λ t. refl)
   numbered (suc d) at = either (pads_at at (suc d)) (λ q. up_by at d q (numbered d (end_of s ends (suc d)))) (here_by at d)
 
 module _ (s l : List ℕ) (w : Walker) where
   -- the number of a step is that of the walk or of its list of names, or else that of the packet's fault where it comes to
   pub walk_number : handed_number (walk_step s l w).handed ≡ walk_call s l w
-  unfolding walk_step walk_call place_of handed_number
+  unfolding walk_step walk_call place_of handed_number told_number
   walk_number =
       else_number (λ (x : Walked). handed_number x.handed) (step_from s (names_of l) w.at (min w.depth deepest) w.ends)
-      (record { handed = handed.Refused (step_fault l w); next = w }) (step_fault l w) _ _ (numbered s (names_of l) w.ends (min w.depth deepest) w.at)
-      refl
+      (record { handed = Err (step_fault l w); next = w }) (step_fault l w) _ _ (numbered s (names_of l) w.ends (min w.depth deepest) w.at)
+      (λ some. refl)
 
   -- so a step that is the defined one has that number
   pub walk_told : (x : Walked) → x ≡ walk_step s l w → (x ≡ walk_step s l w) × (handed_number x.handed ≡ walk_call s l w)

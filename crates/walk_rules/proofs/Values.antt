@@ -11,6 +11,10 @@ use lib.Seq.{get_or-take, get_or-drop, length-take-le}
 use borrow.Author.Tests.{ltb-false}
 use Rattle.base_rules.specs.Bytes.{number_at}
 use Rattle.base_rules.proofs.Logic.{either}
+use Rattle.std.specs.Prelude.{Result, Ok, Err}
+use Rattle.base_rules.specs.Refusal.{number}
+use Rattle.base_rules.specs.declared.Refusal.{Refusal}
+use Rattle.base_rules.specs.declared.Refusal.TheVariants as refusal
 use Rattle.item_rules.specs.declared.Item.{Item}
 use Rattle.item_rules.specs.declared.Step.{Step}
 use Rattle.item_rules.specs.declared.Step.TheVariants as step
@@ -30,10 +34,10 @@ item_of name bits from start = record {
 }
 
 -- a step by what it reads: the bytes left, the name, the bits, and these two places
-step_of : ℕ → ℕ → ℕ → ℕ → ℕ → Step
+step_of : ℕ → ℕ → ℕ → ℕ → ℕ → Result Step Refusal
 step_of left name bits from start =
-    cond (ltb left head) (step.End (record { 0 = left }))
-    (cond (leb (head + bytes_for bits) left) (step.Item (item_of name bits from start)) (step.Refused 30))
+    cond (ltb left head) (Ok (step.End (record { 0 = left })))
+    (cond (leb (head + bytes_for bits) left) (Ok (step.Item (item_of name bits from start))) (Err refusal.Overrun))
 
 step_is : (s : List ℕ) (at b : ℕ) → step_in s at b ≡ step_of (b - at) (number_at 4 s at) (number_at 4 s (at + 4)) (at + head) at
 unfolding step_in item_at step_of
@@ -48,10 +52,10 @@ step_read left name name' bits bits' from start p q =
     (λ e. let h = ltb-false left head e in ap (λ (x : ℕ). step_of left x bits from start) (p h) ∙ ap (λ (x : ℕ). step_of left name' x from start) (q h))
 
 -- a step with an item k bytes further on
-moved_step : ℕ → Step → Step
-moved_step k (step.Item i) = step.Item (moved_item k i)
-moved_step k (step.End p) = step.End p
-moved_step k (step.Refused m) = step.Refused m
+moved_step : ℕ → Result Step Refusal → Result Step Refusal
+moved_step k (Ok (step.Item i)) = Ok (step.Item (moved_item k i))
+moved_step k (Ok (step.End p)) = Ok (step.End p)
+moved_step k (Err m) = Err m
 
 step_from_lem : (k left name bits from start : ℕ) → moved_step k (step_of left name bits from start) ≡ step_of left name bits (k + from) (k + start)
 unfolding moved_step step_of
@@ -60,8 +64,8 @@ step_from_lem k left name bits from start = go (ltb left head) (leb (head + byte
     i : Item
     i = item_of name bits from start
 
-    go : (x y : Bool) → moved_step k (cond x (step.End (record { 0 = left })) (cond y (step.Item i) (step.Refused 30)))
-        ≡ cond x (step.End (record { 0 = left })) (cond y (step.Item (moved_item k i)) (step.Refused 30))
+    go : (x y : Bool) → moved_step k (cond x (Ok (step.End (record { 0 = left }))) (cond y (Ok (step.Item i)) (Err refusal.Overrun)))
+        ≡ cond x (Ok (step.End (record { 0 = left }))) (cond y (Ok (step.Item (moved_item k i))) (Err refusal.Overrun))
     go true y = refl
     go false true = refl
     go false false = refl
@@ -101,17 +105,17 @@ module _ (s : List ℕ) (k n : ℕ) where
   unfolding run_in moved_run moved_step
   run_in_moved zero at b h = refl
   run_in_moved (suc m) at b h =
-      ap (λ (t : Step). on_step t (λ i. item i (run_in m s (next_of i) (k + b))) padding refused) (step_moved at b h)
+      ap (λ (t : Result Step Refusal). on_step t (λ i. item i (run_in m s (next_of i) (k + b))) padding (λ x. refused (number x))) (step_moved at b h)
       ∙ go (λ j. run_in_moved m j b h) (step_in part at b)
     where
-      go : ((j : ℕ) → run_in m s (k + j) (k + b) ≡ moved_run k (run_in m part j b)) → (t : Step)
-          → on_step (moved_step k t) (λ i. item i (run_in m s (next_of i) (k + b))) padding refused
-          ≡ moved_run k (on_step t (λ i. item i (run_in m part (next_of i) b)) padding refused)
-      go behind (step.Item i) =
+      go : ((j : ℕ) → run_in m s (k + j) (k + b) ≡ moved_run k (run_in m part j b)) → (t : Result Step Refusal)
+          → on_step (moved_step k t) (λ i. item i (run_in m s (next_of i) (k + b))) padding (λ x. refused (number x))
+          ≡ moved_run k (on_step t (λ i. item i (run_in m part (next_of i) b)) padding (λ x. refused (number x)))
+      go behind (Ok (step.Item i)) =
           let next : k + i.from + i.len.0 ≡ k + next_of i = omega arith in
           ap (item (moved_item k i)) (ap (λ (x : ℕ). run_in m s x (k + b)) next ∙ behind (next_of i))
-      go behind (step.End p) = refl
-      go behind (step.Refused e) = refl
+      go behind (Ok (step.End p)) = refl
+      go behind (Err e) = refl
 
   -- the run of the bytes from a to b of the part is the one k bytes further on in s, with each place moved
   pub run_moved : (at b : ℕ) → b ≤ n → run_of s (k + at) (k + b) ≡ moved_run k (run_of part at b)

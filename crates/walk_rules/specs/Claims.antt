@@ -2,6 +2,7 @@
 -- the proofs are in proofs/Proved.antt.
 use Rattle.std.specs.Prelude.{true, false, cond, List, [], ◌∷◌, ◌≡◌, ℕ, zero, suc, ◌+◌, ◌≤◌, ◌<◌, eqb, length, take, drop, replicate}
 use Rattle.base_rules.specs.Tests.{among}
+use Rattle.std.specs.Prelude.{Result, Ok, Err}
 use Rattle.item_rules.specs.declared.Item.{Item}
 use Rattle.item_rules.specs.declared.Repeats.{Repeats}
 use Rattle.item_rules.specs.declared.Repeats.TheVariants.{Forbidden, Allowed}
@@ -17,19 +18,19 @@ use Rattle.walk_rules.specs.Walk.{Tour, visit, ends, stops, unless, and_then, wa
 use Rattle.walk_rules.specs.Step.{handed_number, opens, walk_step}
 
 -- what n steps from w hand out
-unfoldable pub hands_out : ℕ → List ℕ → List ℕ → Walker → List Handed
+unfoldable pub hands_out : ℕ → List ℕ → List ℕ → Walker → List (Result Handed ℕ)
 hands_out zero s l w = []
 hands_out (suc n) s l w = (walk_step s l w).handed ∷ hands_out n s l (walk_step s l w).next
 
 -- a walk's items in order, each with its depth, and then n times how it ends
-unfoldable pub told : ℕ → Tour → List Handed
-told n (visit d i t) = handed.Item (record { depth = d; item = i }) ∷ told n t
-told n (ends p) = replicate n (handed.End (record { 0 = p }))
+unfoldable pub told : ℕ → Tour → List (Result Handed ℕ)
+told n (visit d i t) = Ok (handed.Item (record { depth = d; item = i })) ∷ told n t
+told n (ends p) = replicate n (Ok (handed.End (record { 0 = p })))
 told n (stops r) = []
 
 -- what n steps have to hand out: the refusal again and again; or the items, then END with the outer padding, and it stays there
-unfoldable pub due : ℕ → Tour → List Handed
-due n t = cond (eqb (refusal t) 0) (take n (told n t)) (replicate n (handed.Refused (refusal t)))
+unfoldable pub due : ℕ → Tour → List (Result Handed ℕ)
+due n t = cond (eqb (refusal t) 0) (take n (told n t)) (replicate n (Err (refusal t)))
 
 -- document 01: from the call that opens it, the step walk hands out exactly the items of the recursive walk in order
 abbrev pub InOrder : Type 0
@@ -37,7 +38,7 @@ InOrder = (word : Repeats) (s l : List ℕ) (n : ℕ) → hands_out n s l (opens
 
 -- no second answer fits: document 01's number and values tell what was handed out
 abbrev pub OneHanded : Type 0
-OneHanded = (a b : Handed) → handed_number a ≡ handed_number b → a ≡ b
+OneHanded = (a b : Result Handed ℕ) → handed_number a ≡ handed_number b → a ≡ b
 
 -- ---- what is handed out lies in the packet
 
@@ -59,7 +60,7 @@ WalkInside = (word : Repeats) (s l : List ℕ) → Visits (Within s) (walk_of wo
 
 -- and each that a step hands out, whatever the walker is
 abbrev pub StepInside : Type 0
-StepInside = (s l : List ℕ) (w : Walker) (v : Visit) → (walk_step s l w).handed ≡ handed.Item v → Within s v.depth v.item
+StepInside = (s l : List ℕ) (w : Walker) (v : Visit) → (walk_step s l w).handed ≡ Ok (handed.Item v) → Within s v.depth v.item
 
 -- ---- no names
 

@@ -1,6 +1,8 @@
 -- The step walk: the same items, "one after another" (document 01, "TAG layer").
 use Rattle.std.specs.Prelude.{cond, ◌&&◌, List, [], ◌∷◌, ℕ, zero, suc, ◌+◌, ◌-◌, min, eqb, ltb, length, get_or, set}
-use Rattle.base_rules.specs.Answer.{Answer, granted, refused, answered}
+use Rattle.std.specs.Prelude.{Result, Ok, Err}
+use Rattle.base_rules.specs.Answer.{Answer, answered}
+use Rattle.base_rules.specs.Refusal.{number, told_number}
 use Rattle.base_rules.specs.Tests.{among}
 use Rattle.item_rules.specs.declared.Item.{Item}
 use Rattle.item_rules.specs.declared.Repeats.{Repeats}
@@ -13,11 +15,14 @@ use Rattle.walk_rules.specs.declared.Walked.{Walked}
 use Rattle.walk_rules.specs.Names.{deepest, names_of, names_fault}
 use Rattle.walk_rules.specs.Walk.{refusal, walk_of}
 
--- document 01's number and values for each case: an item has its depth first
-unfoldable pub handed_number : Handed → Answer
-handed_number (handed.Item v) = granted (v.depth ∷ values_of v.item)
-handed_number (handed.End p) = granted (p.0 ∷ [])
-handed_number (handed.Refused n) = refused n
+-- document 01's values for each case: an item has its depth first
+unfoldable pub values_out : Handed → List ℕ
+values_out (handed.Item v) = v.depth ∷ values_of v.item
+values_out (handed.End p) = p.0 ∷ []
+
+-- and with the number of a refusal, which is the walker's own where it has one: it is the caller's, so any number may stand there
+unfoldable pub handed_number : Result Handed ℕ → Answer
+handed_number r = told_number values_out r
 
 -- document 01: opening a walk checks the whole packet; the walk begins at the outer packet's start, or is refused
 unfoldable pub opens : Repeats → List ℕ → List ℕ → Walker
@@ -38,14 +43,14 @@ end_of s ends d = min (get_or ends d 0) (length s)
 unfoldable pub step_from : List ℕ → List ℕ → ℕ → ℕ → List ℕ → Walked
 step_from s cs at zero ends =
     on_step (step_in s at (end_of s ends 0))
-    (λ i. record { handed = handed.Item (record { depth = 0; item = i }); next = goes_on cs 0 ends i })
-    (λ p. record { handed = handed.End (record { 0 = p }); next = record { refusal = 0; at = at; depth = 0; ends = ends } })
-    (λ n. record { handed = handed.Refused n; next = record { refusal = 0; at = at; depth = 0; ends = ends } })
+    (λ i. record { handed = Ok (handed.Item (record { depth = 0; item = i })); next = goes_on cs 0 ends i })
+    (λ p. record { handed = Ok (handed.End (record { 0 = p })); next = record { refusal = 0; at = at; depth = 0; ends = ends } })
+    (λ e. record { handed = Err (number e); next = record { refusal = 0; at = at; depth = 0; ends = ends } })
 step_from s cs at (suc d) ends =
     on_step (step_in s at (end_of s ends (suc d)))
-    (λ i. record { handed = handed.Item (record { depth = suc d; item = i }); next = goes_on cs (suc d) ends i })
+    (λ i. record { handed = Ok (handed.Item (record { depth = suc d; item = i })); next = goes_on cs (suc d) ends i })
     (λ p. step_from s cs (end_of s ends (suc d)) d ends)
-    (λ n. record { handed = handed.Refused n; next = record { refusal = 0; at = at; depth = suc d; ends = ends } })
+    (λ e. record { handed = Err (number e); next = record { refusal = 0; at = at; depth = suc d; ends = ends } })
 
 -- the number with which a step is refused wherever it stands: its walk's own; else, document 01, "Walks check the container list first"
 unfoldable pub step_fault : List ℕ → Walker → ℕ
@@ -56,7 +61,7 @@ unfoldable pub walk_step : List ℕ → List ℕ → Walker → Walked
 walk_step s l w =
     cond (eqb (step_fault l w) 0)
     (step_from s (names_of l) w.at (min w.depth deepest) w.ends)
-    (record { handed = handed.Refused (step_fault l w); next = w })
+    (record { handed = Err (step_fault l w); next = w })
 
 -- ---- a step as document 01's number and values
 

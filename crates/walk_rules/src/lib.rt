@@ -10,21 +10,21 @@ pub const DEEPEST: usize = 4;
 pub const LEVELS: usize = DEEPEST + 1;
 
 // An item of a walk, with its depth.
-#[derive(Clone, Copy)]
+#[derive(Clone, Copy, Debug, PartialEq, Eq)]
 pub struct Visit {
     pub depth: usize,
     pub item: Item,
 }
 
-// What a step of a walk hands out.
-#[derive(Clone, Copy)]
+// What a step of a walk hands out, where nothing is refused.
+#[derive(Clone, Copy, Debug, PartialEq, Eq)]
 pub enum Handed {
     Item(Visit),
     End(Bytes),
-    Refused(u8),
 }
 
-// A place in a walk: the number with which it was refused, or 0; the position, the depth there, and where the packet of each depth ends.
+// A place in a walk: the number with which it was refused, or 0, any number, since a caller may make one; the position, the depth there, and where the
+// packet of each depth ends.
 #[derive(Clone, Copy)]
 pub struct Walker {
     pub refusal: u8,
@@ -33,9 +33,9 @@ pub struct Walker {
     pub ends: [usize; LEVELS],
 }
 
-// What a step hands out, and where the walk then stands.
+// What a step hands out, and where the walk then stands. The refusal is a number, since a walk shows that of its walker as it is.
 #[derive(Clone, Copy)]
 pub struct Walked {
-    pub handed: Handed,
+    pub handed: Result<Handed, u8>,
     pub next: Walker,
 }

@@ -16,10 +16,7 @@ pub use weave_rules::Held;
 fn bad_count(f: usize) -> bool
     ensures { result ≡ bad_count f }
 {
-    if f == 0 {
-        return true;
-    }
-    MOST_F < f
+    f == 0 || MOST_F < f
 }
 
 // Whether f fragments of s bytes are more than a place holds; s is looked at first, so that the product fits.
@@ -27,8 +24,5 @@ fn too_much(f: usize, s: usize) -> bool
     requires { bad_count f ≡ false }
     ensures { result ≡ too_much f s }
 {
-    if PLACE < s {
-        return true;
-    }
-    PLACE < f * s
+    PLACE < s || PLACE < f * s
 }

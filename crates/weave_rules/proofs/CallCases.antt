@@ -8,24 +8,29 @@ use native.Mathlib.Omega.{arith}
 use borrow.Author.Tests.{ltb-false, eqb-false, le-leb, lt-leb, lt-ltb, le-ltb}
 use lib.Dec.{ltb, eqb, lit<}
 use lib.ListN.{length, get_or, replicate, get_or-eq_default}
-use Rattle.base_rules.specs.Answer.{granted, refused, outcome}
+use Rattle.std.specs.Prelude.{Result, Ok, Err}
+use Rattle.base_rules.specs.Answer.{granted, outcome}
+use Rattle.base_rules.specs.Refusal.{told, number}
+use Rattle.base_rules.specs.Written as written
+use Rattle.base_rules.specs.declared.Refusal.{Refusal}
+use Rattle.base_rules.specs.declared.Refusal.TheVariants as refusal
 use Rattle.base_rules.specs.Bounds.{most_f, most_k, bad_k, place, parity}
 use Rattle.base_rules.specs.Bytes.{splice}
 use Rattle.base_rules.specs.Table.{table}
 use Rattle.base_rules.specs.Tests.{bit}
 use Rattle.base_rules.proofs.ChunkSize.{k_some, k_most}
-use Rattle.base_rules.proofs.Answers.{grants, refuses, writes, leaves}
+use Rattle.base_rules.proofs.Answers.{grants, refuses, writes, leaves, one_told}
 use Rattle.base_rules.proofs.Firsts.{due, skip, none_due}
 use Rattle.base_rules.proofs.Logic.{or_left, or_right}
 use Rattle.base_rules.proofs.Splice.{splice_next}
 use Rattle.base_rules.proofs.Tables.{length-table, table-add, table_same}
 use Rattle.weave_rules.specs.Calls.{bad_count, too_much, over_cells, bad_chunk, interleave_fault, interleave_of, deinterleave_fault, deinterleave_of, not_kept}
-use Rattle.weave_rules.specs.Calls.{enough_fault, enough_of, number_of}
+use Rattle.weave_rules.specs.Calls.{enough_fault, enough_of, number_of, values_of}
 use Rattle.cut_rules.specs.Cells.{fragment_of, cell_of, cells_of}
 use Rattle.cut_rules.specs.Missing.{suffice}
 use Rattle.cut_rules.specs.Sizes.{received_c}
 use Rattle.weave_rules.specs.declared.Held.{Held}
-use Rattle.weave_rules.specs.declared.Held.TheVariants.{Enough, NotEnough, Refused}
+use Rattle.weave_rules.specs.declared.Held.TheVariants.{Enough, NotEnough}
 use Rattle.cut_rules.proofs.Interleaving.{length-fragment}
 
 -- ---- what the tests tell
@@ -114,40 +119,40 @@ module _ (block : List ℕ) (f s i r : ℕ) (few : r ≤ s) (out_of_lem : (t : �
 
 module _ (block out : List ℕ) (f s i : ℕ) where
   -- an interleaving with an Fcount of 0 or over 256 is refused with 7, and nothing is written
-  pub weave_7 : bad_count f ≡ true → outcome (refused 7) out ≡ interleave_of block f s i out
-  unfolding interleave_of interleave_fault
+  pub weave_7 : bad_count f ≡ true → outcome (written.number_of (Err refusal.Count)) out ≡ interleave_of block f s i out
+  unfolding interleave_of interleave_fault written.number_of told number
   weave_7 e = leaves 7 _ _ _ _ (lit< tt) (due 7 _ e)
 
   module _ (counted : bad_count f ≡ false) where
     -- an interleaving into fragments that are more than a place holds is refused with 8, and nothing is written
-    pub weave_8 : too_much f s ≡ true → outcome (refused 8) out ≡ interleave_of block f s i out
-    unfolding interleave_of interleave_fault
+    pub weave_8 : too_much f s ≡ true → outcome (written.number_of (Err refusal.Size)) out ≡ interleave_of block f s i out
+    unfolding interleave_of interleave_fault written.number_of told number
     weave_8 e = leaves 8 _ _ _ _ (lit< tt) (skip 7 _ counted (due 8 _ e))
 
     module _ (held : too_much f s ≡ false) where
       -- an interleaving of a block longer than the f s cells is refused with 8, and nothing is written
-      pub weave_long : over_cells (length block) f s ≡ true → outcome (refused 8) out ≡ interleave_of block f s i out
-      unfolding interleave_of interleave_fault
+      pub weave_long : over_cells (length block) f s ≡ true → outcome (written.number_of (Err refusal.Size)) out ≡ interleave_of block f s i out
+      unfolding interleave_of interleave_fault written.number_of told number
       weave_long e = leaves 8 _ _ _ _ (lit< tt) (skip 7 _ counted (skip 8 _ held (due 8 _ e)))
 
       module _ (whole : over_cells (length block) f s ≡ false) where
         -- an interleaving asked for a fragment not below f is refused with 42, and nothing is written
-        pub weave_42 : f ≤ i → outcome (refused 42) out ≡ interleave_of block f s i out
-        unfolding interleave_of interleave_fault
+        pub weave_42 : f ≤ i → outcome (written.number_of (Err refusal.Index)) out ≡ interleave_of block f s i out
+        unfolding interleave_of interleave_fault written.number_of told number
         weave_42 h = leaves 42 _ _ _ _ (lit< tt) (skip 7 _ counted (skip 8 _ held (skip 8 _ whole (due 42 _ (le-leb f i h)))))
 
         module _ (below : i < f) where
           -- an interleaving with room for fewer than s bytes is refused with 1, and nothing is written
-          pub weave_1 : length out < s → outcome (refused 1) out ≡ interleave_of block f s i out
-          unfolding interleave_of interleave_fault
+          pub weave_1 : length out < s → outcome (written.number_of (Err refusal.Room)) out ≡ interleave_of block f s i out
+          unfolding interleave_of interleave_fault written.number_of told number
           weave_1 h =
               leaves 1 _ _ _ _ (lit< tt)
               (skip 7 _ counted (skip 8 _ held (skip 8 _ whole (skip 42 _ (lt-leb f i below) (due 1 _ (lt-ltb (length out) s h))))))
 
           -- with fragment i below f and room for s bytes, fragment i of the block at the front of out is the answer
           pub weave_done : (y : List ℕ) → s ≤ length out → y ≡ splice out 0 (fragment_of block f s i)
-              → outcome (granted []) y ≡ interleave_of block f s i out
-          unfolding interleave_of interleave_fault
+              → outcome (written.number_of (Ok tt)) y ≡ interleave_of block f s i out
+          unfolding interleave_of interleave_fault written.number_of told number
           weave_done y h e =
               let roomy = skip 1 _ (le-ltb (length out) s h) none_due in
               writes _ _ _ _ _ (skip 7 _ counted (skip 8 _ held (skip 8 _ whole (skip 42 _ (lt-leb f i below) roomy)))) e
@@ -168,34 +173,34 @@ rows_more held out x y f s o e q =
 
 module _ (held out : List ℕ) (f s : ℕ) where
   -- a deinterleaving with an Fcount of 0 or over 256 is refused with 7, and nothing is written
-  pub cells_7 : bad_count f ≡ true → outcome (refused 7) out ≡ deinterleave_of held f s out
-  unfolding deinterleave_of deinterleave_fault
+  pub cells_7 : bad_count f ≡ true → outcome (written.number_of (Err refusal.Count)) out ≡ deinterleave_of held f s out
+  unfolding deinterleave_of deinterleave_fault written.number_of told number
   cells_7 e = leaves 7 _ _ _ _ (lit< tt) (due 7 _ e)
 
   module _ (counted : bad_count f ≡ false) where
     -- a deinterleaving of fragments that are more than a place holds is refused with 8, and nothing is written
-    pub cells_8 : too_much f s ≡ true → outcome (refused 8) out ≡ deinterleave_of held f s out
-    unfolding deinterleave_of deinterleave_fault
+    pub cells_8 : too_much f s ≡ true → outcome (written.number_of (Err refusal.Size)) out ≡ deinterleave_of held f s out
+    unfolding deinterleave_of deinterleave_fault written.number_of told number
     cells_8 e = leaves 8 _ _ _ _ (lit< tt) (skip 7 _ counted (due 8 _ e))
 
     module _ (placed : too_much f s ≡ false) where
-      no_room : ltb (length held) (f * s) || ltb (length out) (f * s) ≡ true → outcome (refused 1) out ≡ deinterleave_of held f s out
-      unfolding deinterleave_of deinterleave_fault
+      no_room : ltb (length held) (f * s) || ltb (length out) (f * s) ≡ true → outcome (written.number_of (Err refusal.Room)) out ≡ deinterleave_of held f s out
+      unfolding deinterleave_of deinterleave_fault written.number_of told number
       no_room e = leaves 1 _ _ _ _ (lit< tt) (skip 7 _ counted (skip 8 _ placed (due 1 _ e)))
 
       -- a deinterleaving with fewer than f s bytes held is refused with 1, and nothing is written
-      pub cells_held : length held < f * s → outcome (refused 1) out ≡ deinterleave_of held f s out
+      pub cells_held : length held < f * s → outcome (written.number_of (Err refusal.Room)) out ≡ deinterleave_of held f s out
       cells_held h = no_room (rw (lt-ltb (length held) (f * s) h))
 
       module _ (whole : f * s ≤ length held) where
         -- all fragments held, but room for fewer than f s bytes: 1, and nothing is written
-        pub cells_room : length out < f * s → outcome (refused 1) out ≡ deinterleave_of held f s out
+        pub cells_room : length out < f * s → outcome (written.number_of (Err refusal.Room)) out ≡ deinterleave_of held f s out
         cells_room h = no_room (rw (le-ltb (length held) (f * s) whole, lt-ltb (length out) (f * s) h))
 
         -- with all fragments held and room for f s bytes, the cells at the front of out are the answer
         pub cells_done : (y : List ℕ) → f * s ≤ length out → y ≡ splice out 0 (cells_of held f s)
-            → outcome (granted []) y ≡ deinterleave_of held f s out
-        unfolding deinterleave_of deinterleave_fault
+            → outcome (written.number_of (Ok tt)) y ≡ deinterleave_of held f s out
+        unfolding deinterleave_of deinterleave_fault written.number_of told number
         cells_done y h e =
             let none : ltb (length held) (f * s) || ltb (length out) (f * s) ≡ false = rw
             (le-ltb (length held) (f * s) whole, le-ltb (length out) (f * s) h) in
@@ -205,20 +210,20 @@ module _ (held out : List ℕ) (f s : ℕ) where
 
 module _ (kept : List Bool) (f s k : ℕ) where
   -- the test of sufficing is refused with 7 for an Fcount of 0 or over 256
-  pub held_7 : bad_count f ≡ true → number_of (Refused 7) ≡ enough_of kept f s k
-  unfolding number_of enough_of enough_fault
+  pub held_7 : bad_count f ≡ true → number_of (Err refusal.Count) ≡ enough_of kept f s k
+  unfolding number_of told number enough_of enough_fault
   held_7 e = refuses 7 _ _ (lit< tt) (due 7 _ e)
 
   module _ (counted : bad_count f ≡ false) where
     -- the test of sufficing is refused with 8 for fragments that are more than a place holds
-    pub held_8 : too_much f s ≡ true → number_of (Refused 8) ≡ enough_of kept f s k
-    unfolding number_of enough_of enough_fault
+    pub held_8 : too_much f s ≡ true → number_of (Err refusal.Size) ≡ enough_of kept f s k
+    unfolding number_of told number enough_of enough_fault
     held_8 e = refuses 8 _ _ (lit< tt) (skip 7 _ counted (due 8 _ e))
 
     module _ (placed : too_much f s ≡ false) where
       -- the test of sufficing is refused with 8 for a k of 0 or over 207, or fewer bytes than a chunk has
-      pub held_chunk : bad_chunk f s k ≡ true → number_of (Refused 8) ≡ enough_of kept f s k
-      unfolding number_of enough_of enough_fault
+      pub held_chunk : bad_chunk f s k ≡ true → number_of (Err refusal.Size) ≡ enough_of kept f s k
+      unfolding number_of told number enough_of enough_fault
       held_chunk e = refuses 8 _ _ (lit< tt) (skip 7 _ counted (skip 8 _ placed (due 8 _ e)))
 
       module _ (sound : bad_chunk f s k ≡ false) where
@@ -229,25 +234,24 @@ module _ (kept : List Bool) (f s k : ℕ) where
 
         -- where no chunk misses more than 48 bytes, the answer is Enough
         pub held_enough : (b : Bool) → b ≡ suffice (not_kept kept) f (k + parity) (f * s / (k + parity)) → b ≡ true
-            → number_of Enough ≡ enough_of kept f s k
-        unfolding number_of
+            → number_of (Ok Enough) ≡ enough_of kept f s k
+        unfolding number_of told values_of
         held_enough b e t = told_so true (sym t ∙ e)
 
         -- where a chunk misses more than 48 bytes, the answer is NotEnough
         pub held_not : (b : Bool) → b ≡ suffice (not_kept kept) f (k + parity) (f * s / (k + parity)) → b ≡ false
-            → number_of NotEnough ≡ enough_of kept f s k
-        unfolding number_of
+            → number_of (Ok NotEnough) ≡ enough_of kept f s k
+        unfolding number_of told values_of
         held_not b e t = told_so false (sym t ∙ e)
 
 -- no second answer fits
-pub one_held : (a b : Held) → number_of a ≡ number_of b → a ≡ b
+one_value : (a b : Held) → values_of a ≡ values_of b → a ≡ b
+unfolding values_of
+one_value Enough Enough e = refl
+one_value Enough NotEnough e = let z : ◌≡◌ {A = ℕ} 1 0 = cc in absurd (omega arith)
+one_value NotEnough Enough e = let z : ◌≡◌ {A = ℕ} 0 1 = cc in absurd (omega arith)
+one_value NotEnough NotEnough e = refl
+
+pub one_held : (a b : Result Held Refusal) → number_of a ≡ number_of b → a ≡ b
 unfolding number_of
-one_held Enough Enough e = refl
-one_held Enough NotEnough e = let z : ◌≡◌ {A = ℕ} 1 0 = cc in absurd (omega arith)
-one_held Enough (Refused n) e = cc
-one_held NotEnough Enough e = let z : ◌≡◌ {A = ℕ} 0 1 = cc in absurd (omega arith)
-one_held NotEnough NotEnough e = refl
-one_held NotEnough (Refused n) e = cc
-one_held (Refused m) Enough e = cc
-one_held (Refused m) NotEnough e = cc
-one_held (Refused m) (Refused n) e = cc
+one_held a b e = one_told values_of one_value a b e

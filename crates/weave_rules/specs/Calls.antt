@@ -1,14 +1,16 @@
 -- What the calls on fragments answer. Each takes f fragments of s bytes; document 01, "Numbers given back", has the numbers.
-use Rattle.std.specs.Prelude.{Bool, false, not, ◌||◌, List, [], ◌∷◌, ℕ, ◌+◌, ◌*◌, leb, ltb, eqb, length, get_or}
+use Rattle.std.specs.Prelude.{Bool, false, not, ◌||◌, List, [], ◌∷◌, ℕ, ◌+◌, ◌*◌, leb, ltb, eqb, length, get_or, Result}
 use Rattle.base_rules.specs.Bounds.{most_f, bad_k, place, parity}
 use Rattle.base_rules.specs.Tests.{first, bit}
-use Rattle.base_rules.specs.Answer.{Answer, granted, refused, answered, Outcome, settled}
+use Rattle.base_rules.specs.Answer.{Answer, answered, Outcome, settled}
 use Rattle.base_rules.specs.Bytes.{splice}
+use Rattle.base_rules.specs.Refusal.{told}
+use Rattle.base_rules.specs.declared.Refusal.{Refusal}
 use Rattle.cut_rules.specs.Sizes.{received_c}
 use Rattle.cut_rules.specs.Cells.{fragment_of, cells_of}
 use Rattle.cut_rules.specs.Missing.{suffice}
 use Rattle.weave_rules.specs.declared.Held.{Held}
-use Rattle.weave_rules.specs.declared.Held.TheVariants.{Enough, NotEnough, Refused}
+use Rattle.weave_rules.specs.declared.Held.TheVariants.{Enough, NotEnough}
 
 -- document 01, 7 COUNT: Fcount 0 or over 256
 unfoldable pub bad_count : ℕ → Bool
@@ -54,8 +56,11 @@ enough_fault f s k = first ((bad_count f, 7) ∷ (too_much f s, 8) ∷ (bad_chun
 unfoldable pub enough_of : List Bool → ℕ → ℕ → ℕ → Answer
 enough_of kept f s k = answered (enough_fault f s k) (bit (suffice (not_kept kept) f (k + parity) (received_c f s k)) ∷ [])
 
--- document 01's number and the value, for each case: 1 where they suffice, 0 where not
-unfoldable pub number_of : Held → Answer
-number_of Enough = granted (1 ∷ [])
-number_of NotEnough = granted (0 ∷ [])
-number_of (Refused n) = refused n
+-- the value of each case: 1 where they suffice, 0 where not
+unfoldable pub values_of : Held → List ℕ
+values_of Enough = 1 ∷ []
+values_of NotEnough = 0 ∷ []
+
+-- document 01's number and the value, for each case
+unfoldable pub number_of : Result Held Refusal → Answer
+number_of r = told values_of r

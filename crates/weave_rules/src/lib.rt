@@ -2,9 +2,8 @@
 #![tactic(auto)]
 
 // Whether the fragments held suffice.
-#[derive(Clone, Copy)]
+#[derive(Clone, Copy, Debug, PartialEq, Eq)]
 pub enum Held {
     Enough,
     NotEnough,
-    Refused(u8),
 }

@@ -8,7 +8,7 @@ ghost use Rattle.std.specs.Float.{fin, binary32};
 ghost use Rattle.bandwidth_rules.specs.Figure.{scale, figure_of, whole_of};
 ghost use Rattle.bandwidth_rules.specs.Seen.{no_widths, wider, narrower, with_width, seen_of};
 
-pub use bandwidth_rules::{Bandwidth, Whole, Widths};
+pub use bandwidth_rules::Widths;
 
 // n / 256, which a float of 32 bits holds exactly.
 pub fn figure(n: u16) -> f32
@@ -19,7 +19,7 @@ pub fn figure(n: u16) -> f32
 
 // Which figure x is, where v, 256 times x, is from 0 to 65,535: x has to have its figure's very pattern, so that a fraction of a 256th and minus zero
 // fall out.
-fn whole_near(x: f32, v: f32) -> Whole
+fn whole_near(x: f32, v: f32) -> Option<u16>
     requires { (Ieee.le (fin false 0 (pos 0)) v ≡ true) × (Ieee.le v (fin false 65535 (pos 0)) ≡ true) × (v ≡ Ieee.mul binary32 x scale) }
     ensures { result ≡ whole_of x }
 {
@@ -27,14 +27,14 @@ fn whole_near(x: f32, v: f32) -> Whole
     if n <= 65535 {
         let y = figure(n as u16);
         if f32::to_bits(y) == f32::to_bits(x) {
-            return Whole::Of(n as u16);
+            return Some(n as u16);
         }
     }
-    Whole::Nothing
+    None
 }
 
 // Which figure x is, if it is one. Each test has to pass, so that a NaN falls out.
-pub fn whole_of(x: f32) -> Whole
+pub fn whole_of(x: f32) -> Option<u16>
     ensures { result ≡ whole_of x }
 {
     let v = x * 256.0;
@@ -43,7 +43,7 @@ pub fn whole_of(x: f32) -> Whole
             return whole_near(x, v);
         }
     }
-    Whole::Nothing
+    None
 }
 
 // No figure has come.
@@ -58,14 +58,14 @@ pub fn fresh() -> Widths
     }
 }
 
-// The wider of two.
+// The wider of two: a, unless a < x. So a stays where they are equal and where one is a NaN, which `max` does not promise.
 fn wider_of(a: f32, x: f32) -> f32
     ensures { result ≡ wider a x }
 {
     if a < x { x } else { a }
 }
 
-// The narrower of two.
+// The narrower of two: a, unless x < a. So a stays where they are equal and where one is a NaN, which `min` does not promise.
 fn narrower_of(a: f32, x: f32) -> f32
     ensures { result ≡ narrower a x }
 {
@@ -93,13 +93,15 @@ fn with_width(widths: Widths, x: f32) -> Widths
     }
 }
 
-// The figures so far with one more answer, which leaves them as they stood unless it is a figure.
-pub fn seen(widths: Widths, answer: Bandwidth) -> Widths
+// The figures so far with one more answer, which leaves them as they stood unless it is a figure, whatever a refusal is.
+pub fn seen<E: Copy>(widths: Widths, answer: Result<Option<f32>, E>) -> Widths
     ensures { result ≡ seen_of widths answer }
 {
-    match answer {
-        Bandwidth::Width(x) => with_width(widths, x),
-        Bandwidth::NotAvailable => widths,
-        Bandwidth::Refused(_) => widths,
+    let Ok(width) = answer else {
+        return widths;
+    };
+    match width {
+        Some(x) => with_width(widths, x),
+        None => widths,
     }
 }

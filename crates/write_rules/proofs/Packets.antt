@@ -10,12 +10,12 @@ use lib.ListN.{length, length-append}
 use borrow.Author.Tests.{lt-ltb, eq-eqb, eqb-true, eqb-false}
 use Rattle.base_rules.specs.Tests.{among}
 use Rattle.base_rules.proofs.Logic.{either, clash, or_left, or_right}
+use Rattle.std.specs.Prelude.{Ok, Some}
 use Rattle.item_rules.specs.Item.{head, bytes_for, unused_of, item_at, step_in}
 use Rattle.item_rules.specs.Run.{Run, item, padding, next_of, run_of, named_in, nth_of, forbids, faults_of, fault_of, dmy}
 use Rattle.item_rules.specs.declared.Item.{Item}
 use Rattle.item_rules.specs.declared.Repeats.TheVariants.{Forbidden, Allowed}
 use Rattle.item_rules.specs.declared.Step.TheVariants as step
-use Rattle.item_rules.specs.declared.Found.TheVariants as found
 use Rattle.item_rules.proofs.Runs.{run-item, run_end}
 use Rattle.item_rules.proofs.Faults.{fault_dmy, fault_none}
 use Rattle.item_rules.proofs.Proved.{one_item, twice}
@@ -36,9 +36,9 @@ item_of at e = record {
 }
 
 -- since it tells what was written
-is_written : (s : List ℕ) (at end : ℕ) (e : Entry) {value : List ℕ} → ReadAs s at end e.name e.bits value → step_in s at end ≡ step.Item (item_of at e)
+is_written : (s : List ℕ) (at end : ℕ) (e : Entry) {value : List ℕ} → ReadAs s at end e.name e.bits value → step_in s at end ≡ Ok (step.Item (item_of at e))
 unfolding written_values
-is_written s at end e read = read.item ∙ ap step.Item (one_item (item_at s at) (item_of at e) read.tells)
+is_written s at end e read = read.item ∙ ap (λ (i : Item). Ok (step.Item i)) (one_item (item_at s at) (item_of at e) read.tells)
 
 -- those of all entries
 unfoldable pub entries_run : ℕ → List Entry → ℕ → Run
@@ -50,7 +50,7 @@ pads : (s : List ℕ) (at end n : ℕ) → end ≡ at + n → n ≤ 7 → run_of
 unfolding step_in
 pads s at end n e h =
     let left : end - at ≡ n = omega arith in
-    let few : step_in s at end ≡ step.End (record { 0 = end - at }) = simp (lt-ltb (end - at) head (omega arith)) in
+    let few : step_in s at end ≡ Ok (step.End (record { 0 = end - at })) = simp (lt-ltb (end - at) head (omega arith)) in
     run_end s at end (record { 0 = end - at }) few ∙ ap padding left
 
 -- the run of what was written behind `pre`
@@ -160,7 +160,7 @@ as_many name at (e ∷ es) n =
 -- an item is the occurrence with the number of those written under its name before it, right behind the bytes of all before it
 pub nth_written : (at : ℕ) (before after : List Entry) (e : Entry) (n : ℕ) → AllFit (before ++ (e ∷ after))
     → nth_of e.name (length (written_as e.name before)) (entries_run at (before ++ (e ∷ after)) n)
-    ≡ found.At (item_of (at + length (packet_of before [])) e)
+    ≡ Some (item_of (at + length (packet_of before [])) e)
 unfolding entries_run nth_of named_in packet_of written_as
 nth_written at [] after e n fit =
     simp (eq-eqb e.name e.name refl, add-zero)
@@ -169,5 +169,5 @@ nth_written at (b ∷ before) after e n fit =
     let long = length-item b.name b.bits b.value fit.0.whole in
     let next : next_of (item_of at b) + length (packet_of before []) ≡ at + length (it ++ packet_of before []) =
     omega (arith, long, length-append it (packet_of before [])) in
-    let on = nth_written (next_of (item_of at b)) before after e n fit.1 ∙ ap (λ (k : ℕ). found.At (item_of k e)) next in
+    let on = nth_written (next_of (item_of at b)) before after e n fit.1 ∙ ap (λ (k : ℕ). Some (item_of k e)) next in
     either (eqb b.name e.name) (λ t. simp t on) (λ f. simp f on)

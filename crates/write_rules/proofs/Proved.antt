@@ -6,11 +6,12 @@ use Prim.Native.Nat.{ℕ, ◌+◌, ◌^◌, ◌≤◌}
 use native.Mathlib.Nat.{zero-add, mod-one}
 use native.Mathlib.Omega.{arith}
 use lib.ListN.{length, take, drop}
+use Rattle.std.specs.Prelude.{Some}
+use Rattle.base_rules.specs.Refusal.{number, told}
 use Rattle.item_rules.specs.Item.{head, bytes_for, unused_of}
 use Rattle.item_rules.specs.Run.{Run, first_of, named_in, nth_of, faults_of}
 use Rattle.item_rules.specs.declared.Repeats.{Repeats}
 use Rattle.item_rules.specs.declared.Repeats.TheVariants.{Forbidden, Allowed}
-use Rattle.item_rules.specs.declared.Found.TheVariants as found
 use Rattle.item_rules.proofs.Proved.{first_is_nth}
 use Rattle.base_rules.specs.Answer.{answered}
 use Rattle.base_rules.specs.Tests.{among}
@@ -64,14 +65,14 @@ opens_repeated es pad fit few = simp (sound_repeated es pad fit few)
 
 -- and each item stands where it was written
 module _ (before after : List Entry) (e : Entry) (pad : List ℕ) (fit : AllFit (before ++ (e ∷ after))) (few : length pad ≤ 7) where
-  nth : nth_of e.name (length (written_as e.name before)) (whole_run (packet_of (before ++ (e ∷ after)) pad)) ≡ found.At
+  nth : nth_of e.name (length (written_as e.name before)) (whole_run (packet_of (before ++ (e ∷ after)) pad)) ≡ Some
       (item_of (length (packet_of before [])) e)
   nth =
       ap (nth_of e.name (length (written_as e.name before))) (run_written [] (before ++ (e ∷ after)) pad fit few)
-      ∙ nth_written 0 before after e (length pad) fit ∙ ap (λ (k : ℕ). found.At (item_of k e)) (zero-add (length (packet_of before [])))
+      ∙ nth_written 0 before after e (length pad) fit ∙ ap (λ (k : ℕ). Some (item_of k e)) (zero-add (length (packet_of before [])))
 
   -- the first under its name is occurrence 0
-  first : among e.name (names_of before) ≡ false → first_of e.name (whole_run (packet_of (before ++ (e ∷ after)) pad)) ≡ found.At
+  first : among e.name (names_of before) ≡ false → first_of e.name (whole_run (packet_of (before ++ (e ∷ after)) pad)) ≡ Some
       (item_of (length (packet_of before [])) e)
   first new =
       let r : Run = whole_run (packet_of (before ++ (e ∷ after)) pad) in
@@ -112,7 +113,7 @@ finds_nth w before after e pad fit apart few =
     record { tells = here.0; value = here.1 ∙ value before after e pad fit few }
 
 pub no_more : NoMore
-unfolding located_number
+unfolding located_number told number
 no_more w es name number pad fit apart few beyond =
     let count : length (named_in name (whole_run (packet_of es pad))) ≡ length (written_as name es) =
     ap (λ (r : Run). length (named_in name r)) (run_written [] es pad fit few) ∙ as_many name 0 es (length pad) in

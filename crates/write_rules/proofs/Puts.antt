@@ -9,7 +9,8 @@ use lib.Seq.{length-take-le, get_or-append-add, set-append_left, set_out}
 use Rattle.base_rules.specs.Answer.{outcome}
 use Rattle.base_rules.specs.Bytes.{splice, bytes_of}
 use Rattle.base_rules.specs.Written.{number_of, put_of}
-use Rattle.base_rules.specs.declared.Written.{Written}
+use Rattle.std.specs.Prelude.{Result}
+use Rattle.base_rules.specs.declared.Refusal.{Refusal}
 use Rattle.base_rules.proofs.Answers.{put_is}
 use Rattle.base_rules.proofs.Numbers.{length-bytes}
 use Rattle.base_rules.proofs.Splice.{splice_next, splice-length}
@@ -17,7 +18,7 @@ use Rattle.item_rules.specs.Item.{head, unused_of}
 use Rattle.write_rules.specs.Write.{trimmed_by, trimmed, item_bytes}
 
 -- the head's two numbers, one behind the other
-pub head_put : (d n b x y : List ℕ) (name bits : ℕ) (r t : Written) → head ≤ length d → n ≡ bytes_of 4 name → b ≡ bytes_of 4 bits
+pub head_put : (d n b x y : List ℕ) (name bits : ℕ) (r t : Result (Unit {0}) Refusal) → head ≤ length d → n ≡ bytes_of 4 name → b ≡ bytes_of 4 bits
     → outcome (number_of r) x ≡ put_of d 0 n → outcome (number_of t) y ≡ put_of x 4 b → y ≡ splice d 0 (bytes_of 4 name ++ bytes_of 4 bits)
 head_put d n b x y name bits r t h en eb p q =
     let ln : length n ≡ 4 = ap length en ∙ length-bytes 4 name in
@@ -55,7 +56,7 @@ module _ (d : List ℕ) (at : ℕ) (s : List ℕ) (fits : at + length s ≤ leng
       ∙ ap (λ (k : ℕ). take at d ++ (set s i a ++ drop (at + k) d)) (sym (length-set s i a))
 
 -- the value with its last byte trimmed,
-pub value_put : (d v y : List ℕ) (p : ℕ) (r : Written) → head + length v ≤ length d → 0 < length v → outcome (number_of r) y ≡ put_of d head v
+pub value_put : (d v y : List ℕ) (p : ℕ) (r : Result (Unit {0}) Refusal) → head + length v ≤ length d → 0 < length v → outcome (number_of r) y ≡ put_of d head v
     → set y (head + length v - 1) (get_or y (head + length v - 1) 0 - get_or y (head + length v - 1) 0 % p) ≡ splice d head (trimmed_by p v)
 unfolding trimmed_by
 value_put d v y p r fits some e =
@@ -69,7 +70,7 @@ value_put d v y p r fits some e =
     ∙ spliced_set d head v fits i (omega arith) (get_or v i 0 - get_or v i 0 % p)
 
 -- and one of no bytes
-pub nothing_put : (d v y : List ℕ) (p : ℕ) (r : Written) → head + length v ≤ length d → length v ≤ 0 → outcome (number_of r) y ≡ put_of d head v
+pub nothing_put : (d v y : List ℕ) (p : ℕ) (r : Result (Unit {0}) Refusal) → head + length v ≤ length d → length v ≤ 0 → outcome (number_of r) y ≡ put_of d head v
     → y ≡ splice d head (trimmed_by p v)
 unfolding trimmed_by
 nothing_put d v y p r fits none e =

@@ -1,5 +1,6 @@
 -- The theorems of writing, W1 to W3, as they can be held against document 01 and document 02, Items 1 and 11. Each is proved in proofs/Proved.antt.
 use Rattle.std.specs.Prelude.{◌≡◌, true, false, List, [], ◌∷◌, ◌++◌, ℕ, ◌+◌, ◌-◌, ◌%◌, ◌^◌, ◌≤◌, ◌<◌, length, get_or, take, drop}
+use Rattle.std.specs.Prelude.{Ok}
 use Rattle.item_rules.specs.Item.{head, bytes_for, unused_of, item_at, step_in, values_of}
 use Rattle.item_rules.specs.Run.{dmy}
 use Rattle.item_rules.specs.declared.Repeats.{Repeats}
@@ -19,7 +20,7 @@ written_values at name bits = name ∷ bits ∷ (at + head) ∷ bytes_for bits �
 
 -- W1: what stands at `at` in s is an item of that name, those bits and that value; document 02, Item 11: it starts there, and so many bits are unused
 pub record ReadAs (s : List ℕ) (at end name bits : ℕ) (value : List ℕ) : Type 0 where
-  pub item : step_in s at end ≡ step.Item (item_at s at)
+  pub item : step_in s at end ≡ Ok (step.Item (item_at s at))
   pub tells : values_of (item_at s at) ≡ written_values at name bits
   pub bytes : take (bytes_for bits) (drop (at + head) s) ≡ value
 

@@ -7,6 +7,6 @@ pub returns-then-k-eq0 : goal.returns-then-k-eq0
 unfolding bad_k
 returns-then-k-eq0 c = rw (eq-eqb c.args.k 0 c.if-k-eq0.true)
 
-pub returns : goal.returns
+pub returns-else-k-eq0 : goal.returns-else-k-eq0
 unfolding bad_k
-returns c = rw (ne_eqb c.args.k 0 c.if-k-eq0.false)
+returns-else-k-eq0 c = rw (ne_eqb c.args.k 0 c.if-k-eq0.false)

@@ -22,11 +22,6 @@ returns-then-d-at c =
     let a = c.args in
     put_refused a.d.now a.s.now a.at (omega arith)
 
-pub returns-then-d-at-2 : goal.returns-then-d-at-2
-returns-then-d-at-2 c =
-    let a = c.args in
-    put_refused a.d.now a.s.now a.at (omega arith)
-
 pub returns : goal.returns
 returns c =
     let a = c.args in

@@ -1,12 +1,12 @@
 -- The answers of a query as the functions that tell them take them apart.
-use Rattle.std.specs.Prelude.{List, [], ◌∷◌, ◌++◌, ℕ}
-use Rattle.base_rules.specs.Answer.{Answer, granted, refused}
+use Rattle.std.specs.Prelude.{List, [], ◌∷◌, ◌++◌, ℕ, Result}
+use Rattle.base_rules.specs.Answer.{Answer}
+use Rattle.base_rules.specs.Refusal.{told}
+use Rattle.base_rules.specs.declared.Refusal.{Refusal}
 use Rattle.places_rules.specs.Places.{free, open_now, delivered, spoiled}
 use Rattle.receiver_rules.specs.declared.Seen.{Seen}
 use Rattle.receiver_rules.specs.declared.Seen.TheVariants as seen
 use Rattle.receiver_rules.specs.declared.Shown.{Shown}
-use Rattle.receiver_rules.specs.declared.Queried.{Queried}
-use Rattle.receiver_rules.specs.declared.Queried.TheVariants as queried
 
 -- what is told of a place that `query` shows
 unfoldable pub seen_told : Seen → List ℕ
@@ -20,6 +20,5 @@ unfoldable pub shown_told : Shown → List ℕ
 shown_told p = seen_told p.first ++ seen_told p.second ++ seen_told p.third ++ seen_told p.fourth
 
 -- the answer of `query` with what is told of it
-unfoldable pub queried_in : Queried → Answer
-queried_in (queried.Places p) = granted (shown_told p)
-queried_in (queried.Refused n) = refused n
+unfoldable pub queried_in : Result Shown Refusal → Answer
+queried_in r = told shown_told r

@@ -1,28 +1,20 @@
-use mathlib.Core.Path.{refl, ◌∙◌}
+use mathlib.Core.Path.{◌≡◌, ap, ◌∙◌}
+use mathlib.Core.List.{List, ◌++◌}
+use Prim.Native.Nat.{ℕ, ◌<◌}
 use native.Mathlib.Omega.{arith}
 use borrow.Author.Rules.{rules}
-use Rattle.code_rules.specs.inner.Kernel.{Multiples}
-use Rattle.code_rules.proofs.LaneLaws.{doubled_start, doubled_more, multiples_end}
+use lib.ListN.{length, get_or, get_or-append}
+use Rattle.code_rules.proofs.LaneLaws.{multiples_end}
 use Rattle.code_lanes.proofs.multiples.Goals as goal
 
-pub loop-i-init : goal.loop-i-init
-loop-i-init c = (search rules, search rules, doubled_start c.first_row-k.result c.first_row-k.result c.first_row-k.ensures.0 (λ i h. refl))
-
-pub loop-i-preserved : goal.loop-i-preserved
-loop-i-preserved c =
-    let L = c.loop-i in
-    let I = L.invariant in (
-      search rules,
-      search rules,
-      doubled_more c.first_row-k.result L.k L.i c.twice.result I.0
-          (omega arith) I.2 c.twice.ensures,
-    )
+-- a copy at the front is there
+front : (s x rest : List ℕ) (i : ℕ) → s ≡ x → i < length x → get_or (s ++ rest) i 0 ≡ get_or x i 0
+front s x rest i e h = ap (λ (l : List ℕ). get_or (l ++ rest) i 0) e ∙ get_or-append x rest 0 i h
 
 pub returns : goal.returns
 returns c =
-    let First-row = c.first_row-k in
+    let x : List ℕ = c.args.x in
     let L = c.loop-i in
-    let I = L.invariant in
-    let C = First-row.ensures.1 in
-    let M : Multiples First-row.result L.k = multiples_end First-row.result L.k L.i (omega arith) I.2 in
-    record { firsts = λ i h. M.firsts i h ∙ C i h; twos = M.twos }
+    let M = multiples_end _ L.k L.i (omega arith) L.invariant in
+    let long : length x ≡ 48 = search rules in
+    record { firsts = λ i h. M.firsts i h ∙ front c.copy_from_slice.new.self x _ i c.copy_from_slice.ensures.after (omega arith); twos = M.twos }

@@ -1,12 +1,8 @@
 -- `times_lanes` meets its contract: a lane a turn. Assumes nothing.
-use Prim.Native.Nat.{◌-◌, ◌≤◌}
 use lib.ListN.{replicate}
 use Rattle.code_rules.specs.inner.Patterns.{times_all}
 use Rattle.code_rules.proofs.LoopLaws.{Upto}
 use Rattle.code_lanes.proofs.times_lanes.Given as goal
 
 abbrev pub invariant-loop-m : goal.invariant-loop-m
-invariant-loop-m l = (l.m ≤ 48) × Upto (times_all l.a l.b) (replicate 48 0) l.m l.r
-
-abbrev pub decreases-loop-m : goal.decreases-loop-m
-decreases-loop-m l = 48 - l.m
+invariant-loop-m l = Upto (times_all l.a l.b) (replicate 48 0) l.m l.r

@@ -1,23 +1,19 @@
-use mathlib.Core.Path.{refl, sym, ap, ◌∙◌}
+use mathlib.Core.Path.{sym, ap, ◌∙◌}
 use Prim.Native.Nat.{◌+◌}
 use native.Mathlib.Omega.{arith}
-use borrow.Author.Rules.{rules}
 use lib.ListN.{drop}
 use Rattle.crc_rules.specs.Crc.{register_of}
 use Rattle.crc_rules.proofs.Over.{one_more, no_more}
 use Rattle.crc.proofs.by_bytes.Goals as goal
 
-pub loop-i-init : goal.loop-i-init
-loop-i-init c = (search rules, refl, refl)
-
-pub loop-i-preserved : goal.loop-i-preserved
-loop-i-preserved c =
-    let l = c.loop-i in
+pub loop-b-preserved : goal.loop-b-preserved
+loop-b-preserved c =
+    let l = c.loop-b in
     let s = c.args.bytes.now in
-    let e = ap (λ r. register_of r (drop (l.i + 1) s)) c.fed-r.ensures in
-    (search rules, l.invariant.1, e ∙ one_more s l.i l.r (search rules) ∙ l.invariant.2)
+    let e = ap (λ r. register_of r (drop (l.b-index + 1) s)) c.fed-r.ensures in
+    e ∙ one_more s l.b-index l.r c.loop-b-test.true ∙ l.invariant
 
 pub returns : goal.returns
 returns c =
-    let l = c.loop-i in
-    sym (no_more c.args.bytes.now l.i l.r (omega arith)) ∙ l.invariant.2
+    let l = c.loop-b in
+    sym (no_more c.args.bytes.now l.b-index l.r (omega arith)) ∙ l.invariant

@@ -19,14 +19,14 @@ no_shift : (i q : ℕ) → i ≤ 8 → 8 ≤ i → q ≡ shifts (8 - i) q
 unfolding shifts
 no_shift i q h k = let n : 0 ≡ 8 - i = omega arith in ap (λ k. shifts k q) n
 
-pub loop-i-init : goal.loop-i-init
+pub loop-init : goal.loop-init
 unfolding shifts feed_at_once shift8
-loop-i-init c = (search rules, sym (at_once _ _ (search rules) (search rules)))
+loop-init c = (search rules, sym (at_once _ _ (search rules) (search rules)))
 
-pub loop-i-preserved : goal.loop-i-preserved
-loop-i-preserved c =
-    let l = c.loop-i in
-    (search rules, one_shift l.i _ _ c.loop-i-test.true c.shifted-q.ensures ∙ l.invariant.1)
+pub loop-preserved : goal.loop-preserved
+loop-preserved c =
+    let l = c.loop in
+    (search rules, one_shift l.counter _ _ c.loop-test.true c.shifted-q.ensures ∙ l.invariant.1)
 
 pub returns : goal.returns
-returns c = no_shift _ _ c.loop-i.invariant.0 c.loop-i-test.false ∙ c.loop-i.invariant.1
+returns c = no_shift _ _ c.loop.invariant.0 c.loop-test.false ∙ c.loop.invariant.1

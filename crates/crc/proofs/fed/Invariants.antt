@@ -9,10 +9,5 @@ unfoldable pub shifts : ℕ → ℕ → ℕ
 shifts zero r = r
 shifts (suc n) r = shifts n (shift r)
 
--- one of the shifts that are left
-
-abbrev pub invariant-loop-i : goal.invariant-loop-i
-invariant-loop-i l = (l.i ≤ 8) × (shifts (8 - l.i) l.q ≡ feed l.r l.b)
-
-abbrev pub decreases-loop-i : goal.decreases-loop-i
-decreases-loop-i l = 8 - l.i
+abbrev pub invariant-loop : goal.invariant-loop
+invariant-loop l = (l.counter ≤ 8) × (shifts (8 - l.counter) l.q ≡ feed l.r l.b)

@@ -4,6 +4,6 @@ use Rattle.crc_rules.specs.inner.Halves.{rounds}
 use Rattle.crc_rules.proofs.Halves.{halves}
 use Rattle.crc.proofs.register.Goals as goal
 
-pub by_eights-requires : goal.by_eights-requires
+pub invariant_of-halves : goal.invariant_of-halves
 unfolding rounds shift8 shift
-by_eights-requires c = halves _ tt
+invariant_of-halves c = record { right = halves _ tt }

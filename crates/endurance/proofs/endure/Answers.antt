@@ -5,18 +5,18 @@ use Rattle.endurance_rules.proofs.Calls.{endured, unendured}
 use Rattle.endurance.proofs.endure.Goals as goal
 
 pub stood-most-requires : goal.stood-most-requires
-stood-most-requires c = sym (ap number_of c.in-Cut.is) ∙ c.plan.ensures
+stood-most-requires c = sym (ap number_of c.in-Ok.is) ∙ c.plan.ensures
 
-pub returns-in-Cut : goal.returns-in-Cut
-returns-in-Cut c =
+pub returns-in-Ok : goal.returns-in-Ok
+returns-in-Ok c =
     let known = c in
     let planned = known.plan in
     let a = known.args in
-    endured a.g a.l _ (sym (ap number_of known.in-Cut.is) ∙ planned.ensures) _ _ c.stood-most.ensures.0 c.first_lost.ensures
+    endured a.g a.l _ (sym (ap number_of known.in-Ok.is) ∙ planned.ensures) _ _ c.stood-most.ensures.0 c.first_lost.ensures
 
-pub returns-in-Refused : goal.returns-in-Refused
-returns-in-Refused c =
+pub returns-in-Err : goal.returns-in-Err
+returns-in-Err c =
     let known = c in
     let planned = known.plan in
     let a = known.args in
-    unendured a.g a.l _ _ (sym (ap number_of known.in-Refused.is) ∙ planned.ensures) c.first_lost-in-Refused.ensures
+    unendured a.g a.l _ _ (sym (ap number_of known.in-Err.is) ∙ planned.ensures) c.first_lost-in-Err.ensures

@@ -1,33 +1,24 @@
-use mathlib.Core.Path.{◌≡◌, ap, ◌∙◌}
-use mathlib.Core.Bool.{Bool, true}
-use mathlib.Core.List.{List}
+-- `first_lost` meets its contract: the first v flags are filled, and the others stay. Assumes nothing.
+use mathlib.Core.Path.{◌≡◌, ap, ap₂, ◌∙◌}
+use mathlib.Core.Bool.{Bool, true, false}
+use mathlib.Core.List.{List, ◌++◌}
+use Prim.Native.Nat.{ℕ, ◌≤◌}
 use native.Mathlib.Omega.{arith}
-use lib.ListN.{length, set}
+use lib.ListN.{length, take, drop, replicate, length-replicate}
+use lib.Seq.{length-take-le}
+use Rattle.std.proofs.lemmas.List.{drop-replicate}
+use Rattle.base_rules.specs.Bounds.{most_f}
 use Rattle.endurance_rules.specs.Endure.{flagged}
-use Rattle.endurance_rules.proofs.Flags.{none_flagged, one_flagged, length-flagged}
 use Rattle.endurance.proofs.first_lost.Goals as goal
 
-pub loop-i-init : goal.loop-i-init
-loop-i-init c = (omega arith, none_flagged)
-
-pub bounds-lost-i : goal.bounds-lost-i
-bounds-lost-i c =
-    let d = c in
-    omega (arith, d.requires, ap length d.loop-i.invariant.1, length-flagged d.loop-i.i (omega (arith, d.requires)))
-
-pub overflow_add-i : goal.overflow_add-i
-overflow_add-i c = omega arith
-
-pub loop-i-smaller : goal.loop-i-smaller
-loop-i-smaller c = omega arith
-
-pub loop-i-preserved : goal.loop-i-preserved
-loop-i-preserved c =
-    let d = c.loop-i in
-    (omega arith, ap (λ (xs : List Bool). set xs d.i true) d.invariant.1 ∙ one_flagged d.i (omega (arith, c.requires)))
+-- what is filled, with what stays behind it
+filled : (v : ℕ) (front : List Bool) → v ≤ most_f → front ≡ replicate (length (take v (replicate most_f false))) true
+    → front ++ drop v (replicate most_f false) ≡ flagged v
+unfolding flagged
+filled v front room is =
+    let long : length (take v (replicate most_f false)) ≡ v =
+    length-take-le v (replicate most_f false) (omega (arith, length-replicate most_f false)) in
+    ap₂ (λ (x y : List Bool). x ++ y) (is ∙ ap (λ (n : ℕ). replicate n true) long) (drop-replicate v most_f false)
 
 pub returns : goal.returns
-returns c =
-    let d = c.loop-i in
-    let all : d.i ≡ c.args.v = omega arith in
-    d.invariant.1 ∙ ap flagged all
+returns c = filled _ _ c.requires (c.fill.ensures.after (λ y e. e))

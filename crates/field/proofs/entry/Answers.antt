@@ -8,4 +8,4 @@ use Rattle.field.proofs.entry.Goals as goal
 pub returns : goal.returns
 returns c =
     let s = c in
-    ap (λ i. get_or s.args.t.now i 0) c.wide.ensures ∙ logs_at _ s.requires.1 s.args.x s.requires.0 (search rules)
+    ap (λ i. get_or s.args.t.now i 0) c.from.ensures ∙ logs_at _ s.requires.1 s.args.x s.requires.0 (search rules)

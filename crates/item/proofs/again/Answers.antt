@@ -2,10 +2,10 @@
 use mathlib.Core.Path.{sym, ◌∙◌}
 use Rattle.item.proofs.again.Goals as goal
 
-pub returns-in-At : goal.returns-in-At
-returns-in-At c =
+pub returns-in-Some : goal.returns-in-Some
+returns-in-Some c =
     let k = c in
-    sym (simp (k.if-mark.true, sym k.first_in-f.ensures.0 ∙ k.in-At.is))
+    sym (simp (k.if-mark.true, sym k.first_in-f.ensures.0 ∙ k.in-Some.is))
 
-pub returns-in-Nothing : goal.returns-in-Nothing
-returns-in-Nothing c = sym (simp (c.if-mark.true, sym c.first_in-f.ensures.0 ∙ c.in-Nothing.is))
+pub returns-in-None : goal.returns-in-None
+returns-in-None c = sym (simp (c.if-mark.true, sym c.first_in-f.ensures.0 ∙ c.in-None.is))

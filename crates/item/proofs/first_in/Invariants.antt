@@ -4,8 +4,8 @@ use mathlib.Core.Path.{◌≡◌}
 use Rattle.item_rules.specs.Run.{run_of, first_of}
 use Rattle.item.proofs.first_in.Given as goal
 
-abbrev pub invariant-loop-i : goal.invariant-loop-i
-invariant-loop-i l = first_of l.name (run_of l.s l.from l.end) ≡ first_of l.name (run_of l.s l.at l.end)
+abbrev pub invariant-loop-step : goal.invariant-loop-step
+invariant-loop-step l = first_of l.name (run_of l.s l.from l.end) ≡ first_of l.name (run_of l.s l.at l.end)
 
-abbrev pub decreases-loop-i : goal.decreases-loop-i
-decreases-loop-i l = l.end - l.at
+abbrev pub decreases-loop-step : goal.decreases-loop-step
+decreases-loop-step l = l.end - l.at

@@ -4,8 +4,8 @@ use Rattle.lister_rules.specs.Listing.{containers}
 use Rattle.lister_rules.proofs.Left.{Place, left}
 use Rattle.lister.proofs.item_lines.Given as goal
 
-abbrev pub invariant-loop-visit : goal.invariant-loop-visit
-invariant-loop-visit l = Place l.payload containers l.initial.out l.at l.w l.to l.out
+abbrev pub invariant-loop-handed : goal.invariant-loop-handed
+invariant-loop-handed l = Place l.payload containers l.initial.out l.at l.w l.to l.out
 
-abbrev pub decreases-loop-visit : goal.decreases-loop-visit
-decreases-loop-visit l = left l.payload containers l.w
+abbrev pub decreases-loop-handed : goal.decreases-loop-handed
+decreases-loop-handed l = left l.payload containers l.w

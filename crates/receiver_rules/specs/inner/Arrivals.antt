@@ -6,8 +6,7 @@ use Rattle.header_rules.specs.Claims.{Sound}
 use Rattle.places_rules.specs.declared.Table.{Table}
 use Rattle.places_rules.specs.Places.{with_place, all_places}
 use Rattle.receiver_rules.specs.declared.Change.{Change}
-use Rattle.receiver_rules.specs.declared.Received.TheVariants.{Refused}
-use Rattle.receiver_rules.specs.Promise.{Reception, reception, held_fault, keep_of, SettledAfter}
+use Rattle.receiver_rules.specs.Promise.{Reception, refused_as, held_fault, keep_of, SettledAfter}
 
 -- document 01, 1 ROOM: the lent bytes and the packet buffer have their sizes
 pub record Lent (b out : List ℕ) : Type 0 where
@@ -26,4 +25,4 @@ changed t c = with_place (record { places = t.places; oldest = c.oldest }) c.at 
 -- document 01, 9 to 12, and what comes after them: what a fragment whose header passed leaves
 unfoldable pub Arrives : Table → Header → List ℕ → List ℕ → List ℕ → Reception → Type 0
 Arrives t h b payload out y =
-    cond (eqb (held_fault t h) 0) (SettledAfter (keep_of t h b payload) out y) (y ≡ reception (Refused (held_fault t h)) t b out)
+    cond (eqb (held_fault t h) 0) (SettledAfter (keep_of t h b payload) out y) (y ≡ refused_as (held_fault t h) t b out)

@@ -5,14 +5,19 @@ use Rattle.tag_rules.proofs.Reading.{handed_fits, after_is}
 use Rattle.tag.proofs.read_after.Goals as goal
 
 pub overflow_add-result : goal.overflow_add-result
-overflow_add-result c = omega (arith, handed_fits _ _ _ _ (sym c.read_at-step.ensures.0 ∙ c.in-Item.is))
+overflow_add-result c =
+    let e = rw c.in-Ok-Item.field-0-is at c.in-Ok-Item.ensures in
+    omega (arith, handed_fits _ _ _ _ (sym e.0))
 
-pub returns-in-Item : goal.returns-in-Item
-returns-in-Item c =
-    after_is _ _ _ _ (sym c.read_at-step.ensures.0 ∙ c.in-Item.is)
+pub returns-in-Ok-Item : goal.returns-in-Ok-Item
+returns-in-Ok-Item c =
+    let e = rw c.in-Ok-Item.field-0-is at c.in-Ok-Item.ensures in
+    after_is _ _ _ _ (sym e.0)
 
-pub returns-in-End : goal.returns-in-End
-returns-in-End c = after_is _ _ _ _ (sym c.read_at-step.ensures.0 ∙ c.in-End.is)
+pub returns-in-Ok-End : goal.returns-in-Ok-End
+returns-in-Ok-End c =
+    let e = rw c.in-Ok-End.field-0-is at c.in-Ok-End.ensures in
+    after_is _ _ _ _ (sym e.0)
 
-pub returns-in-Refused : goal.returns-in-Refused
-returns-in-Refused c = after_is _ _ _ _ (sym c.read_at-step.ensures.0 ∙ c.in-Refused.is)
+pub returns-in-Err : goal.returns-in-Err
+returns-in-Err c = after_is _ _ _ _ (sym c.read_at.ensures.0 ∙ c.in-Err.is)

@@ -7,6 +7,6 @@ pub returns-then-f-eq0 : goal.returns-then-f-eq0
 unfolding bad_count
 returns-then-f-eq0 c = rw (eq-eqb c.args.f 0 c.if-f-eq0.true)
 
-pub returns : goal.returns
+pub returns-else-f-eq0 : goal.returns-else-f-eq0
 unfolding bad_count
-returns c = rw (ne_eqb c.args.f 0 c.if-f-eq0.false)
+returns-else-f-eq0 c = rw (ne_eqb c.args.f 0 c.if-f-eq0.false)

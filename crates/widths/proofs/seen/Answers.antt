@@ -1,16 +1,17 @@
 -- `seen` meets its contract: each case of the answer is a case of the definition. Assumes nothing.
 use Rattle.std.proofs.Common.{sym, ap, ◌∙◌}
+use Rattle.std.specs.Prelude.{Ok}
 use Rattle.bandwidth_rules.specs.Seen.{seen_of}
 use Rattle.widths.proofs.seen.Goals as goal
 
-pub returns-in-Width : goal.returns-in-Width
+pub returns-in-Some : goal.returns-in-Some
 unfolding seen_of
-returns-in-Width c = c.with_width.ensures ∙ ap (seen_of _) (sym c.in-Width.is)
+returns-in-Some g c = c.with_width.ensures ∙ ap (seen_of _) (sym (c.in-Ok.is ∙ ap Ok c.in-Some.is))
 
-pub returns-in-NotAvailable : goal.returns-in-NotAvailable
+pub returns-in-None : goal.returns-in-None
 unfolding seen_of
-returns-in-NotAvailable c = ap (seen_of _) (sym c.in-NotAvailable.is)
+returns-in-None g c = ap (seen_of _) (sym (c.in-Ok.is ∙ ap Ok c.in-None.is))
 
-pub returns-in-Refused : goal.returns-in-Refused
+pub returns-in_default : goal.returns-in_default
 unfolding seen_of
-returns-in-Refused c = ap (seen_of _) (sym c.in-Refused.is)
+returns-in_default g c = ap (seen_of _) (sym c.in_default.is)

@@ -1,17 +1,18 @@
 -- `check` meets its contract: the number that is due, or the figures. Assumes nothing.
-use mathlib.Core.Path.{refl, sym, ◌∙◌}
-use Rattle.af_rules.specs.Calls.{number_of}
+use mathlib.Core.Path.{refl}
+use Rattle.std.proofs.lemmas.Result.{err_from_is_err_and}
+use Rattle.base_rules.specs.Refusal.{fault_in}
 use Rattle.af_rules.proofs.Checks.{check_refused, check_granted}
 use Rattle.af.proofs.checking.check.Goals as goal
 
-pub returns-then-number-ne0 : goal.returns-then-number-ne0
-unfolding number_of
-returns-then-number-ne0 c = check_refused c.args.packet.now c.fault-number.result c.fault-number.ensures c.if-number-ne0.true
+pub returns-in_err-fault : goal.returns-in_err-fault
+unfolding fault_in
+returns-in_err-fault c =
+    let p = err_from_is_err_and c.from_residual.result c.from_residual.ensures.1 in
+    rw (p.1, p.2) (check_refused c.args.packet.now _ c.in_err-fault.ensures)
 
 pub returns : goal.returns
+unfolding fault_in
 returns c =
-    let Ar-of = c.ar_of in
-    let d = c in
-    let passed = sym d.if-number-ne0.false ∙ d.fault-number.ensures in
-    check_granted d.args.packet.now _ Ar-of.result passed c.read2.ensures
-    c.cf_of.ensures Ar-of.ensures refl c.read4.ensures
+    check_granted c.args.packet.now _ c.ar_of.result c.in_ok-fault.ensures c.read2.ensures
+    c.cf_of.ensures c.ar_of.ensures refl c.read4.ensures

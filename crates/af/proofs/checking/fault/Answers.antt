@@ -8,6 +8,7 @@ use lib.Dec.{ltb, eqb}
 use lib.ListN.{length}
 use Rattle.base_rules.specs.Bounds.{least_l}
 use Rattle.base_rules.specs.Tests.{first}
+use Rattle.base_rules.specs.Refusal.{number, fault_in}
 use Rattle.base_rules.proofs.Firsts.{due, skip, none_due}
 use Rattle.base_rules.proofs.Logic.{told, same, other}
 use Rattle.base_rules.proofs.Numbers.{number_one}
@@ -38,20 +39,24 @@ module _ (s : List ℕ) {r : ℕ} (p-20 : ltb (length s) least_l ≡ false) wher
           on-25 e = on-24 (skip 24 _ p-24 e)
 
 pub returns-then-packet-lt-LEAST_L : goal.returns-then-packet-lt-LEAST_L
+unfolding fault_in number
 returns-then-packet-lt-LEAST_L c = due 20 _ (lt-ltb _ _ c.if-packet-lt-LEAST_L.true) ∙ checks.in_order c.args.packet.now
 
 pub returns-then-read2-ne-SYNC : goal.returns-then-read2-ne-SYNC
+unfolding fault_in number
 returns-then-read2-ne-SYNC c =
     on-21 c.args.packet.now (le-ltb _ _ c.if-packet-lt-LEAST_L.false)
     (due 21 _ (other (λ e. c.if-read2-ne-SYNC.true (c.read2.ensures ∙ e))))
 
 pub returns-then-bad_length : goal.returns-then-bad_length
+unfolding fault_in number
 returns-then-bad_length c =
     on-22 c.args.packet.now (le-ltb _ _ c.if-packet-lt-LEAST_L.false)
     (same (sym c.read2.ensures ∙ c.if-read2-ne-SYNC.false))
     (due 22 _ (told c.bad_length.ensures c.if-bad_length.true))
 
 pub returns-then-ar_of-ne-MAJOR : goal.returns-then-ar_of-ne-MAJOR
+unfolding fault_in number
 returns-then-ar_of-ne-MAJOR c =
     on-23 c.args.packet.now (le-ltb _ _ c.if-packet-lt-LEAST_L.false)
     (same (sym c.read2.ensures ∙ c.if-read2-ne-SYNC.false))
@@ -59,6 +64,7 @@ returns-then-ar_of-ne-MAJOR c =
     (due 23 _ (other (λ e. c.if-ar_of-ne-MAJOR.true (ap (λ (k : ℕ). k / 16 % 8) c.ar_of.ensures ∙ e))))
 
 pub returns-then-byte_at-ne-PT : goal.returns-then-byte_at-ne-PT
+unfolding fault_in number
 returns-then-byte_at-ne-PT c =
     let s = c.args.packet.now in
     on-24 s (le-ltb _ _ c.if-packet-lt-LEAST_L.false)
@@ -68,6 +74,7 @@ returns-then-byte_at-ne-PT c =
     (due 24 (checks.from_25 s) (other (λ e. c.if-byte_at-ne-PT.true (number_one s 9 c.byte_at.ensures ∙ e))))
 
 pub returns-then-bad_crc : goal.returns-then-bad_crc
+unfolding fault_in number
 returns-then-bad_crc c =
     let s = c.args.packet.now in
     on-25 s (le-ltb _ _ c.if-packet-lt-LEAST_L.false)
@@ -78,6 +85,7 @@ returns-then-bad_crc c =
     (due 25 _ (told c.bad_crc.ensures c.if-bad_crc.true))
 
 pub returns : goal.returns
+unfolding fault_in
 returns c =
     let s = c.args.packet.now in
     on-25 s (le-ltb _ _ c.if-packet-lt-LEAST_L.false)

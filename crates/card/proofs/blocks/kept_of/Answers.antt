@@ -10,26 +10,19 @@ use Rattle.card_rules.proofs.FlagLaws.{flags_none, flags_more, flags-all}
 use Rattle.card.proofs.blocks.kept_of.Goals as goal
 
 pub loop-i-init : goal.loop-i-init
-loop-i-init c = (omega arith, length-replicate most_f false, flags_none (is_kept c.args.bytes.now) (replicate most_f false))
-
-pub overflow_add-i : goal.overflow_add-i
-overflow_add-i c = omega arith
-
-pub loop-i-smaller : goal.loop-i-smaller
-loop-i-smaller c = omega arith
+loop-i-init c = (length-replicate most_f false, flags_none (is_kept c.args.bytes.now) (replicate most_f false))
 
 pub loop-i-preserved : goal.loop-i-preserved
 loop-i-preserved c =
     let d = c.loop-i in (
-      omega arith,
-      length-set d.kept d.i c.is_kept.result ∙ d.invariant.1,
+      length-set d.k-items d.i c.is_kept.result ∙ d.invariant.0,
       flags_more
           (is_kept c.args.bytes.now)
-          d.kept
+          d.k-items
           d.i
           c.is_kept.result
-          d.invariant.2
-          (omega (arith, d.invariant.1, c.loop-i-test.true))
+          d.invariant.1
+          (omega (arith, d.invariant.0, c.loop-i-test.true))
           c.is_kept.ensures,
     )
 
@@ -38,5 +31,5 @@ unfolding kept_of
 returns c =
     let d = c.loop-i in
     let test = is_kept c.args.bytes.now in
-    flags-all test 0 most_f d.kept d.invariant.1
-    (λ q (h : q < most_f). d.invariant.2.at q (omega (arith, c.loop-i-test.false)) ∙ ap test (sym (zero-add q)))
+    flags-all test 0 most_f d.k-items d.invariant.0
+    (λ q (h : q < most_f). d.invariant.1.at q (omega (arith, c.loop-i-test.false, d.invariant.0)) ∙ ap test (sym (zero-add q)))

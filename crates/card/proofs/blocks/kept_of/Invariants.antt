@@ -1,6 +1,5 @@
 -- `kept_of` meets its contract: after i turns the first i values stand in the array. Assumes nothing.
 use mathlib.Core.Path.{◌≡◌}
-use Prim.Native.Nat.{◌-◌, ◌≤◌}
 use lib.ListN.{length}
 use Rattle.base_rules.specs.Bounds.{most_f}
 use Rattle.card_rules.specs.Blocks.{is_kept}
@@ -8,7 +7,4 @@ use Rattle.card_rules.proofs.FlagLaws.{Flags}
 use Rattle.card.proofs.blocks.kept_of.Given as goal
 
 abbrev pub invariant-loop-i : goal.invariant-loop-i
-invariant-loop-i l = (l.i ≤ most_f) × (length l.kept ≡ most_f) × Flags (is_kept l.bytes) l.kept l.i
-
-abbrev pub decreases-loop-i : goal.decreases-loop-i
-decreases-loop-i l = most_f - l.i
+invariant-loop-i l = (length l.k-items ≡ most_f) × Flags (is_kept l.bytes) l.k-items l.i

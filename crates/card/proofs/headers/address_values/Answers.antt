@@ -7,6 +7,6 @@ pub returns-in-None : goal.returns-in-None
 unfolding address_told
 returns-in-None c = sym (ap address_told c.in-None.is)
 
-pub returns-in-Pair : goal.returns-in-Pair
+pub returns-in-Some : goal.returns-in-Some
 unfolding address_told
-returns-in-Pair c = sym (ap address_told c.in-Pair.is)
+returns-in-Some c = sym (ap address_told c.in-Some.is)

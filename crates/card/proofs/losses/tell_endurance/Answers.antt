@@ -19,16 +19,16 @@ tell-requires c =
       ap told_length wide.widths.ensures,
     )
 
-pub returns-in-Losses : goal.returns-in-Losses
-returns-in-Losses c =
+pub returns-in-Ok : goal.returns-in-Ok
+returns-in-Ok c =
     let said = c in
     let laid = said in
     let wide = laid in
     let known = wide in
     let start = known in
-    told_losses start.args.e start.args.told.now known.in-Losses.is wide.widths.ensures laid.figures.ensures said.tell.ensures
+    told_losses start.args.e start.args.told.now known.in-Ok.is wide.widths.ensures laid.figures.ensures said.tell.ensures
 
-pub returns-in-Refused : goal.returns-in-Refused
-returns-in-Refused c =
+pub returns-in-Err : goal.returns-in-Err
+returns-in-Err c =
     let start = c in
-    told_nothing start.args.e start.args.told.now c.in-Refused.is
+    rw c.refused.ensures (told_nothing start.args.e start.args.told.now c.in-Err.is)

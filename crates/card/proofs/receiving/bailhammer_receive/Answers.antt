@@ -20,17 +20,17 @@ returns-then-told-lt-TOLD_RECEIVE c =
     receive_short (address_of a.addressed a.source a.dest) a.datagram.now _ _ _ (omega (arith, short.if-told-lt-TOLD_RECEIVE.true))
     asked.bailhammer_query.ensures refl
 
-pub returns-in-Refused : goal.returns-in-Refused
-returns-in-Refused c =
+pub returns-in-Err : goal.returns-in-Err
+returns-in-Err c =
     let opened = c in
     let a = opened.args in
     receive_refused (address_of a.addressed a.source a.dest) a.datagram.now _ _ _ opened.unpack-unpacked.result.answer
     opened.unpack-unpacked.result.table
-    opened.unpack-unpacked.ensures c.in-Refused.is refl
+    opened.unpack-unpacked.ensures _ c.in-Err.is c.refused.ensures refl
 
-pub returns-in-Done : goal.returns-in-Done
+pub returns-in-Ok : goal.returns-in-Ok
 unfolding place_at told_length
-returns-in-Done c =
+returns-in-Ok c =
     let said = c in
     let packed = said in
     let got = packed in
@@ -51,7 +51,7 @@ returns-in-Done c =
     received_there (address_of a.addressed a.source a.dest) a.datagram.now _ _ said.tell_receipt.result
     opened.unpack-unpacked.result.answer
     opened.unpack-unpacked.result.table opened.unpack-unpacked.ensures addressed.address_of-own.result packed.pack.result t got.receive-reply.result.answer
-    told.in-Done.is addressed.address_of-own.ensures got.receive-reply.ensures typed packed.pack.ensures
+    told.in-Ok.is addressed.address_of-own.ensures got.receive-reply.ensures typed packed.pack.ensures
     (omega (arith, fits.if-told-lt-TOLD_RECEIVE.false)) said.tell_receipt.ensures
 
 pub tell_receipt-requires : goal.tell_receipt-requires

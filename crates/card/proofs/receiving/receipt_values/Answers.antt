@@ -9,8 +9,8 @@ returns-in-None c =
     let a = c.args in
     sym (ap (receipt_told a.handed a.length a.missing) c.in-None.is)
 
-pub returns-in-Number : goal.returns-in-Number
+pub returns-in-Some : goal.returns-in-Some
 unfolding receipt_told displaced_told
-returns-in-Number c =
+returns-in-Some c =
     let a = c.args in
-    sym (ap (receipt_told a.handed a.length a.missing) c.in-Number.is)
+    sym (ap (receipt_told a.handed a.length a.missing) c.in-Some.is)

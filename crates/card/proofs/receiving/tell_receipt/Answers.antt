@@ -4,66 +4,72 @@ use mathlib.Core.List.{List}
 use Prim.Native.Nat.{ℕ, ◌≤◌}
 use lib.ListN.{length}
 use Rattle.base_rules.specs.Answer.{granted}
-use Rattle.base_rules.specs.Bytes.{splice}
+use Rattle.base_rules.specs.Refusal.{told}
 use Rattle.receiver_rules.specs.Promise.{number_of}
+use Rattle.std.specs.Prelude.{Result, Ok, Err}
+use Rattle.base_rules.specs.declared.Refusal.{Refusal}
 use Rattle.receiver_rules.specs.declared.Received.{Received}
-use Rattle.card_rules.specs.Told.{in_widths, told_length, CardTold}
+use Rattle.receiver_rules.specs.declared.Received.TheVariants.{Kept, Delivered, Damaged}
+use Rattle.card_rules.specs.Told.{told_length, told_of, room_for, refusal_in, CardTold}
 use Rattle.card_rules.specs.Receiving.{receipt_widths, told_after}
-use Rattle.card_rules.proofs.TellLaws.{told_room}
-use borrow.Author.Rules.{rules}
+use Rattle.card_rules.specs.inner.Receipt.{received_told}
+use Rattle.card_rules.proofs.TellLaws.{told_room, fits_room}
+use native.Mathlib.Omega.{arith}
 use Rattle.card.proofs.receiving.tell_receipt.Goals as goal
 
-abbrev number : Received → ℕ
+abbrev number : Result Received Refusal → ℕ
 number a = (number_of a).0
 
--- the number and what is told, where the answer a is the case x, which shows these figures
+-- what is told of an answer, where there is room
 
-told_in : (before after : List ℕ) {a x : Received} {values shown : List ℕ} {r : ℕ} → told_length receipt_widths ≤ length before → a ≡ x
-    → values ≡ shown → CardTold receipt_widths (granted values) before after r
-    → splice before 0 (in_widths receipt_widths shown) ≡ told_after x before → (number x ≡ number a) × (after ≡ told_after a before)
-told_in before after room is e h same = (
-  sym (ap number is),
-  h.told
-      ∙ told_room receipt_widths _ before room
-      ∙ ap (λ (l : List ℕ). splice before 0 (in_widths receipt_widths l)) e
-      ∙ same
-      ∙ sym (ap (λ (x : Received). told_after x before) is),
-)
+told_in : (a : Result Received Refusal) (before : List ℕ) {after : List ℕ} {r : ℕ} → told_length receipt_widths ≤ length before
+    → CardTold receipt_widths (told received_told a) before after r → after ≡ told_after a before
+unfolding told received_told told_after told_of room_for
+told_in (Ok (Kept d)) before room h = h.told ∙ told_room receipt_widths _ before room
+told_in (Ok (Delivered length missing d)) before room h = h.told ∙ told_room receipt_widths _ before room
+told_in (Ok (Damaged d)) before room h = h.told ∙ told_room receipt_widths _ before room
+told_in (Err e) before room h = h.told
 
-pub tell-requires : goal.tell-requires
+-- and the number of one that grants something, the case x
+
+granted_in : (before : List ℕ) {after : List ℕ} {r : ℕ} {a : Result Received Refusal} {x : Received} → told_length receipt_widths ≤ length before → a ≡ Ok x
+    → CardTold receipt_widths (told received_told a) before after r → r ≡ 0
+unfolding told room_for refusal_in
+granted_in before {x = x} room is h =
+    h.number
+    ∙ ap (λ (w : Result Received Refusal). refusal_in (room_for receipt_widths before (told received_told w))) is
+    ∙ ap refusal_in (fits_room receipt_widths before (granted (received_told x)) room)
+
+pub tell_answer-n-requires : goal.tell_answer-n-requires
 unfolding told_length
-tell-requires c = (search rules, refl)
-
-pub tell-requires-in-Delivered : goal.tell-requires-in-Delivered
-unfolding told_length
-tell-requires-in-Delivered c = (search rules, refl)
-
-pub tell-requires-in-Damaged : goal.tell-requires-in-Damaged
-unfolding told_length
-tell-requires-in-Damaged c = (search rules, refl)
+tell_answer-n-requires c = (omega arith, refl)
 
 pub returns-in-Kept : goal.returns-in-Kept
-unfolding number_of told_after
-returns-in-Kept c =
-    let listed = c in
-    let known = listed in
-    told_in _ _ known.requires known.in-Kept.is listed.receipt_values.ensures c.tell.ensures refl
+unfolding number_of
+returns-in-Kept c = (
+  granted_in _ c.requires c.in-Ok.is c.tell_answer-n.ensures ∙ sym (ap number (c.in-Ok.is ∙ ap Ok c.in-Kept.is)),
+  told_in c.args.a _ c.requires c.tell_answer-n.ensures,
+)
 
 pub returns-in-Delivered : goal.returns-in-Delivered
-unfolding number_of told_after
-returns-in-Delivered c =
-    let listed = c in
-    let known = listed in
-    told_in _ _ known.requires known.in-Delivered.is listed.receipt_values-in-Delivered.ensures c.tell-in-Delivered.ensures refl
+unfolding number_of
+returns-in-Delivered c = (
+  granted_in _ c.requires c.in-Ok.is c.tell_answer-n.ensures ∙ sym (ap number (c.in-Ok.is ∙ ap Ok c.in-Delivered.is)),
+  told_in c.args.a _ c.requires c.tell_answer-n.ensures,
+)
 
 pub returns-in-Damaged : goal.returns-in-Damaged
-unfolding number_of told_after
-returns-in-Damaged c =
-    let listed = c in
-    let known = listed in
-    told_in _ _ known.requires known.in-Damaged.is listed.receipt_values-in-Damaged.ensures c.tell-in-Damaged.ensures refl
+unfolding number_of
+returns-in-Damaged c = (
+  sym (ap number (c.in-Ok.is ∙ ap Ok c.in-Damaged.is)),
+  told_in c.args.a _ c.requires c.tell_answer-n.ensures,
+)
 
-pub returns-in-Refused : goal.returns-in-Refused
-unfolding number_of told_after
-returns-in-Refused c =
-    (sym (ap number c.in-Refused.is), sym (ap (λ (x : Received). told_after x c.args.told.now) c.in-Refused.is))
+pub returns-in-Err : goal.returns-in-Err
+unfolding number_of told room_for refusal_in
+returns-in-Err c = (
+  c.tell_answer-n.ensures.number
+      ∙ ap (λ (w : Result Received Refusal). refusal_in (room_for receipt_widths c.args.told.now (told received_told w))) c.in-Err.is
+      ∙ sym (ap number c.in-Err.is),
+  told_in c.args.a _ c.requires c.tell_answer-n.ensures,
+)

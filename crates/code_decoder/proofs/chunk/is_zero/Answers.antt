@@ -1,31 +1,21 @@
+-- `is_zero` meets its contract: no place is left that is not 0. Assumes nothing.
 use mathlib.Core.Path.{◌≡◌}
-use Prim.Native.Nat.{◌≤◌}
+use mathlib.Core.Bool.{Bool, true, false}
+use mathlib.Core.List.{List}
+use Prim.Native.Nat.{ℕ}
 use native.Mathlib.Omega.{arith}
 use borrow.Author.Rules.{rules}
-use lib.ListN.{get_or}
-use Rattle.code_rules.proofs.FillLaws.{zero_start, zero_more, zero_end, zero-not}
+use lib.ListN.{length}
+use Rattle.code_rules.specs.inner.Block.{FoundTest}
+use Rattle.code_rules.specs.inner.Sharing.{ZeroTest}
+use Rattle.code_rules.proofs.FillLaws.{zero_end, zero-not}
 use Rattle.code_decoder.proofs.chunk.is_zero.Goals as goal
 
-pub loop-j-init : goal.loop-j-init
-loop-j-init c =
-    (search rules, search rules, zero_start c.args.r)
-
-pub returns-then-r-j-ne0 : goal.returns-then-r-j-ne0
-returns-then-r-j-ne0 c =
-    let r = c.args.r in
-    let L = c.loop-j in
-    let h : get_or r L.j 0 ≡ 0 → ⊥ = λ e. omega arith in
-    zero-not r L.j h
-
-pub loop-j-preserved : goal.loop-j-preserved
-loop-j-preserved c =
-    let r = c.args.r in
-    let L = c.loop-j in
-    let h : get_or r L.j 0 ≡ 0 = search rules in
-    (L.invariant.0, search rules, zero_more r L.j L.invariant.2 h)
+all_zero : (r : List ℕ) (b : Bool) → length r ≡ 48 → FoundTest r b → ZeroTest r b
+all_zero r true size f = zero_end r 48 size (omega arith) (λ i h. f i (omega arith))
+all_zero r false size f = zero-not r f.at f.left
 
 pub returns : goal.returns
 returns c =
-    let L = c.loop-j in
-    let h : 48 ≤ L.j = search rules in
-    zero_end c.args.r L.j L.invariant.0 h L.invariant.2
+    let found : FoundTest c.args.r c.all.result = search rules in
+    all_zero c.args.r c.all.result (search rules) found

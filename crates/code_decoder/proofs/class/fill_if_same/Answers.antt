@@ -1,14 +1,20 @@
 -- `fill_if_same` meets its contract. Assumes nothing.
-use mathlib.Core.Path.{◌≡◌, sym, ap, subst}
+use mathlib.Core.Path.{◌≡◌, refl, sym, ap, ◌∙◌, subst}
+use mathlib.Core.Bool.{Bool, true, false, not}
 use mathlib.Core.List.{List}
 use Prim.Native.Nat.{ℕ, ◌+◌, ◌*◌, ◌≤◌}
 use native.Mathlib.Omega.{arith}
 use borrow.Author.Rules.{rules}
+use mir.Val.{bool_byte}
 use lib.ListN.{length, take, drop, get_or}
-use Rattle.code_rules.specs.inner.Block.{SameTest}
+use Rattle.code_rules.specs.inner.Block.{SameTest, answer_of}
 use Rattle.code_rules.proofs.BlockLaws.{one_turn, later_refl}
 use Rattle.code_rules.proofs.ClassLaws.{in_mask, chunk_long, shared_same}
 use Rattle.code_decoder.proofs.class.fill_if_same.Goals as goal
+
+as_answer : (b : Bool) → bool_byte (not b) ≡ answer_of b
+as_answer true = refl
+as_answer false = refl
 
 pub overflow_mul-a : goal.overflow_mul-a
 overflow_mul-a c =
@@ -36,8 +42,8 @@ slice_bounds-fill_chunk_by-end c =
     let S = c in
     omega (arith, in_mask S.args.j S.requires.ready.0 S.requires.ready.2)
 
-pub fill_chunk_by-requires : goal.fill_chunk_by-requires
-fill_chunk_by-requires c =
+pub fill_chunk_by-found-requires : goal.fill_chunk_by-found-requires
+fill_chunk_by-found-requires c =
     let A = c.args in
     let P = c.requires in
     let n : ℕ = A.k + 48 in
@@ -47,14 +53,14 @@ fill_chunk_by-requires c =
 
 pub returns-then-same_mask : goal.returns-then-same_mask
 returns-then-same_mask c =
-    let F = c.fill_chunk_by in
+    let F = c.fill_chunk_by-found in
     let A = c.args in
     let P = c.requires.ready in
     let new : List ℕ = F.new.chunk in
     let size : length new ≡ A.k + 48 = search rules in
     let unset : 2 ≤ get_or A.ans.now A.j 0 = search rules in
-    let R = c.answer in
-    one_turn A.k A.j R.result A.mask.now A.block.now A.ans.now new F.result P.0 P.2 size R.ensures
+    let R = c.from in
+    one_turn A.k A.j R.result A.mask.now A.block.now A.ans.now new F.result P.0 P.2 size (R.ensures ∙ as_answer F.result)
     A.from unset F.ensures
 
 pub returns-else-same_mask : goal.returns-else-same_mask

@@ -1,11 +1,10 @@
 use mathlib.Core.Path.{◌≡◌, refl, sym, ◌∙◌}
 use mathlib.Core.Bool.{Bool, true, false}
 use mathlib.Core.List.{List}
-use Prim.Native.Nat.{ℕ, ◌+◌, ◌≤◌}
+use Prim.Native.Nat.{ℕ, ◌+◌}
 use native.Mathlib.Omega.{arith}
 use native.Mathlib.Nat.{not-suc-le-zero}
 use borrow.Author.Count.{below_more}
-use borrow.Author.Rules.{rules}
 use lib.ListN.{get_or}
 use Rattle.base_rules.proofs.Logic.{clash}
 use Rattle.code_rules.specs.inner.Block.{SameTest}
@@ -19,23 +18,20 @@ told true h d = h refl
 told false h d = d refl
 
 pub loop-x-init : goal.loop-x-init
-loop-x-init c = (c.requires.0, c.requires.1, search rules, λ _ i h. absurd (not-suc-le-zero h), λ e. clash refl e)
+loop-x-init c = (λ _ i h. absurd (not-suc-le-zero h), λ e. clash refl e)
 
 pub loop-x-preserved : goal.loop-x-preserved
 loop-x-preserved c =
     let A = c.args in
     let L = c.loop-x in
     let P : ℕ → Type 0 = λ i. get_or A.mask.now (A.a + i) 0 ≡ get_or A.mask.now (A.b + i) 0 in (
-      L.invariant.0,
-      L.invariant.1,
-      search rules,
       elim c.if-mask-a.branch [
         | then-mask-a w ↦ λ e. clash e w.same-is
-        | else-mask-a w ↦ λ e. below_more P L.x (L.invariant.3 (sym w.same-is ∙ e)) w.if-mask-a.false
+        | else-mask-a w ↦ λ e. below_more P L.x (L.invariant.0 (sym w.same-is ∙ e)) w.if-mask-a.false
       ],
       elim c.if-mask-a.branch [
         | then-mask-a w ↦ λ _. differ A.mask.now A.a A.b A.n L.x c.loop-x-test.true w.if-mask-a.true
-        | else-mask-a w ↦ λ e. L.invariant.4 (sym w.same-is ∙ e)
+        | else-mask-a w ↦ λ e. L.invariant.1 (sym w.same-is ∙ e)
       ],
     )
 
@@ -43,7 +39,6 @@ pub returns : goal.returns
 returns c =
     let A = c.args in
     let L = c.loop-x in
-    let h : A.n ≤ L.x = search rules in
     told L.same
-    (λ e. same_end A.mask.now A.a A.b A.n L.invariant.0 L.invariant.1 (λ i l. L.invariant.3 e i (omega arith)))
-    L.invariant.4
+    (λ e. same_end A.mask.now A.a A.b A.n c.requires.0 c.requires.1 (λ i l. L.invariant.0 e i (omega arith)))
+    L.invariant.1

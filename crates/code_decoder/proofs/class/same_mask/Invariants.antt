@@ -1,14 +1,10 @@
 -- `same_mask` meets its contract: a byte a turn. Assumes nothing.
 use mathlib.Core.Path.{◌≡◌}
 use mathlib.Core.Bool.{true, false}
-use Prim.Native.Nat.{ℕ, ◌+◌, ◌-◌, ◌≤◌, ◌<◌}
-use lib.ListN.{length, take, drop, get_or}
+use Prim.Native.Nat.{ℕ, ◌+◌, ◌<◌}
+use lib.ListN.{take, drop, get_or}
 use Rattle.code_decoder.proofs.class.same_mask.Given as goal
 
 abbrev pub invariant-loop-x : goal.invariant-loop-x
-invariant-loop-x l = (l.a + l.n ≤ length l.mask) × (l.b + l.n ≤ length l.mask) × (l.x ≤ l.n)
-    × (l.same ≡ true → (i : ℕ) → i < l.x → get_or l.mask (l.a + i) 0 ≡ get_or l.mask (l.b + i) 0)
+invariant-loop-x l = (l.same ≡ true → (i : ℕ) → i < l.x → get_or l.mask (l.a + i) 0 ≡ get_or l.mask (l.b + i) 0)
     × (l.same ≡ false → take l.n (drop l.a l.mask) ≡ take l.n (drop l.b l.mask) → ⊥)
-
-abbrev pub decreases-loop-x : goal.decreases-loop-x
-decreases-loop-x l = l.n - l.x

@@ -42,7 +42,7 @@ encode_chunk-requires c =
     ap length (mid_part k j A.src.now) ∙ length_part k A.c j A.src.now (omega (arith, P.0.datas)) P.1 in
     let G : length (take (j * (k + 48) + (k + 48) - j * (k + 48)) (drop (j * (k + 48)) A.out.now)) ≡ k + 48 =
     ap length (mid_part (k + 48) j A.out.now) ∙ length_part (k + 48) A.c j A.out.now (omega (arith, P.0.chunks)) P.1 in
-    (omega (arith, E, P.0.short), G ∙ ap (λ n. n + 48) (sym E), P.2)
+    (omega (arith, E, P.0.short), G ∙ ap (λ n. n + 48) (sym E))
 
 pub returns : goal.returns
 returns c =

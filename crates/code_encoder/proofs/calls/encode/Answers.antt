@@ -5,39 +5,32 @@ use native.Mathlib.Omega.{arith}
 use lib.ListN.{length}
 use lib.Seq.{length-take-le}
 use Rattle.base_rules.proofs.Logic.{told}
-use Rattle.base_rules.specs.Written.{number_of}
 use Rattle.base_rules.proofs.ChunkSize.{k_most}
 use Rattle.code_rules.proofs.CallCases as cases
 use Rattle.code_rules.proofs.Misfits.{fits_in_last}
 use Rattle.code_encoder.proofs.calls.encode.Goals as goal
+use Rattle.code_encoder.proofs.calls.encode.Goals.{then-bad_k-via-then-bad_k, then-bad_k-via-else-bad_k+then-over_place, then-bad_k-via-else-bad_k+else-over_place+then-misfit}
 
 pub returns-then-bad_k : goal.returns-then-bad_k
-unfolding number_of
 returns-then-bad_k c =
     let A = c.args in
-    cases.encode-size A.packet.now A.out.now A.k A.c (told c.bad_k.ensures c.if-bad_k.true)
+    elim c.then-bad_k.branch [
+      | then-bad_k-via-then-bad_k w ↦ cases.encode-size A.packet.now A.out.now A.k A.c (told c.bad_k.ensures w.if-bad_k.true)
+      | then-bad_k-via-else-bad_k+then-over_place w ↦
+          cases.encode-place A.packet.now A.out.now A.k A.c (told c.bad_k.ensures w.if-bad_k.false) (told w.over_place.ensures w.if-over_place.true)
+      | then-bad_k-via-else-bad_k+else-over_place+then-misfit w ↦
+          cases.encode-fit A.packet.now A.out.now A.k A.c (told c.bad_k.ensures w.if-bad_k.false)
+          (told w.over_place.ensures w.if-over_place.false)
+          (told w.misfit.ensures w.if-misfit.true)
+    ]
 
 pub over_place-requires : goal.over_place-requires
 over_place-requires c = k_most c.args.k (told c.bad_k.ensures c.if-bad_k.false)
-
-pub returns-then-over_place : goal.returns-then-over_place
-unfolding number_of
-returns-then-over_place c =
-    let A = c.args in
-    let over = told c.over_place.ensures c.if-over_place.true in
-    cases.encode-place A.packet.now A.out.now A.k A.c (told c.bad_k.ensures c.if-bad_k.false) over
 
 pub misfit-requires : goal.misfit-requires
 misfit-requires c =
     let A = c.args in
     omega (arith, cases.within-place A.k A.c (told c.over_place.ensures c.if-over_place.false))
-
-pub returns-then-misfit : goal.returns-then-misfit
-unfolding number_of
-returns-then-misfit c =
-    let A = c.args in
-    let odd = told c.misfit.ensures c.if-misfit.true in
-    cases.encode-fit A.packet.now A.out.now A.k A.c (told c.bad_k.ensures c.if-bad_k.false) (told c.over_place.ensures c.if-over_place.false) odd
 
 pub overflow_add-all : goal.overflow_add-all
 overflow_add-all c =
@@ -50,7 +43,6 @@ overflow_mul-all c =
     omega (arith, cases.within-place A.k A.c (told c.over_place.ensures c.if-over_place.false))
 
 pub returns-then-out-all : goal.returns-then-out-all
-unfolding number_of
 returns-then-out-all c =
     let A = c.args in
     let E = c in
@@ -72,7 +64,6 @@ write_block-requires c =
     (short, fits, omega (arith, within), length-take-le (A.c * (A.k + 48)) A.out.now c.if-out-all.false)
 
 pub returns : goal.returns
-unfolding number_of
 returns c =
     let A = c.args in
     let E = c in

@@ -1,21 +1,35 @@
 -- `misfit` meets its contract. Assumes nothing.
+use mathlib.Core.Path.{◌≡◌, sym, ◌∙◌}
+use mathlib.Core.Bool.{true, false}
 use Prim.Native.Nat.{◌*◌}
-use borrow.Author.Tests.{eq-eqb, ne_eqb, lt-ltb, le-ltb}
+use lib.Dec.{ltb}
+use borrow.Author.Tests.{eq-eqb, ne_eqb}
 use Rattle.code_rules.specs.Calls.{misfits}
 use Rattle.code_encoder.proofs.calls.misfit.Goals as goal
-
-pub returns-then-c-eq0 : goal.returns-then-c-eq0
-unfolding misfits
-returns-then-c-eq0 c = rw (eq-eqb c.args.c 0 c.if-c-eq0.true)
+use Rattle.code_encoder.proofs.calls.misfit.Goals.{then-c-eq0, else-c-eq0}
 
 pub returns-then-c-k : goal.returns-then-c-k
 unfolding misfits
 returns-then-c-k c =
     let a = c.args in
-    rw (ne_eqb a.c 0 c.if-c-eq0.false, lt-ltb (a.c * a.k) a.l c.if-c-k.true)
+    let yes = c.if-c-k.true in
+    elim c.if-c-eq0.branch [
+      | then-c-eq0 w ↦
+          let none : true ≡ misfits a.l a.k a.c = rw (eq-eqb a.c 0 w.if-c-eq0.true) in
+          yes ∙ none
+      | else-c-eq0 w ↦
+          let long : ltb (a.c * a.k) a.l ≡ true = sym w.value-is ∙ yes in
+          let more : true ≡ misfits a.l a.k a.c = rw (ne_eqb a.c 0 w.if-c-eq0.false, long) in
+          yes ∙ more
+    ]
 
-pub returns : goal.returns
+pub returns-else-c-k : goal.returns-else-c-k
 unfolding misfits
-returns c =
+returns-else-c-k c =
     let a = c.args in
-    rw (ne_eqb a.c 0 c.if-c-eq0.false, le-ltb (a.c * a.k) a.l c.if-c-k.false)
+    elim c.if-c-eq0.branch [
+      | then-c-eq0 w ↦ cc (w.value-is, eq-eqb a.c 0 w.if-c-eq0.true, c.if-c-k.false)
+      | else-c-eq0 w ↦
+          let short : ltb (a.c * a.k) a.l ≡ false = sym w.value-is ∙ c.if-c-k.false in
+          rw (ne_eqb a.c 0 w.if-c-eq0.false, short)
+    ]

@@ -23,7 +23,7 @@ encode_block-requires c =
     let P = c.requires in
     let w = c.pad-w.result in
     let long : A.c * A.k ≤ length w = search rules in
-    (record { short = P.0; datas = length-take-le (A.c * A.k) w long; chunks = P.3 }, c.make_table.ensures)
+    record { short = P.0; datas = length-take-le (A.c * A.k) w long; chunks = P.3 }
 
 pub returns : goal.returns
 returns c =

@@ -1,11 +1,7 @@
 -- `register` meets its contract: eight bytes a turn. Assumes nothing.
 use mathlib.Core.Path.{◌≡◌}
-use Prim.Native.Nat.{◌-◌, ◌≤◌}
 use Rattle.code_rules.specs.inner.Register.{register_by}
 use Rattle.code_encoder.proofs.register.register.Given as goal
 
 abbrev pub invariant-loop-i : goal.invariant-loop-i
-invariant-loop-i l = (l.i ≤ 26) × (l.p ≡ register_by l.t l.d l.i)
-
-abbrev pub decreases-loop-i : goal.decreases-loop-i
-decreases-loop-i l = 26 - l.i
+invariant-loop-i l = l.p ≡ register_by l.t l.d l.i

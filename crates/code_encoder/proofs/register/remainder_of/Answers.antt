@@ -6,16 +6,15 @@ use lib.Seq.{length-take-le}
 use Rattle.code_rules.specs.inner.Kernel.{sum_of}
 use Rattle.code_rules.proofs.TableLaws.{remainder_long, remainder_other, remainder_some}
 use Rattle.code_encoder.proofs.register.remainder_of.Goals as goal
+use Rattle.code_encoder.proofs.register.remainder_of.Goals.{then-k-gt-MOST_K-via-then-k-gt-MOST_K, then-k-gt-MOST_K-via-else-k-gt-MOST_K+then-c-k}
 
 pub returns-then-k-gt-MOST_K : goal.returns-then-k-gt-MOST_K
 returns-then-k-gt-MOST_K c =
     let A = c.args in
-    remainder_long A.t.now A.k A.c.now c.if-k-gt-MOST_K.true
-
-pub returns-then-c-k : goal.returns-then-c-k
-returns-then-c-k c =
-    let A = c.args in
-    remainder_other A.t.now A.k A.c.now c.if-k-gt-MOST_K.false c.if-c-k.true
+    elim c.then-k-gt-MOST_K.branch [
+      | then-k-gt-MOST_K-via-then-k-gt-MOST_K w ↦ remainder_long A.t.now A.k A.c.now w.if-k-gt-MOST_K.true
+      | then-k-gt-MOST_K-via-else-k-gt-MOST_K+then-c-k w ↦ remainder_other A.t.now A.k A.c.now w.if-k-gt-MOST_K.false w.if-c-k.true
+    ]
 
 pub slice_bounds-parity_of-end : goal.slice_bounds-parity_of-end
 slice_bounds-parity_of-end c =

@@ -10,25 +10,20 @@ use Rattle.code_rules.proofs.RowLaws.{upto_rest, past_end, zeros_at}
 use Rattle.code_encoder.proofs.rows.shifted.Goals as goal
 
 pub loop-j-init : goal.loop-j-init
-loop-j-init c =
-    (search rules, search rules, search rules, search rules, upto_start _ _)
+loop-j-init c = upto_start _ _
 
 pub loop-j-preserved : goal.loop-j-preserved
 loop-j-preserved c =
     let L = c.loop-j in
     let A = c.args in
-    let I = L.invariant in
-    let p = A.p in
-    let v = get_or p (L.j + A.by) 0 in
-    let more = upto_more (back A.by p) (replicate 48 0) L.j L.q v I.4 (omega arith) (sym (back_at A.by p L.j)) in
-    (I.0, I.1, I.2, search rules, more)
+    upto_more (back A.by A.p) (replicate 48 0) L.j L.q (get_or A.p (L.j + A.by) 0) L.invariant (omega arith) (sym (back_at A.by A.p L.j))
 
 pub returns : goal.returns
 returns c =
     let L = c.loop-j in
     let A = c.args in
     let p = A.p in
-    let e : length p ≡ 48 = L.invariant.0 in
-    let h : 48 - A.by ≤ L.j = search rules in
-    upto_rest (back A.by p) (replicate 48 0) L.j L.q L.invariant.4 (length_back A.by p ∙ e)
+    let e : length p ≡ 48 = search rules in
+    let h : 48 - A.by ≤ L.j = omega arith in
+    upto_rest (back A.by p) (replicate 48 0) L.j L.q L.invariant (length_back A.by p ∙ e)
     (λ i l m. zeros_at 48 i ∙ sym (back_at A.by p i ∙ past_end p (i + A.by) (omega arith)))

@@ -10,13 +10,13 @@ use Rattle.code_solver.proofs.patterns.pattern.Goals as goal
 
 pub columns-d-requires : goal.columns-d-requires
 columns-d-requires c =
-    let n = c.least-n in
+    let n = c.min-n in
     (omega (arith, n.ensures), c.multiples-k.ensures.twos, λ i h. fits_byte (search rules))
 
 pub returns : goal.returns
 returns c =
     let A = c.args in
-    let n = c.least-n in
+    let n = c.min-n in
     let K = c.multiples-k in
     let P = c.locator-p in
     let C = c.columns-d in

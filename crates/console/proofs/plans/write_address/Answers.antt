@@ -7,13 +7,13 @@ pub returns-in-None : goal.returns-in-None
 unfolding address_said
 returns-in-None c = rw c.in-None.is c.plain.ensures
 
-pub returns-in-Pair : goal.returns-in-Pair
+pub returns-in-Some : goal.returns-in-Some
 unfolding address_said
-returns-in-Pair c =
+returns-in-Some c =
     let A = c.args in
     let Plain = c.plain-to in
     let Source = c.hex-behind in
     let First = c.bytes2 in
-    let Second = c.bytes2-in-Pair in
-    rw (c.in-Pair.is, ← First.ensures, ← Second.ensures)
+    let Second = c.bytes2-in-Some in
+    rw (c.in-Some.is, ← First.ensures, ← Second.ensures)
     (lays_more A.out.now A.at _ _ (lays_more A.out.now A.at _ _ Plain.ensures Source.ensures) c.hex.ensures)

@@ -10,8 +10,8 @@ returns-in-None c =
     let a = A in
     goes _ (wrote a.out.now a.at _ (omega arith) Plain.ensures) c.plain.ensures
 
-pub returns-in-Number : goal.returns-in-Number
-returns-in-Number c =
+pub returns-in-Some : goal.returns-in-Some
+returns-in-Some c =
     let A = c.args in
     let Plain = c.plain-to in
     let a = A in

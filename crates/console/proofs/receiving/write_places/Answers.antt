@@ -1,12 +1,8 @@
--- `receiving::write_places` meets its contract: each place goes on where the one before stops. Assumes nothing.
 use Rattle.text_rules.proofs.Writing.{chain}
 use Rattle.console.proofs.receiving.write_places.Goals as goal
 
+pub loop-seen-preserved : goal.loop-seen-preserved
+loop-seen-preserved c = chain c.loop-seen.invariant c.write_seen-at.ensures
+
 pub returns : goal.returns
-returns c =
-    let Word = c.word-at in
-    let Write-seen = c.write_seen-at in
-    let Write-seen2 = c.write_seen-at-2 in
-    let Write-seen3 = c.write_seen-at-3 in
-    chain (chain (chain (chain Word.ensures Write-seen.ensures) Write-seen2.ensures) Write-seen3.ensures)
-    c.write_seen.ensures
+returns c = chain c.word-at.ensures c.loop-seen.invariant

@@ -3,8 +3,8 @@ use native.Mathlib.Omega.{arith}
 use Rattle.text_rules.proofs.Writing.{wrote, goes}
 use Rattle.console.proofs.replies.value.Goals as goal
 
-pub returns-then-raw-eq0 : goal.returns-then-raw-eq0
-returns-then-raw-eq0 c =
+pub returns-then-is_empty : goal.returns-then-is_empty
+returns-then-is_empty c =
     let A = c.args in
     let Plain = c.plain-to in
     let a = A in

@@ -8,6 +8,6 @@ pub returns-in-None : goal.returns-in-None
 unfolding size.address_bytes
 returns-in-None c = (sym (ap size.address_bytes c.in-None.is), lit≤ tt)
 
-pub returns-in-Pair : goal.returns-in-Pair
+pub returns-in-Some : goal.returns-in-Some
 unfolding size.address_bytes
-returns-in-Pair c = (sym (ap size.address_bytes c.in-Pair.is), lit≤ tt)
+returns-in-Some c = (sym (ap size.address_bytes c.in-Some.is), lit≤ tt)

@@ -9,5 +9,5 @@ returns-then-has_address c =
     address_there _ Address-at.result _ _ (told c.has_address.ensures
     c.if-has_address.true) Address-at.ensures.0 c.read2.ensures c.read2-then-has_address.ensures
 
-pub returns : goal.returns
-returns c = address_none _ (told c.has_address.ensures c.if-has_address.false)
+pub returns-else-has_address : goal.returns-else-has_address
+returns-else-has_address c = address_none _ (told c.has_address.ensures c.if-has_address.false)

@@ -1,13 +1,13 @@
--- `bad_index` meets its contract, test by test. Assumes nothing.
-use native.Mathlib.Omega.{arith}
-use Rattle.header_rules.proofs.Fields.{count_none, count_over, count_rest}
+-- `bad_index` meets its contract. Assumes nothing.
+use mathlib.Core.Path.{◌∙◌}
+use Rattle.base_rules.proofs.Logic.{told, hit}
+use Rattle.header_rules.specs.Read.{bad_index}
 use Rattle.header.proofs.reading.bad_index.Goals as goal
 
-pub returns-then-count-eq0 : goal.returns-then-count-eq0
-returns-then-count-eq0 c = count_none c.args.h c.if-count-eq0.true
+pub returns-then-bad_count : goal.returns-then-bad_count
+unfolding bad_index
+returns-then-bad_count c = c.if-bad_count.true ∙ hit _ (told c.bad_count.ensures c.if-bad_count.true)
 
-pub returns-then-count-gt-MOST_F : goal.returns-then-count-gt-MOST_F
-returns-then-count-gt-MOST_F c = count_over c.args.h c.if-count-eq0.false (omega arith)
-
-pub returns : goal.returns
-returns c = count_rest c.args.h c.if-count-eq0.false (omega arith)
+pub returns-else-bad_count : goal.returns-else-bad_count
+unfolding bad_index
+returns-else-bad_count c = rw (told c.bad_count.ensures c.if-bad_count.false)

@@ -3,6 +3,8 @@ use mathlib.Core.List.{List}
 use mathlib.Core.Path.{◌≡◌, ◌∙◌}
 use mathlib.Core.Bool.{false}
 use Prim.Native.Nat.{ℕ}
+use Rattle.std.specs.Prelude.{Option}
+use Rattle.base_rules.specs.Refusal.{number, fault_in}
 use Rattle.base_rules.specs.Tests.{first}
 use Rattle.base_rules.proofs.Firsts.{due, skip, none_due}
 use Rattle.base_rules.proofs.Logic.{told}
@@ -12,7 +14,7 @@ use Rattle.header_rules.proofs.Checks as checks
 use Rattle.header.proofs.reading.fault.Goals as goal
 
 -- what is due of the tests that are left, after each test that was passed
-module _ (own : Address) (seen : List ℕ) {r : ℕ} (long : is_short seen ≡ false) where
+module _ (own : Option Address) (seen : List ℕ) {r : ℕ} (long : is_short seen ≡ false) where
   on_3 : r ≡ first (checks.from_3 own seen) → r ≡ fault_of own seen
   on_3 e = skip 2 _ long e ∙ checks.in_order own seen
 
@@ -36,11 +38,13 @@ module _ (own : Address) (seen : List ℕ) {r : ℕ} (long : is_short seen ≡ f
           on_8 counted e = on_7 (skip 7 _ counted e)
 
 pub returns-then-is_short : goal.returns-then-is_short
+unfolding fault_in number
 returns-then-is_short c =
     let A = c.args in
     due 2 _ (told c.is_short.ensures c.if-is_short.true) ∙ checks.in_order A.own A.s.now
 
 pub returns-then-read2-ne-SYNC : goal.returns-then-read2-ne-SYNC
+unfolding fault_in number
 returns-then-read2-ne-SYNC c = on_3 c.args.own c.args.s.now (told c.is_short.ensures c.if-is_short.false)
     (due 3 _ (checks.other_sync _ _ c.read2.ensures c.if-read2-ne-SYNC.true))
 
@@ -48,11 +52,13 @@ pub bad_crc-requires : goal.bad_crc-requires
 bad_crc-requires c = (checks.short_from _ (told c.is_short.ensures c.if-is_short.false)).1
 
 pub returns-then-bad_crc : goal.returns-then-bad_crc
+unfolding fault_in number
 returns-then-bad_crc c = on_4 c.args.own c.args.s.now (told c.is_short.ensures c.if-is_short.false)
     (checks.fit-sync _ _ c.read2.ensures c.if-read2-ne-SYNC.false)
     (due 4 _ (told c.bad_crc.ensures c.if-bad_crc.true))
 
 pub returns-then-bad_length : goal.returns-then-bad_length
+unfolding fault_in number
 returns-then-bad_length c =
     on_5 c.args.own c.args.s.now (told c.is_short.ensures c.if-is_short.false)
     (checks.fit-sync _ _ c.read2.ensures c.if-read2-ne-SYNC.false)
@@ -61,6 +67,7 @@ returns-then-bad_length c =
     c.bad_length.ensures c.if-bad_length.true))
 
 pub returns-then-bad_address : goal.returns-then-bad_address
+unfolding fault_in number
 returns-then-bad_address c =
     on_6 c.args.own c.args.s.now (told c.is_short.ensures c.if-is_short.false)
     (checks.fit-sync _ _ c.read2.ensures c.if-read2-ne-SYNC.false)
@@ -70,6 +77,7 @@ returns-then-bad_address c =
     c.bad_address.ensures c.if-bad_address.true))
 
 pub returns-then-bad_index : goal.returns-then-bad_index
+unfolding fault_in number
 returns-then-bad_index c =
     let Fields-of = c.fields_of-h in
     on_7 c.args.own c.args.s.now (told c.is_short.ensures c.if-is_short.false)
@@ -83,6 +91,7 @@ pub bad_size-requires : goal.bad_size-requires
 bad_size-requires c = checks.counted _ (told c.bad_index.ensures c.if-bad_index.false)
 
 pub returns-then-bad_size : goal.returns-then-bad_size
+unfolding fault_in number
 returns-then-bad_size c =
     let Fields-of = c.fields_of-h in
     on_8 c.args.own c.args.s.now (told c.is_short.ensures c.if-is_short.false)
@@ -93,8 +102,9 @@ returns-then-bad_size c =
     (checks.told_by_lem bad_index c.fields_of-h.ensures c.bad_index.ensures c.if-bad_index.false)
     (due 8 _ (checks.told_by_lem bad_size Fields-of.ensures c.bad_size.ensures c.if-bad_size.true))
 
-pub returns-else-bad_size : goal.returns-else-bad_size
-returns-else-bad_size c =
+pub returns : goal.returns
+unfolding fault_in
+returns c =
     let Fields-of = c.fields_of-h in
     on_8 c.args.own c.args.s.now (told c.is_short.ensures c.if-is_short.false)
     (checks.fit-sync _ _ c.read2.ensures c.if-read2-ne-SYNC.false)

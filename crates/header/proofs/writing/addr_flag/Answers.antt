@@ -8,6 +8,6 @@ pub returns-in-None : goal.returns-in-None
 unfolding addr_flag
 returns-in-None c = (sym (ap addr_flag c.in-None.is), lit≤ tt)
 
-pub returns-in-Pair : goal.returns-in-Pair
+pub returns-in-Some : goal.returns-in-Some
 unfolding addr_flag
-returns-in-Pair c = (sym (ap addr_flag c.in-Pair.is), lit≤ tt)
+returns-in-Some c = (sym (ap addr_flag c.in-Some.is), lit≤ tt)

@@ -1,17 +1,18 @@
 -- `put_address` meets its contract, by the address. Assumes nothing.
+use native.Mathlib.Omega.{arith}
 use Rattle.header_rules.proofs.Lays.{address_absent, address_laid}
 use Rattle.header.proofs.writing.put_address.Goals as goal
 
 pub returns-in-None : goal.returns-in-None
 returns-in-None c =
     let a = c.args in
-    address_absent a.a a.out.now a.at c.in-None.is
+    address_absent a.a a.head.now a.at c.in-None.is
 
-pub returns-in-Pair : goal.returns-in-Pair
-returns-in-Pair c =
+pub returns-in-Some : goal.returns-in-Some
+returns-in-Some c =
     let a = c.args in
-    let pair = c.in-Pair in
-    address_laid a.a a.out.now a.at pair.source pair.dest _ _ _ _ _ _ pair.is c.bytes2.ensures
-    c.bytes2-in-Pair.ensures c.requires.1
+    let arm = c.in-Some in
+    address_laid a.a a.head.now a.at arm.pair _ _ _ _ _ _ arm.is c.bytes2.ensures
+    c.bytes2-in-Some.ensures (omega arith)
     c.put.ensures
-    c.put-in-Pair.ensures
+    c.put-in-Some.ensures

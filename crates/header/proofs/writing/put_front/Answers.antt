@@ -1,4 +1,5 @@
 -- `put_front` meets its contract: each field right behind the one before. Assumes nothing.
+use native.Mathlib.Omega.{arith}
 use Rattle.header_rules.proofs.Lays.{front_laid}
 use Rattle.header.proofs.writing.put_front.Goals as goal
 
@@ -10,7 +11,7 @@ returns c =
     let number = index in
     let sync = number in
     let start = sync in
-    front_laid start.args.h start.args.out.now _ _ _ _ _ _ _ _ _ _ _ _ _ _ _ _ start.requires sync.bytes2.ensures
+    front_laid start.args.h start.args.head.now _ _ _ _ _ _ _ _ _ _ _ _ _ _ _ _ (omega arith) sync.bytes2.ensures
     number.bytes2-2.ensures
     index.bytes3.ensures
     count.bytes3-2.ensures

@@ -8,12 +8,12 @@ use Rattle.header.proofs.writing.write_header.Goals as goal
 pub put_address-b-requires : goal.put_address-b-requires
 put_address-b-requires c =
     let h = c.args.h in
-    (omega (arith, fec_most h), omega (arith, fec_most h))
+    omega (arith, fec_most h)
 
 pub put_crc-requires : goal.put_crc-requires
 put_crc-requires c =
     let h = c.args.h in
-    (omega (arith, fec_most h, address_most h.address), omega (arith, fec_most h, address_most h.address))
+    omega (arith, fec_most h, address_most h.address)
 
 pub overflow_add-head : goal.overflow_add-head
 overflow_add-head c =

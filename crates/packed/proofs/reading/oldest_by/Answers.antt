@@ -1,10 +1,9 @@
 -- `oldest_by` meets its contract, case by case. Assumes nothing.
-use mathlib.Core.Path.{◌∙◌}
-use Rattle.packed_rules.proofs.Unpacks.{by_none, by_some}
+use mathlib.Core.Path.{refl}
 use Rattle.packed.proofs.reading.oldest_by.Goals as goal
 
-pub returns-then-n-ne0 : goal.returns-then-n-ne0
-returns-then-n-ne0 c = by_some c.args.n _ _ c.if-n-ne0.true
+pub returns-then-not-taken : goal.returns-then-not-taken
+returns-then-not-taken c = rw c.if-not-taken.true refl
 
 pub returns : goal.returns
-returns c = c.byte_at.ensures ∙ by_none c.args.n _ _ c.if-n-ne0.false
+returns c = rw c.if-not-taken.false c.byte_at.ensures

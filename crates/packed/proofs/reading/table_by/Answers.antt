@@ -18,5 +18,5 @@ place_by-d-requires c = λ z. omega (arith, c.requires z)
 pub returns : goal.returns
 returns c =
     let A = c.args in
-    table_read A.n _ c.place_by-a.ensures c.place_by-b.ensures
+    table_read A.taken _ c.place_by-a.ensures c.place_by-b.ensures
     c.place_by-c.ensures c.place_by-d.ensures c.oldest_by.ensures

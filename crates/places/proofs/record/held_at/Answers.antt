@@ -1,47 +1,28 @@
 -- `held_at` meets its contract. Assumes nothing.
+use Rattle.std.proofs.Common.{rules, tests}
+use mathlib.Core.Path.{◌≡◌, ap, ◌∙◌}
+use mathlib.Core.Bool.{Bool}
 use Prim.Native.Nat.{ℕ}
-use Rattle.base_rules.proofs.Logic.{told}
-use Rattle.places_rules.specs.Places.{four, place_at, key_of, holds, held_at}
-use Rattle.places_rules.proofs.Records.{first_0, first_1, first_2, first_3, first_none}
+use native.Mathlib.Omega.{arith}
+use lib.ListN.{length}
+use Rattle.std.specs.Prelude.{Option}
+use Rattle.std.specs.Option.{unwrap_or}
+use Rattle.std.proofs.lemmas.Iterator.{YieldsList-from_slice}
+use Rattle.std.proofs.lemmas.Iterator.Search.{position_from_yields_List}
+use Rattle.std.proofs.lemmas.Iterator.Adapters.{position_from-zero}
+use Rattle.places_rules.specs.declared.Place.{Place}
+use Rattle.places_rules.specs.Places.{four, key_of, holds, held_at}
+use Rattle.places.proofs.Fours.{first_found}
 use Rattle.places.proofs.record.held_at.Goals as goal
 
-pub returns-then-is_held : goal.returns-then-is_held
+pub returns : goal.returns
 unfolding held_at key_of
-returns-then-is_held c =
+returns c =
     let A = c.args in
-    first_0 (λ (i : ℕ). holds (place_at A.t i) (key_of A.h)) four (told c.is_held.ensures c.if-is_held.true)
-
-pub returns-then-is_held-2 : goal.returns-then-is_held-2
-unfolding held_at key_of
-returns-then-is_held-2 c =
-    let A = c.args in
-    first_1 (λ (i : ℕ). holds (place_at A.t i) (key_of A.h)) four
-    (told c.is_held.ensures c.if-is_held.false) (told c.is_held-2.ensures c.if-is_held-2.true)
-
-pub returns-then-is_held-3 : goal.returns-then-is_held-3
-unfolding held_at key_of
-returns-then-is_held-3 c =
-    let A = c.args in
-    first_2 (λ (i : ℕ). holds (place_at A.t i) (key_of A.h)) four
-    (told c.is_held.ensures c.if-is_held.false)
-    (told c.is_held-2.ensures c.if-is_held-2.false) (told c.is_held-3.ensures c.if-is_held-3.true)
-
-pub returns-then-is_held-4 : goal.returns-then-is_held-4
-unfolding held_at key_of
-returns-then-is_held-4 c =
-    let A = c.args in
-    let Is-held = c.is_held in
-    let If1 = c.if-is_held in
-    first_3 (λ (i : ℕ). holds (place_at A.t i) (key_of A.h)) four (told Is-held.ensures If1.false)
-    (told c.is_held-2.ensures c.if-is_held-2.false)
-    (told c.is_held-3.ensures c.if-is_held-3.false) (told c.is_held-4.ensures c.if-is_held-4.true)
-
-pub returns-else-is_held-4 : goal.returns-else-is_held-4
-unfolding held_at key_of
-returns-else-is_held-4 c =
-    let A = c.args in
-    let Is-held = c.is_held in
-    let If1 = c.if-is_held in
-    first_none (λ (i : ℕ). holds (place_at A.t i) (key_of A.h)) four (told Is-held.ensures If1.false)
-    (told c.is_held-2.ensures c.if-is_held-2.false)
-    (told c.is_held-3.ensures c.if-is_held-3.false) (told c.is_held-4.ensures c.if-is_held-4.false)
+    let test : Place → Bool = λ (p : Place). holds p (key_of c.args.h) in
+    let long : length A.t.places ≡ four = omega arith in
+    c.unwrap_or.ensures
+    ∙ ap (λ (r : Option ℕ). unwrap_or r four)
+    (position_from_yields_List test _ _ c.position.result c.position.ensures.ran (YieldsList-from_slice A.t.places cc) (λ x b q k. search (rules, tests))
+    ∙ position_from-zero test A.t.places)
+    ∙ first_found test A.t four long

@@ -1,50 +1,29 @@
 -- `open_at` meets its contract. Assumes nothing.
+use Rattle.std.proofs.Common.{rules, tests}
+use mathlib.Core.Path.{◌≡◌, ap, ◌∙◌}
+use mathlib.Core.Bool.{Bool}
 use Prim.Native.Nat.{ℕ}
+use native.Mathlib.Omega.{arith}
 use lib.Dec.{eqb}
-use Rattle.base_rules.proofs.Logic.{told}
-use Rattle.places_rules.specs.Places.{free, place_at, open_at}
-use Rattle.places_rules.proofs.Records.{first_0, first_1, first_2, first_3, first_none}
+use lib.ListN.{length}
+use Rattle.std.specs.Prelude.{Option}
+use Rattle.std.specs.Option.{unwrap_or}
+use Rattle.std.proofs.lemmas.Iterator.{YieldsList-from_slice}
+use Rattle.std.proofs.lemmas.Iterator.Search.{position_from_yields_List}
+use Rattle.std.proofs.lemmas.Iterator.Adapters.{position_from-zero}
+use Rattle.places_rules.specs.declared.Place.{Place}
+use Rattle.places_rules.specs.Places.{four, free, open_at}
+use Rattle.places.proofs.Fours.{first_found}
 use Rattle.places.proofs.record.open_at.Goals as goal
 
-pub returns-then-is_free : goal.returns-then-is_free
+pub returns : goal.returns
 unfolding open_at
-returns-then-is_free c =
+returns c =
     let A = c.args in
-    first_0 (λ (i : ℕ). eqb (place_at A.t i).condition free) A.t.oldest (told c.is_free.ensures c.if-is_free.true)
-
-pub returns-then-is_free-2 : goal.returns-then-is_free-2
-unfolding open_at
-returns-then-is_free-2 c =
-    let A = c.args in
-    first_1 (λ (i : ℕ). eqb (place_at A.t i).condition free) A.t.oldest
-    (told c.is_free.ensures c.if-is_free.false) (told c.is_free-2.ensures c.if-is_free-2.true)
-
-pub returns-then-is_free-3 : goal.returns-then-is_free-3
-unfolding open_at
-returns-then-is_free-3 c =
-    let A = c.args in
-    first_2 (λ (i : ℕ). eqb (place_at A.t i).condition free) A.t.oldest
-    (told c.is_free.ensures c.if-is_free.false)
-    (told c.is_free-2.ensures c.if-is_free-2.false) (told c.is_free-3.ensures c.if-is_free-3.true)
-
-pub returns-then-is_free-4 : goal.returns-then-is_free-4
-unfolding open_at
-returns-then-is_free-4 c =
-    let A = c.args in
-    let Is-free = c.is_free in
-    let If1 = c.if-is_free in
-    first_3 (λ (i : ℕ). eqb (place_at A.t i).condition free) A.t.oldest (told Is-free.ensures If1.false)
-    (told c.is_free-2.ensures c.if-is_free-2.false)
-    (told c.is_free-3.ensures c.if-is_free-3.false) (told c.is_free-4.ensures c.if-is_free-4.true)
-
-pub returns-else-is_free-4 : goal.returns-else-is_free-4
-unfolding open_at
-returns-else-is_free-4 c =
-    let A = c.args in
-    let Is-free = c.is_free in
-    let If1 = c.if-is_free in
-    let Is-free2 = c.is_free-2 in
-    first_none (λ (i : ℕ). eqb (place_at A.t i).condition free) A.t.oldest (told Is-free.ensures If1.false)
-    (told Is-free2.ensures c.if-is_free-2.false)
-    (told c.is_free-3.ensures c.if-is_free-3.false)
-    (told c.is_free-4.ensures c.if-is_free-4.false)
+    let test : Place → Bool = λ (p : Place). eqb p.condition free in
+    let long : length A.t.places ≡ four = omega arith in
+    c.unwrap_or.ensures
+    ∙ ap (λ (r : Option ℕ). unwrap_or r A.t.oldest)
+    (position_from_yields_List test _ _ c.position.result c.position.ensures.ran (YieldsList-from_slice A.t.places cc) (λ x b q k. search (rules, tests))
+    ∙ position_from-zero test A.t.places)
+    ∙ first_found test A.t A.t.oldest long

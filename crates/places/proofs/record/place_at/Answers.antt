@@ -12,8 +12,8 @@ returns-then-i-lt-FOUR c =
     let long : length A.t.places ≡ four = omega arith in
     place-within A.t A.i _ (omega (arith, long))
 
-pub returns : goal.returns
-returns c =
+pub returns-else-i-lt-FOUR : goal.returns-else-i-lt-FOUR
+returns-else-i-lt-FOUR c =
     let A = c.args in
     let long : length A.t.places ≡ four = omega arith in
     place_past A.t A.i (omega (arith, long)) c.free_place.ensures

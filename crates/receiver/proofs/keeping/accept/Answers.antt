@@ -2,44 +2,39 @@
 use mathlib.Core.Path.{◌≡◌, refl}
 use native.Mathlib.Omega.{arith}
 use lib.ListN.{length}
+use Rattle.base_rules.specs.Refusal.{fault_in}
+use Rattle.base_rules.proofs.Answers.{number-positive}
 use Rattle.places_rules.specs.Places.{four}
 use Rattle.receiver_rules.proofs.Arrivals.{refusal_is, turned_long, arrives_refused, arrives_there, arrives_new, there_fine, new_fine, new_below}
 use Rattle.receiver.proofs.keeping.accept.Goals as goal
 
-pub returns-then-n-ne0 : goal.returns-then-n-ne0
-returns-then-n-ne0 c =
-    let A = c.args in
-    let a = A in
+pub returns-in-Err : goal.returns-in-Err
+unfolding fault_in
+returns-in-Err c =
+    let a = c.args in
     arrives_refused a.t a.h a.lent.now a.payload.now a.out.now c.held_at-i.ensures
-    c.if-i-lt-FOUR.true c.place_at-p.ensures c.place_fault-n.ensures
-    c.if-n-ne0.true (refusal_is _ _ c.refusal.ensures)
+    c.if-i-lt-FOUR.true c.place_at-p.ensures c.in-Err.ensures
+    (λ z. omega (arith, number-positive c.in-Err.e, z)) (refusal_is _ _ c.refusal.ensures)
 
 pub keep-requires : goal.keep-requires
+unfolding fault_in
 keep-requires c =
-    let A = c.args in
-    let P = c.requires in
-    let If1 = c.if-i-lt-FOUR in
-    let a = A in
-    let p = P in (
-      If1.true,
+    let a = c.args in
+    let p = c.requires in
+    let below = c.if-i-lt-FOUR.true in (
+      below,
       p.1,
       p.2,
-      there_fine a.t a.h p.2.sound p.0 If1.true c.place_at-p.ensures
-          c.place_fault-n.ensures c.if-n-ne0.false,
+      there_fine a.t a.h p.2.sound p.0 below c.place_at-p.ensures c.in_default.ensures refl,
     )
 
 pub returns-then-i-lt-FOUR : goal.returns-then-i-lt-FOUR
+unfolding fault_in
 returns-then-i-lt-FOUR c =
-    let A = c.args in
-    let Held-at = c.held_at-i in
-    let If1 = c.if-i-lt-FOUR in
-    let Place-at = c.place_at-p in
-    let Place-fault = c.place_fault-n in
-    let If2 = c.if-n-ne0 in
-    let a = A in
+    let a = c.args in
     let size : length a.t.places ≡ four = omega arith in
-    arrives_there a.t a.h a.lent.now a.payload.now a.out.now Held-at.ensures If1.true Place-at.ensures
-    Place-fault.ensures If2.false (c.keep.ensures a.t size refl)
+    arrives_there a.t a.h a.lent.now a.payload.now a.out.now c.held_at-i.ensures c.if-i-lt-FOUR.true c.place_at-p.ensures
+    c.in_default.ensures refl (c.keep.ensures a.t size refl)
 
 pub keep-requires-2 : goal.keep-requires-2
 keep-requires-2 c =

@@ -14,7 +14,7 @@ one_more p a t = omega (arith, count_add p a t 1)
 
 pub loop-t-init : goal.loop-t-init
 unfolding count
-loop-t-init c = record { turn = omega arith; within = omega arith; counted = refl }
+loop-t-init c = record { within = omega arith; counted = refl }
 
 pub loop-t-preserved : goal.loop-t-preserved
 loop-t-preserved c =
@@ -23,12 +23,10 @@ loop-t-preserved c =
     let next = one_more (gone (not_kept a.kept) a.f) (a.j * a.n) c.loop-t.t in
     elim c.if-not-kept-from.branch [
       | then-not-kept-from w ↦ record {
-        turn = omega arith;
         within = omega (arith, w.gone-is);
         counted = omega (arith, w.gone-is, so_far, next, ap (λ (b : Bool). bit (not b)) w.if-not-kept-from.true);
       }
       | else-not-kept-from w ↦ record {
-        turn = omega arith;
         within = omega (arith, w.gone-is);
         counted = omega (arith, w.gone-is, so_far, next, ap (λ (b : Bool). bit (not b)) w.if-not-kept-from.false);
       }

@@ -14,9 +14,9 @@ decreases-walk_packet l = (l.end - l.from) + 1
 abbrev pub decreases-walk_value : goal.decreases-walk_value
 decreases-walk_value l = l.i.len.0 + 2
 
-abbrev pub invariant-walk_packet-loop-i : goal.invariant-walk_packet-loop-i
-invariant-walk_packet-loop-i l = (l.from ≤ l.at)
+abbrev pub invariant-walk_packet-loop-step : goal.invariant-walk_packet-loop-step
+invariant-walk_packet-loop-step l = (l.from ≤ l.at)
     × WalkSeen l.repeats (deepest + 1 - l.depth) l.s (names_of l.names) l.depth l.from l.end l.marks l.at
 
-abbrev pub decreases-walk_packet-loop-i : goal.decreases-walk_packet-loop-i
-decreases-walk_packet-loop-i l = l.end - l.at
+abbrev pub decreases-walk_packet-loop-step : goal.decreases-walk_packet-loop-step
+decreases-walk_packet-loop-step l = l.end - l.at

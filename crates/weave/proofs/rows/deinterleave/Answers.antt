@@ -1,12 +1,10 @@
 -- `deinterleave` meets its contract: each return is the law for its number. Assumes nothing.
 use native.Mathlib.Omega.{arith}
 use Rattle.base_rules.proofs.Logic.{told}
-use Rattle.base_rules.specs.Written.{number_of}
 use Rattle.weave_rules.proofs.CallCases as cases
 use Rattle.weave.proofs.rows.deinterleave.Goals as goal
 
 pub returns-then-bad_count : goal.returns-then-bad_count
-unfolding number_of
 returns-then-bad_count c =
     let a = c.args in
     cases.cells_7 a.held.now a.out.now a.f a.s (told c.bad_count.ensures c.if-bad_count.true)
@@ -15,7 +13,6 @@ pub too_much-requires : goal.too_much-requires
 too_much-requires c = (told c.bad_count.ensures c.if-bad_count.false)
 
 pub returns-then-too_much : goal.returns-then-too_much
-unfolding number_of
 returns-then-too_much c =
     let a = c.args in
     cases.cells_8 a.held.now a.out.now a.f a.s (told c.bad_count.ensures c.if-bad_count.false) (told c.too_much.ensures c.if-too_much.true)
@@ -26,13 +23,11 @@ overflow_mul-all c =
     omega (arith, cases.fits_place a.f a.s (told c.too_much.ensures c.if-too_much.false))
 
 pub returns-then-held-all : goal.returns-then-held-all
-unfolding number_of
 returns-then-held-all c =
     let a = c.args in
     cases.cells_held a.held.now a.out.now a.f a.s (told c.bad_count.ensures c.if-bad_count.false) (told c.too_much.ensures c.if-too_much.false) c.if-held-all.true
 
 pub returns-then-out-all : goal.returns-then-out-all
-unfolding number_of
 returns-then-out-all c =
     let a = c.args in
     cases.cells_room a.held.now a.out.now a.f a.s (told c.bad_count.ensures c.if-bad_count.false) (told c.too_much.ensures c.if-too_much.false)
@@ -44,7 +39,6 @@ lay-requires c =
     (cases.fits_place a.f a.s (told c.too_much.ensures c.if-too_much.false), c.if-held-all.false, c.if-out-all.false)
 
 pub returns : goal.returns
-unfolding number_of
 returns c =
     let d = c in
     let a = d.args in

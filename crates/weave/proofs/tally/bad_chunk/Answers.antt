@@ -7,11 +7,11 @@ use Rattle.weave.proofs.tally.bad_chunk.Goals as goal
 
 pub returns-then-bad_k : goal.returns-then-bad_k
 unfolding bad_chunk
-returns-then-bad_k c = rw (told c.bad_k.ensures c.if-bad_k.true)
+returns-then-bad_k c = rw (told c.bad_k.ensures c.if-bad_k.true, c.if-bad_k.true)
 
 pub overflow_add-result : goal.overflow_add-result
 overflow_add-result c = omega (arith, k_most c.args.k (told c.bad_k.ensures c.if-bad_k.false))
 
-pub returns : goal.returns
+pub returns-else-bad_k : goal.returns-else-bad_k
 unfolding bad_chunk
-returns c = rw (told c.bad_k.ensures c.if-bad_k.false)
+returns-else-bad_k c = rw (told c.bad_k.ensures c.if-bad_k.false)
