@@ -17,7 +17,7 @@ use Rattle.base_rules.specs.Tests.{among}
 use Rattle.base_rules.proofs.Logic.{either, clash}
 use Rattle.bandwidth_rules.specs.Figure.{figures, figure_of, in256ths}
 use Rattle.bandwidth_rules.specs.Seen.{no_widths, wider, narrower, with_width, seen_of, seen_all}
-use Rattle.bandwidth_rules.specs.Claims.{sent_in, AllSent, SoFarIs, SoFar}
+use Rattle.bandwidth_rules.specs.Claims.{sent_in, AllSent, SoFarIs, SoFarOf, SoFar}
 use Rattle.bandwidth_rules.specs.declared.Widths.{Widths}
 use Rattle.bandwidth_rules.proofs.Figures.{figure_tested, order_kept}
 
@@ -134,7 +134,7 @@ so_more v sent n h (some a before l e is w k) =
     simp a (some refl sent n refl refl (wider_best v.widest sent n h w) (narrower_best v.narrowest sent n h k))
 
 -- after any answers
-so_all : (v : Widths) (sent : List ℕ) (answers : List (Result (Option Float) Refusal)) → AllSent answers → So v sent → So (seen_all v answers) (sent ++ sent_in answers)
+so_all : {E : Type 0} (v : Widths) (sent : List ℕ) (answers : List (Result (Option Float) E)) → AllSent answers → So v sent → So (seen_all v answers) (sent ++ sent_in answers)
 unfolding seen_all seen_of sent_in
 so_all v sent [] all so = subst (So v) (sym (append-nil sent)) so
 so_all v sent (Ok (Some x) ∷ more) all so =
@@ -167,6 +167,9 @@ kept_by_lem v sent (some a before l e is w k) = record {
   none = λ z. absurd (empty before l (sym z ∙ e));
 }
 
-pub so_far : SoFar
+so_far_of : {E : Type 0} → SoFarOf E
 unfolding no_widths
-so_far answers all = kept_by_lem (seen_all no_widths answers) (sent_in answers) (so_all no_widths [] answers all (none refl refl))
+so_far_of answers all = kept_by_lem (seen_all no_widths answers) (sent_in answers) (so_all no_widths [] answers all (none refl refl))
+
+pub so_far : SoFar
+so_far = (so_far_of, so_far_of)

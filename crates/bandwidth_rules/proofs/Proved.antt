@@ -69,4 +69,4 @@ so_far = keeping.so_far
 
 pub left_as_they_stood : LeftAsTheyStood
 unfolding seen_of
-left_as_they_stood v = (refl, λ n. refl, λ e. refl)
+left_as_they_stood = ((λ v. (refl, λ e. refl)), (λ v. (refl, λ n. refl)))

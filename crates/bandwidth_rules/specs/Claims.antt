@@ -75,8 +75,8 @@ OthersOut = map is_figure others ≡ replicate (length others) false
 
 -- ---- reading
 
--- an answer that says a figure of 16 bits, or none
-abbrev pub Sent : Result (Option Float) Refusal → Type 0
+-- an answer that says a figure of 16 bits, or none, whatever its refusal is
+abbrev pub Sent : {E : Type 0} → Result (Option Float) E → Type 0
 Sent (Ok (Some x)) = T (fits binary32 x) × (is_figure x ≡ true)
 Sent (Ok None) = Unit {0}
 Sent (Err n) = Unit {0}
@@ -153,14 +153,14 @@ ItemsLong = ((x : Float) → length (entry_bytes (width_entry x)) ≡ 10) × (le
 -- ---- the figures so far
 
 -- the numbers of the figures that came, in their order
-unfoldable pub sent_in : List (Result (Option Float) Refusal) → List ℕ
+unfoldable pub sent_in : {E : Type 0} → List (Result (Option Float) E) → List ℕ
 sent_in [] = []
 sent_in (Ok (Some x) ∷ more) = in256ths x ∷ sent_in more
 sent_in (Ok None ∷ more) = sent_in more
 sent_in (Err n ∷ more) = sent_in more
 
 -- each answer says a figure, or none
-abbrev pub AllSent : List (Result (Option Float) Refusal) → Type 0
+abbrev pub AllSent : {E : Type 0} → List (Result (Option Float) E) → Type 0
 AllSent [] = Unit {0}
 AllSent (a ∷ more) = Sent a × AllSent more
 
@@ -173,10 +173,18 @@ pub record SoFarIs (v : Widths) (sent : List ℕ) : Type 0 where
   pub narrowest : (n : ℕ) → among n sent ≡ true → ((m : ℕ) → among m sent ≡ true → n ≤ m) → v.narrowest ≡ figure_of n
   pub none : sent ≡ [] → v ≡ no_widths
 
--- "keeps the last figure and shows the widest and narrowest so far"
+-- "keeps the last figure and shows the widest and narrowest so far", of answers whose refusals are of the kind E
+abbrev pub SoFarOf : Type 0 → Type 0
+SoFarOf E = (answers : List (Result (Option Float) E)) → AllSent answers → SoFarIs (seen_all no_widths answers) (sent_in answers)
+
+-- whether they are refusals or any numbers
 abbrev pub SoFar : Type 0
-SoFar = (answers : List (Result (Option Float) Refusal)) → AllSent answers → SoFarIs (seen_all no_widths answers) (sent_in answers)
+SoFar = SoFarOf Refusal × SoFarOf ℕ
 
 -- ""not available" or a refusal leaves all three as they stood", and the flag, whatever they were
+abbrev pub LeftBy : Type 0 → Type 0
+LeftBy E = (v : Widths) → (seen_of {E = E} v (Ok None) ≡ v) × ((e : E) → seen_of v (Err e) ≡ v)
+
+-- whether what refuses is a refusal or any number
 abbrev pub LeftAsTheyStood : Type 0
-LeftAsTheyStood = (v : Widths) → (seen_of {E = Refusal} v (Ok None) ≡ v) × ((n : ℕ) → seen_of v (Err n) ≡ v) × ((e : Refusal) → seen_of v (Err e) ≡ v)
+LeftAsTheyStood = LeftBy Refusal × LeftBy ℕ

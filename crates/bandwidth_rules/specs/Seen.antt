@@ -34,6 +34,6 @@ seen_of v (Ok None) = v
 seen_of v (Err n) = v
 
 -- after one answer behind the other
-unfoldable pub seen_all : Widths → List (Result (Option Float) Refusal) → Widths
+unfoldable pub seen_all : {E : Type 0} → Widths → List (Result (Option Float) E) → Widths
 seen_all v [] = v
 seen_all v (a ∷ more) = seen_all (seen_of v a) more

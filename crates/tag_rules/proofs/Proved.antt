@@ -7,25 +7,27 @@ use native.Mathlib.Nat.{le_refl}
 use lib.Dec.{eqb}
 use lib.ListN.{take, replicate}
 use borrow.Author.Tests.{eqb-true, eqb-false}
-use Rattle.base_rules.specs.Answer.{answered}
+use Rattle.base_rules.specs.Answer.{granted, answered}
 use Rattle.base_rules.specs.Tests.{bit}
 use Rattle.base_rules.proofs.Logic.{either, bit_one}
 use Rattle.std.specs.Prelude.{Result, Ok, Err}
 use Rattle.base_rules.specs.Refusal.{told, fault_in}
 use Rattle.base_rules.specs.declared.Refusal.{Refusal}
 use Rattle.base_rules.proofs.Answers.{one_told}
+use Rattle.base_rules.proofs.Refusals.{one_numbered}
 use Rattle.item_rules.specs.declared.Item.{Item}
 use Rattle.item_rules.specs.declared.Step.{Step}
 use Rattle.item_rules.specs.declared.Step.TheVariants as step
-use Rattle.item_rules.specs.Item.{values_of}
-use Rattle.item_rules.proofs.Proved.{one_item}
+use Rattle.item_rules.specs.Item.{values_of, values_in, number_of}
+use Rattle.item_rules.proofs.Proved.{one_item, one_step}
 use Rattle.item_rules.proofs.Starts.{item_starts}
 use Rattle.tag_rules.specs.declared.Hit.{Hit}
 use Rattle.tag_rules.specs.declared.Located.{Located}
 use Rattle.tag_rules.specs.declared.Located.TheVariants as located
 use Rattle.tag_rules.specs.Find.{check_of}
-use Rattle.tag_rules.specs.Calls.{opened_number, open_call, sought_number, values_at, located_number, read_of}
+use Rattle.tag_rules.specs.Calls.{opened_number, open_call, sought_number, values_at, located_number, read_of, read_number}
 use Rattle.tag_rules.specs.Reading.{start_of, checked_run, items_of, last_of}
+use Rattle.tag_rules.specs.Claims.{OneRead, OneAlike}
 use Rattle.tag_rules.specs.Claims.{OneOpened, OneSought, OneLocated, Opens, InOrder, Ends, StaysAtEnd, StaysRefused, ReadShown, FoundShown}
 use Rattle.tag_rules.specs.Claims.{NoTwice, AcceptedStill, FoundStill, NthStill, StandingRefused, FoundNotTwice, NthNotTwice}
 use Rattle.tag_rules.specs.Claims.{NthBeyond, NthRefused, FindsFirst, FindsStanding, StandingAside, NthShown}
@@ -47,6 +49,27 @@ one_hit a b p q = same (bit_one a.standing b.standing p) (one_item a.item b.item
   where
     same : {s s' : Bool} {i i' : Item} → s ≡ s' → i ≡ i' → ◌≡◌ {A = Hit} (record { standing = s; item = i }) (record { standing = s'; item = i' })
     same p q = cc
+
+-- a step is what it tells
+one_values : (x y : Step) → values_in x ≡ values_in y → x ≡ y
+unfolding number_of told
+one_values x y q =
+    let same : ◌≡◌ {A = Result Step Refusal} (Ok x) (Ok y) = one_step (Ok x) (Ok y) (ap granted q) in
+    cc
+
+pub one_read : OneRead
+unfolding read_number
+one_read a b e = one_numbered values_in one_values a b e
+
+pub one_alike : OneAlike
+one_alike E (Ok l) (Ok h) (Ok k) p q =
+    let same = p ∙ sym q in
+    ap Ok (one_hit h k (cc) (cc))
+one_alike E (Err e) (Err m) (Err n) p q = ap Err (p ∙ sym q)
+one_alike E (Ok l) (Ok h) (Err n) p q = absurd q
+one_alike E (Ok l) (Err m) b p q = absurd p
+one_alike E (Err e) (Ok h) b p q = absurd p
+one_alike E (Err e) (Err m) (Ok k) p q = absurd q
 
 pub one_sought : OneSought
 unfolding sought_number

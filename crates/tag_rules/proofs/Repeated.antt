@@ -54,7 +54,7 @@ nth_still s name number h =
     ap (λ (n : ℕ). cond (eqb n 0) (in_packet (nth_of name number (whole_run s)) (Err refusal.Absent)) (Err (refusal_of n))) (accepted_still s h).0
 
 pub standing_refused : StandingRefused
-standing_refused w s t name z h = sym (refused_second w s t name (refusal_of (check_of w t)) z (check_due w t h))
+standing_refused w s t name z h = (sym (refused_second w s t name (refusal_of (check_of w t)) z (check_due w t h)), check_due w t h)
 
 -- 1 is not 31, and neither is 34
 room_apart : number_for refusal.Room ≡ number_for refusal.Twice → ⊥
@@ -111,7 +111,7 @@ nth_beyond w s name number z =
     }
 
 pub nth_refused : NthRefused
-nth_refused w s name number h = sym (nth_first w s name number (refusal_of (check_of w s)) (check_due w s h))
+nth_refused w s name i h = (sym (nth_first w s name i (refusal_of (check_of w s)) (check_due w s h)), check_due w s h)
 
 -- what is found is found in the packet, and nothing is looked for behind it
 same_by : (f g : Option Item) → is_at f ≡ true → in_packet f (in_standing g) ≡ in_packet f (Err refusal.Absent)

@@ -1,13 +1,14 @@
 -- What document 01 and document 02, Items 1 and 11, say of a reader and of a search, as claims: each is proved in proofs/Proved.antt.
 use Rattle.std.specs.Prelude.{true, false, cond, ◌≡◌, List, ◌++◌, ℕ, ◌+◌, ◌≤◌, ◌<◌, length, get_or, take, replicate}
 use Rattle.std.specs.Prelude.{Result, Ok, Err}
-use Rattle.base_rules.specs.Refusal.{fault_in, refusal_of}
+use Rattle.base_rules.specs.Refusal.{number, fault_in, refusal_of}
 use Rattle.base_rules.specs.declared.Refusal.{Refusal}
 use Rattle.base_rules.specs.declared.Refusal.TheVariants as refusal
 use Rattle.item_rules.specs.declared.Bytes.{Bytes}
 use Rattle.item_rules.specs.declared.Item.{Item}
 use Rattle.item_rules.specs.declared.Repeats.{Repeats}
 use Rattle.item_rules.specs.declared.Repeats.TheVariants.{Forbidden, Allowed}
+use Rattle.item_rules.specs.declared.Step.{Step}
 use Rattle.item_rules.specs.declared.Step.TheVariants as step
 use Rattle.item_rules.specs.Item.{head, bytes_for}
 use Rattle.item_rules.specs.Run.{Run, item, padding, next_of, has_name, named_in}
@@ -16,12 +17,20 @@ use Rattle.tag_rules.specs.declared.Hit.{Hit}
 use Rattle.tag_rules.specs.declared.Located.{Located}
 use Rattle.tag_rules.specs.declared.Located.TheVariants as located
 use Rattle.tag_rules.specs.Find.{whole_run, check_of, locate_of, locate_nth_of, value_of}
-use Rattle.tag_rules.specs.Calls.{opened_number, open_call, read_of, sought_number, located_number, locate_call, locate_nth_call}
+use Rattle.tag_rules.specs.Calls.{opened_number, open_call, read_of, read_number, sought_number, located_number, ToldAlike, locate_call, locate_nth_call}
 use Rattle.tag_rules.specs.Reading.{start_of, handed, stands_after, checked_run, items_of, last_of}
 
 -- no second answer fits: two answers with the same number and values are the same answer
 abbrev pub OneOpened : Type 0
 OneOpened = (a b : Result ℕ Refusal) → opened_number a ≡ opened_number b → a ≡ b
+
+-- so it is of what a reader shows, whatever number its caller handed in
+abbrev pub OneRead : Type 0
+OneRead = (a b : Result Step ℕ) → read_number a ≡ read_number b → a ≡ b
+
+-- of what is told as the place of a name is, whatever refuses
+abbrev pub OneAlike : Type 1
+OneAlike = (E : Type 0) (l : Result Located E) (a b : Result Hit E) → ToldAlike l a → ToldAlike l b → a ≡ b
 
 -- so it is of a search
 abbrev pub OneSought : Type 0
@@ -98,7 +107,7 @@ NthStill = (s : List ℕ) (name number : ℕ) → (check_of Forbidden s ≡ 31 �
 -- one word for both packets: where the standing packet is refused by it, so is the finding;
 abbrev pub StandingRefused : Type 0
 StandingRefused = (w : Repeats) (s t : List ℕ) (name : ℕ) → check_of w s ≡ 0 → (check_of w t ≡ 0 → ⊥)
-    → locate_of w s t name ≡ Err (refusal_of (check_of w t))
+    → (locate_of w s t name ≡ Err (refusal_of (check_of w t))) × (number (refusal_of (check_of w t)) ≡ check_of w t)
 
 -- where names may repeat, no finding is refused with 31, whichever packet repeats one,
 abbrev pub FoundNotTwice : Type 0
@@ -120,7 +129,8 @@ NthBeyond = (w : Repeats) (s : List ℕ) (name number : ℕ) → check_of w s �
 
 -- and of one that is refused no occurrence is shown
 abbrev pub NthRefused : Type 0
-NthRefused = (w : Repeats) (s : List ℕ) (name number : ℕ) → (check_of w s ≡ 0 → ⊥) → locate_nth_of w s name number ≡ Err (refusal_of (check_of w s))
+NthRefused = (w : Repeats) (s : List ℕ) (name i : ℕ) → (check_of w s ≡ 0 → ⊥)
+    → (locate_nth_of w s name i ≡ Err (refusal_of (check_of w s))) × (number (refusal_of (check_of w s)) ≡ check_of w s)
 
 -- "finding by name shows the first": where the packet holds the name, that is its occurrence 0
 abbrev pub FindsFirst : Type 0
