@@ -12,20 +12,20 @@ use base::PARITY;
 
 // A table that is made whole. It is lent, and not held: it is too large to be moved about.
 #[derive(Clone, Copy)]
-pub struct MadeTable<'a> {
+pub(crate) struct MadeTable<'a> {
     bytes: &'a [u8; TABLE],
     ghost made: { Made bytes.now table-size } by { Made-prop bytes.now table-size },
 }
 
 impl<'a> MadeTable<'a> {
     // Makes the table in the bytes lent.
-    pub fn make(bytes: &'a mut [u8; TABLE]) -> MadeTable<'a> {
+    pub(crate) fn make(bytes: &'a mut [u8; TABLE]) -> MadeTable<'a> {
         make_table(bytes);
         MadeTable { bytes }
     }
 
     // The parity of the data bytes d.
-    pub fn parity(self, d: &[u8]) -> [u8; PARITY]
+    pub(crate) fn parity(self, d: &[u8]) -> [u8; PARITY]
         requires { length d.now ≤ most_k }
         ensures { result ≡ parity_of d.now }
     {
