@@ -11,10 +11,10 @@ use code_decoder::Filled;
 pub(crate) const CHUNK: usize = base::MOST_K + base::PARITY;
 
 // The answer; none where the line is no question on chunks or malformed.
-pub(crate) fn answer(line: &[u8], out: &mut [u8]) -> Option<usize>
+pub(crate) fn answer(asked: (&[u8], usize), line: &[u8], out: &mut [u8]) -> Option<usize>
     ensures { Answered out.old result out.new }
 {
-    match words::question(line) {
+    match asked {
         (b"parity", 1) => answer_parity(line, out),
         (b"fill", 3) => answer_fill(line, out),
         _ => None,

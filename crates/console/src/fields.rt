@@ -6,10 +6,10 @@ use crate::{replies, words};
 use base::Refusal;
 
 // The answer; none where the line is no question on the field or malformed.
-pub(crate) fn answer(line: &[u8], out: &mut [u8]) -> Option<usize>
+pub(crate) fn answer(asked: (&[u8], usize), line: &[u8], out: &mut [u8]) -> Option<usize>
     ensures { Answered out.old result out.new }
 {
-    match words::question(line) {
+    match asked {
         (b"mul", 2) => answer_mul(line, out),
         (b"div", 2) => answer_div(line, out),
         (b"log", 1) => answer_log(line, out),

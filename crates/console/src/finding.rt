@@ -7,15 +7,15 @@ use crate::{items, readout, replies, words};
 use base::Refusal;
 
 // The answer; none where the line is no question by name or malformed. Those on "rbw_" are asked of `readout`.
-pub(crate) fn answer(line: &[u8], out: &mut [u8]) -> Option<usize>
+pub(crate) fn answer(asked: (&[u8], usize), line: &[u8], out: &mut [u8]) -> Option<usize>
     ensures { Answered out.old result out.new }
 {
-    match words::question(line) {
+    match asked {
         (b"find", 3 | 4) => answer_find(line, out, false),
         (b"findat", 3 | 4) => answer_find(line, out, true),
         (b"nth", 3 | 4) => answer_nth(line, out, false),
         (b"nthat", 3 | 4) => answer_nth(line, out, true),
-        _ => readout::answer(line, out),
+        _ => readout::answer(asked, line, out),
     }
 }
 

@@ -6,16 +6,16 @@ ghost use Rattle.console.specs.inner.Answered.{Answered};
 use crate::{finding, replies, words};
 
 // The answer; none where the line is no question on items or malformed. Those by name are asked of `finding`.
-pub(crate) fn answer(line: &[u8], out: &mut [u8]) -> Option<usize>
+pub(crate) fn answer(asked: (&[u8], usize), line: &[u8], out: &mut [u8]) -> Option<usize>
     ensures { Answered out.old result out.new }
 {
-    match words::question(line) {
+    match asked {
         (b"item", 4) => answer_item(line, out),
         (b"items", 1 | 2) => answer_items(line, out, false),
         (b"itemsat", 1 | 2) => answer_items(line, out, true),
         (b"walk", 2 | 3) => answer_walk(line, out, false),
         (b"walkat", 2 | 3) => answer_walk(line, out, true),
-        _ => finding::answer(line, out),
+        _ => finding::answer(asked, line, out),
     }
 }
 

@@ -51,7 +51,7 @@ pub fn answer(line: &[u8], seat: &mut [u8], out: &mut [u8]) -> usize
     if LINE <= line.len() {
         return replies::unknown(out);
     }
-    match ask_all(line, seat, out) {
+    match ask_all(words::question(line), line, seat, out) {
         Some(n) => n,
         None => replies::unknown(out),
     }
@@ -59,43 +59,43 @@ pub fn answer(line: &[u8], seat: &mut [u8], out: &mut [u8]) -> usize
 
 // Asks the groups of questions one after another; each has no answer, and leaves the buffer as it is,
 // where the line is none of its own or is malformed.
-fn ask_all(line: &[u8], seat: &mut [u8], out: &mut [u8]) -> Option<usize>
+fn ask_all(asked: (&[u8], usize), line: &[u8], seat: &mut [u8], out: &mut [u8]) -> Option<usize>
     ensures { Answered out.old result out.new }
 {
-    if let Some(n) = ask_stateless(line, out) {
+    if let Some(n) = ask_stateless(asked, line, out) {
         return Some(n);
     }
-    receiving::answer(line, seat, out)
+    receiving::answer(asked, line, seat, out)
 }
 
 // The groups whose answer hangs on the line alone.
-fn ask_stateless(line: &[u8], out: &mut [u8]) -> Option<usize>
+fn ask_stateless(asked: (&[u8], usize), line: &[u8], out: &mut [u8]) -> Option<usize>
     ensures { Answered out.old result out.new }
 {
-    if let Some(n) = ask_figures(line, out) {
+    if let Some(n) = ask_figures(asked, line, out) {
         return Some(n);
     }
-    if let Some(n) = packets::answer(line, out) {
+    if let Some(n) = packets::answer(asked, line, out) {
         return Some(n);
     }
-    if let Some(n) = items::answer(line, out) {
+    if let Some(n) = items::answer(asked, line, out) {
         return Some(n);
     }
-    sending::answer(line, out)
+    sending::answer(asked, line, out)
 }
 
 // The groups on what the layers stand on: sums, the sizes of a cut, the field and the code.
-fn ask_figures(line: &[u8], out: &mut [u8]) -> Option<usize>
+fn ask_figures(asked: (&[u8], usize), line: &[u8], out: &mut [u8]) -> Option<usize>
     ensures { Answered out.old result out.new }
 {
-    if let Some(n) = sums::answer(line, out) {
+    if let Some(n) = sums::answer(asked, line, out) {
         return Some(n);
     }
-    if let Some(n) = plans::answer(line, out) {
+    if let Some(n) = plans::answer(asked, line, out) {
         return Some(n);
     }
-    if let Some(n) = fields::answer(line, out) {
+    if let Some(n) = fields::answer(asked, line, out) {
         return Some(n);
     }
-    chunks::answer(line, out)
+    chunks::answer(asked, line, out)
 }

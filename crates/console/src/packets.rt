@@ -7,10 +7,10 @@ use crate::{replies, words};
 use base::Refusal;
 
 // The answer; none where the line is no question on AF packets or malformed.
-pub(crate) fn answer(line: &[u8], out: &mut [u8]) -> Option<usize>
+pub(crate) fn answer(asked: (&[u8], usize), line: &[u8], out: &mut [u8]) -> Option<usize>
     ensures { Answered out.old result out.new }
 {
-    match words::question(line) {
+    match asked {
         (b"afcheck", 1) => answer_check(line, out),
         (b"afwrap", 4) => answer_wrap(line, out),
         (b"list", 1) => answer_list(line, out),

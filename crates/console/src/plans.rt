@@ -11,10 +11,10 @@ use base::Refusal;
 
 // The answer; none where the line is no question on plans or malformed. `house` and `twolosses` are
 // answered `settings FEC M MTU ADDR`.
-pub(crate) fn answer(line: &[u8], out: &mut [u8]) -> Option<usize>
+pub(crate) fn answer(asked: (&[u8], usize), line: &[u8], out: &mut [u8]) -> Option<usize>
     ensures { Answered out.old result out.new }
 {
-    match words::question(line) {
+    match asked {
         (b"plan", 5 | 6) => answer_plan(line, out),
         (b"endure", 5 | 6) => losses::answer(line, out),
         (b"house", 0) => Some(write_settings(out, cut::house())),

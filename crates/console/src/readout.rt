@@ -13,10 +13,10 @@ use base::Refusal;
 const RECORD: usize = 13;
 
 // The answer; none where the line is no question on the bandwidth or malformed.
-pub(crate) fn answer(line: &[u8], out: &mut [u8]) -> Option<usize>
+pub(crate) fn answer(asked: (&[u8], usize), line: &[u8], out: &mut [u8]) -> Option<usize>
     ensures { Answered out.old result out.new }
 {
-    match words::question(line) {
+    match asked {
         (b"rbw", 2 | 3) => {
             let repeats = words::repeats_at(line, 3)?;
             answer_packets(line, out, 1, repeats, None)

@@ -15,11 +15,16 @@ use receiver::{Received, Seen, Shown, Table};
 pub(crate) const LENT: usize = 65536;
 
 // The answer; none where the line is no question on the receiver or malformed, and where the seat is none.
-pub(crate) fn answer(line: &[u8], seat: &mut [u8], out: &mut [u8]) -> Option<usize>
+pub(crate) fn answer(
+    asked: (&[u8], usize),
+    line: &[u8],
+    seat: &mut [u8],
+    out: &mut [u8],
+) -> Option<usize>
     ensures { Answered out.old result out.new }
 {
     let seat = seat.as_mut_array::<SEAT>()?;
-    match words::question(line) {
+    match asked {
         (b"recv", 4) => answer_recv(line, seat, out),
         (b"query", 1) => answer_query(line, seat, out),
         (b"clear", 1) => answer_clear(line, seat, out),

@@ -6,10 +6,10 @@ use crate::{plans, replies, words};
 use base::Refusal;
 
 // The answer; none where the line is no question on the sender or malformed.
-pub(crate) fn answer(line: &[u8], out: &mut [u8]) -> Option<usize>
+pub(crate) fn answer(asked: (&[u8], usize), line: &[u8], out: &mut [u8]) -> Option<usize>
     ensures { Answered out.old result out.new }
 {
-    match words::question(line) {
+    match asked {
         (b"fragment", 8 | 9) => answer_one(line, out),
         (b"fragments", 7 | 8) => answer_wanted(line, out, None, 6),
         _ => None,
@@ -35,31 +35,52 @@ fn answer_wanted(line: &[u8], out: &mut [u8], index: Option<usize>, at: usize) -
     let g = plans::settings(line, at + 2)?;
     let pseq = words::decimal_to(line, 5, 65535)?;
     let room = words::decimal_to(line, at, words::BYTES)?;
-    let mut buffer = [0u8; words::BYTES];
-    let packet = words::bytes_at(line, at + 1, &mut buffer)?;
-    let mut sent = words::zeros();
-    send(out, g, pseq as u16, packet, index, &mut sent[..room])
+    answer_of(line, at + 1, out, g, pseq as u16, index, room)
 }
 
-// The fragment with that index of a packet, or all, in the buffer that is lent for it.
+// The same, of the packet that the word with that number says. Never made part of its caller, nor `send` of it: each lays out and clears its
+// own buffer once, and only where it comes to that.
+#[inline(never)]
+fn answer_of(
+    line: &[u8],
+    at: usize,
+    out: &mut [u8],
+    g: cut::Settings,
+    pseq: u16,
+    index: Option<usize>,
+    room: usize,
+) -> Option<usize>
+    requires { room ≤ 32768 }
+    ensures { Answered out.old result out.new }
+{
+    let mut buffer = [0u8; words::BYTES];
+    let packet = words::bytes_at(line, at, &mut buffer)?;
+    send(out, g, pseq, packet, index, room)
+}
+
+// The fragment with that index of a packet, or all, in a buffer of so many bytes.
+#[inline(never)]
 fn send(
     out: &mut [u8],
     g: cut::Settings,
     pseq: u16,
     packet: &[u8],
     index: Option<usize>,
-    room: &mut [u8],
+    room: usize,
 ) -> Option<usize>
+    requires { room ≤ 32768 }
     ensures { Answered out.old result out.new }
 {
+    let mut buffer = words::zeros();
+    let lent = &mut buffer[..room];
     match index {
         Some(index) => {
-            let sent = sender::fragment(g, pseq, packet, index, room);
-            write_one(out, sent, room)
+            let sent = sender::fragment(g, pseq, packet, index, lent);
+            write_one(out, sent, lent)
         }
         None => {
-            let sent = sender::fragments(g, pseq, packet, room);
-            write_all(out, sent, room)
+            let sent = sender::fragments(g, pseq, packet, lent);
+            write_all(out, sent, lent)
         }
     }
 }

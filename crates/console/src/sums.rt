@@ -4,10 +4,10 @@ ghost use Rattle.console.specs.inner.Answered.{Answered};
 use crate::{replies, words};
 
 // `crc BYTES` is answered `crc HHHH`, as it is sent; none where the line is another or malformed.
-pub(crate) fn answer(line: &[u8], out: &mut [u8]) -> Option<usize>
+pub(crate) fn answer(asked: (&[u8], usize), line: &[u8], out: &mut [u8]) -> Option<usize>
     ensures { Answered out.old result out.new }
 {
-    match words::question(line) {
+    match asked {
         (b"crc", 1) => answer_crc(line, out),
         _ => None,
     }

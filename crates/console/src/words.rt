@@ -14,10 +14,17 @@ pub(crate) fn zeros() -> [u8; BYTES] {
     [0u8; BYTES]
 }
 
-// The line's first word, which names a question, and how many words follow it.
+// The line's first word, which names a question, and how many words follow it: one for each blank. Taken once a
+// line, and handed to each group of questions, since a line may have 66,047 letters.
 pub(crate) fn question(line: &[u8]) -> (&[u8], usize) {
-    let mut words = line.split(|letter| *letter == b' ');
-    (words.next().unwrap_or(&[]), words.count())
+    let mut follow = 0;
+    // A loop, since it is done many letters at a time; a split that is counted goes letter by letter.
+    for letter in line {
+        if *letter == b' ' {
+            follow += 1;
+        }
+    }
+    (nth(line, 0).unwrap_or(&[]), follow)
 }
 
 // The word with that number, counted from 0; a line may have fewer.
