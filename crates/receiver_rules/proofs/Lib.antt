@@ -5,6 +5,7 @@ pub mod Offsets
 pub mod Arrivals
 pub mod Steps
 pub mod Unique
+pub mod Named
 pub mod Exists
 pub mod Left
 pub mod Proved

@@ -13,9 +13,12 @@ use Rattle.receiver_rules.specs.declared.Received.{Received}
 use Rattle.receiver_rules.specs.declared.Received.TheVariants.{Kept, Delivered, Damaged}
 use Rattle.receiver_rules.specs.declared.Shown.{Shown}
 
--- the promise asks nothing impossible: some reception fits it, whatever the record and the inputs
+-- the promise asks nothing impossible: some reception fits it, whatever the record and the inputs, and it has the number and values of an
+-- answer that `receive` can give
 abbrev pub SomeReception : Type 0
-SomeReception = (own : Option Address) (s : State) (datagram out : List ℕ) → (y : Reception) × Step own s datagram out y
+SomeReception =
+    (own : Option Address) (s : State) (datagram out : List ℕ)
+    → (y : Reception) × Step own s datagram out y × ((a : Result Received Refusal) × (y.answer ≡ number_of a))
 
 -- document 01, "What a promise has to say here": no second reception fits the promise, whatever the record and the inputs
 abbrev pub OneReception : Type 0
