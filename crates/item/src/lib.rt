@@ -39,7 +39,9 @@ pub fn unused_of(bits: Bits) -> Bits
     Bits((8 * n.0 - bits.0 as usize) as u32)
 }
 
-// What stands at `at` in the packet that ends before `end`.
+// What stands at `at` in the packet that ends before `end`. Always made part of its caller: a step that is handed back goes through memory, and
+// each of the five callers is a loop over the items or one turn of one.
+#[inline(always)]
 pub fn step_in(s: &[u8], at: usize, end: usize) -> Result<Step, Refusal>
     ensures { (result ≡ step_in s.now at end) × (number_of result ≡ step_call s.now at end) }
 {
