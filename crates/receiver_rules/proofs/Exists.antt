@@ -54,4 +54,4 @@ reception_some own s datagram out =
     let n = due_for own s datagram out in
     either_some (eqb n 0) (λ y. SettledAfter k out y) _
     (λ e. settled_some k.table k.at k.displaced k.bytes out)
-    (λ e. refused_some n s.table s.bytes out (due_named own s datagram out) (λ z. clash (eq-eqb n 0 z) e))
+    (λ e. refused_some n _ _ _ (due_named own s datagram out) (λ z. clash (eq-eqb n 0 z) e))

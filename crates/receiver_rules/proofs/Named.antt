@@ -1,13 +1,15 @@
 -- Every number with which a datagram is refused stands for a refusal. Assumes nothing.
 use mathlib.Core.Path.{◌≡◌, refl}
-use mathlib.Core.Bool.{Bool, true, false, cond, ◌&&◌}
+use mathlib.Core.Bool.{Bool, true, false, cond}
 use mathlib.Core.List.{List}
+use lib.ListN.{length}
 use Prim.Native.Nat.{ℕ}
 use Rattle.std.specs.Prelude.{Option}
 use Rattle.base_rules.specs.Refusal.{number, refusal_of}
 use Rattle.base_rules.proofs.ByFault.{named, all_named, first_named}
 use Rattle.cut_rules.specs.declared.Address.{Address}
 use Rattle.header_rules.specs.declared.Header.{Header}
+use Rattle.header_rules.specs.Read.{fields_of}
 use Rattle.header_rules.proofs.Numbers.{fault_named}
 use Rattle.places_rules.specs.declared.Place.{Place}
 use Rattle.places_rules.specs.declared.Table.{Table}
@@ -33,12 +35,8 @@ held_named t h = go _ _ (place_named _ h)
     go true n e = e
     go false n e = refl
 
-both : (a b : Bool) → a ≡ true → b ≡ true → (a && b) ≡ true
-both true b p q = q
-both false b p q = p
-
 -- so the number that is due is 0 or stands for a refusal
 pub due_named : (own : Option Address) (s : State) (datagram out : List ℕ) → named (due_for own s datagram out) ≡ true
 unfolding receive_fault all_named
 due_named own s datagram out =
-    first_named _ (both _ _ (room_named s.table _ _) (both _ _ (fault_named own datagram) (both _ _ (held_named s.table _) refl)))
+    first_named _ (simp (room_named s.table (length s.bytes) (length out), fault_named own datagram, held_named s.table (fields_of datagram)))
