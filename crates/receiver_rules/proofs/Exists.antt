@@ -24,30 +24,30 @@ use Rattle.receiver_rules.specs.Claims.{due_for, kept_by}
 use Rattle.receiver_rules.proofs.Named.{due_named}
 
 -- a reception that has this property, and an answer with its number and values
-abbrev pub Some : (Reception → Type 0) → Type 0
-Some P = (y : Reception) × P y × ((a : Result Received Refusal) × (y.answer ≡ number_of a))
+abbrev pub SomeAnswer : (Reception → Type 0) → Type 0
+SomeAnswer P = (y : Reception) × P y × ((a : Result Received Refusal) × (y.answer ≡ number_of a))
 
 -- a fragment that was kept settles: not enough yet, or a packet agrees, or none does
-settled_some : (t : Table) (i : ℕ) (d : Option ℕ) (b out : List ℕ) → Some (Settled t i d b out)
+settled_some : (t : Table) (i : ℕ) (d : Option ℕ) (b out : List ℕ) → SomeAnswer (Settled t i d b out)
 unfolding reception
 settled_some t i d b out = either (enough_in (place_at t i)) (λ e. pick e (decided (place_at t i) (bytes_at b i))) (λ e. (_, waits e, (Ok (Kept d), refl)))
   where
-    pick : enough_in (place_at t i) ≡ true → Dec ((P : List ℕ) × Agrees (place_at t i) (bytes_at b i) P) → Some (Settled t i d b out)
+    pick : enough_in (place_at t i) ≡ true → Dec ((P : List ℕ) × Agrees (place_at t i) (bytes_at b i) P) → SomeAnswer (Settled t i d b out)
     pick e (yes a) = (_, delivers a.0 e a.1, (Ok (Delivered _ _ d), refl))
     pick e (no none) = (_, damaged e (λ P a. none (P, a)), (Ok (Damaged d), refl))
 
 -- a refusal has the number that is due, where that stands for one
-refused_some : (n : ℕ) (t : Table) (b o : List ℕ) → named n ≡ true → (n ≡ 0 → ⊥) → Some (λ y. y ≡ refused_as n t b o)
+refused_some : (n : ℕ) (t : Table) (b o : List ℕ) → named n ≡ true → (n ≡ 0 → ⊥) → SomeAnswer (λ y. y ≡ refused_as n t b o)
 unfolding refused_as number_of
 refused_some n t b o stands some = (_, refl, (Err (refusal_of n), ap (λ (x : ℕ). (x, [])) (sym (named_is n stands some))))
 
 -- the two cases of the promise
-either_some : (test : Bool) (P Q : Reception → Type 0) → (test ≡ true → Some P) → (test ≡ false → Some Q) → Some (λ y. cond test (P y) (Q y))
+either_some : (test : Bool) (P Q : Reception → Type 0) → (test ≡ true → SomeAnswer P) → (test ≡ false → SomeAnswer Q) → SomeAnswer (λ y. cond test (P y) (Q y))
 either_some true P Q p q = p refl
 either_some false P Q p q = q refl
 
 -- some reception fits the promise of `receive`, whatever the record and the inputs
-pub reception_some : (own : Option Address) (s : State) (datagram out : List ℕ) → Some (Step own s datagram out)
+pub reception_some : (own : Option Address) (s : State) (datagram out : List ℕ) → SomeAnswer (Step own s datagram out)
 unfolding Step
 reception_some own s datagram out =
     let k = kept_by s datagram in

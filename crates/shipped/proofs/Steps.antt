@@ -10,7 +10,7 @@ use Rattle.std.specs.Prelude.{Option, Result, Ok, Err}
 use Rattle.base_rules.specs.Refusal.{number, refusal_of}
 use Rattle.base_rules.specs.declared.Refusal.{Refusal}
 use Rattle.base_rules.specs.Bounds.{most_l, most_f}
-use Rattle.base_rules.proofs.ByFault.{named, all_named, first_named}
+use Rattle.base_rules.proofs.ByFault.{named}
 use Rattle.base_rules.proofs.Refusals.{named_is}
 use Rattle.base_rules.proofs.Logic.{either}
 use Rattle.cut_rules.specs.declared.Address.{Address}
@@ -18,13 +18,12 @@ use Rattle.header_rules.specs.declared.Header.{Header}
 use Rattle.header_rules.specs.Read.{fields_of}
 use Rattle.header_rules.proofs.Numbers.{fault_named}
 use Rattle.packed_rules.specs.Claims.{TypedTable}
-use Rattle.places_rules.specs.declared.Place.{Place}
 use Rattle.places_rules.specs.declared.Table.{Table}
 use Rattle.places_rules.specs.Places.{open_now, place_at, key_in, displaced_at}
-use Rattle.places_rules.specs.Faults.{place_fault}
 use Rattle.receiver_rules.specs.Promise.{number_of, Reception, reception, refused_as, keep_at, Settled, waits, delivers, damaged, State, Step}
 use Rattle.receiver_rules.specs.declared.Received.{Received}
 use Rattle.receiver_rules.specs.declared.Received.TheVariants.{Kept, Delivered, Damaged}
+use Rattle.receiver_rules.proofs.Named.{place_named}
 use Rattle.receiver_rules.proofs.Proved.{one_received}
 use Rattle.receiver_rules.proofs.Ranges.{opens_below}
 use Rattle.card_rules.proofs.Proved.{receipt_whole}
@@ -52,12 +51,7 @@ settled_fits {d = d} f whole (delivers P e a) =
     (Ok (Delivered _ _ d), refl, (omega (arith, (whole _ _ d refl).0), omega (arith, (whole _ _ d refl).1), f))
 settled_fits {d = d} f whole (damaged e a) = (Ok (Damaged d), refl, f)
 
--- a place refuses with a number that stands for a refusal,
-place_named : (p : Place) (h : Header) → named (place_fault p h) ≡ true
-unfolding place_fault all_named named number refusal_of
-place_named p h = first_named _ refl
-
--- and where it is neither 0 nor 13 that refusal is told whole
+-- a number that stands for a refusal, and is neither 0 nor 13, is told whole
 refused_fits : {n : ℕ} {y : Reception} (t : Table) (b o : List ℕ) → named n ≡ true → (n ≡ 0 → ⊥) → (n ≡ 13 → ⊥) → y ≡ refused_as n t b o → Answers y
 unfolding refused_as number_of
 refused_fits {n} t b o stands some other q =
